@@ -1,0 +1,106 @@
+-- The answer and its written record ("Inheriting" of document 01, after the steps).
+use Prim.Native.Nat.{ℕ, _+_}
+use mathlib.Core.Bool.{Bool, true, false}
+use mathlib.Core.List.{List, [], _∷_, map}
+use lib.IntN.{ℤ, pos}
+use Rattle.definitions.specs.declared.Axes.{Axes}
+use Rattle.definitions.specs.declared.Class.{Class}
+use Rattle.definitions.specs.declared.Class.the-variants.{Corner, Vert, Hori, Center}
+use Rattle.definitions.specs.declared.Named.{Named}
+use Rattle.definitions.specs.declared.Motion.{Motion}
+use Rattle.definitions.specs.declared.SubSplits.{SubSplits}
+use Rattle.definitions.specs.declared.Split.{Split}
+use Rattle.definitions.specs.declared.Split.the-variants.{S16x16, S16x8, S8x16, S8x8 as Quarters}
+use Rattle.definitions.specs.declared.Answer.{Answer}
+use Rattle.definitions.specs.declared.Answer.the-variants.{Outside, Intra, Inherited}
+use Rattle.definitions.specs.Tests.{pick, four, forEach}
+use Rattle.definitions.specs.Geometry.{inside, classOf, columnsRead, sampleOf}
+use Rattle.definitions.specs.BlockMap.{stepOf, baseAddress}
+use Rattle.definitions.specs.Record.{typeNumber, subTypeNumber, laidOut}
+use Rattle.definitions.specs.Inheriting.{intraSet, mostlyIntra, inheritedMotions, motionAt, chosen, unused}
+use lib.ListN.{getD}
+
+-- The answer names class and first base column and row.
+unfoldable pub namedAt : Axes → ℕ → ℕ → Named
+namedAt g column row =
+    let h = stepOf (g .horizontal) (sampleOf column) in
+    let v = stepOf (g .vertical) (sampleOf row) in
+    record { class = classOf (h .two) (v .two); column = h .first; row = v .first }
+
+-- The answer is outside, intra, or inherited with a split.
+unfoldable pub answerOf : Axes → List ℤ → ℕ → ℕ → Answer
+answerOf g base column row =
+    pick (inside g column row)
+    (pick (mostlyIntra (intraSet g base column row))
+    (Intra (namedAt g column row))
+    (Inherited (namedAt g column row) (chosen (inheritedMotions g base column row))))
+    Outside
+
+-- Document 01's values for each case of the answer: its type, class, first base column and row (0 outside, class Corner)
+abbrev pub answerType : Answer → ℕ
+answerType Outside = 5
+answerType (Intra n) = 0
+answerType (Inherited n s) = typeNumber s
+
+abbrev pub answerClass : Answer → Class
+answerClass Outside = Corner
+answerClass (Intra n) = n .class
+answerClass (Inherited n s) = n .class
+
+abbrev pub answerColumn : Answer → ℕ
+answerColumn Outside = 0
+answerColumn (Intra n) = n .column
+answerColumn (Inherited n s) = n .column
+
+abbrev pub answerRow : Answer → ℕ
+answerRow Outside = 0
+answerRow (Intra n) = n .row
+answerRow (Inherited n s) = n .row
+
+-- The base macroblocks that an answer names are those that its class reads, from its first column and row on; outside there are none.
+abbrev pub twoColumns : Class → Bool
+twoColumns Corner = false
+twoColumns Vert = true
+twoColumns Hori = false
+twoColumns Center = true
+
+abbrev pub twoRows : Class → Bool
+twoRows Corner = false
+twoRows Vert = false
+twoRows Hori = true
+twoRows Center = true
+
+unfoldable pub addressesOf : Axes → Named → List ℕ
+addressesOf g n =
+    forEach (columnsRead (n .row) (twoRows (n .class))) (λ row. map (λ column. baseAddress g column row) (columnsRead (n .column) (twoColumns (n .class))))
+
+abbrev pub addressesNamed : Axes → Answer → List ℕ
+addressesNamed g Outside = []
+addressesNamed g (Intra n) = addressesOf g n
+addressesNamed g (Inherited n s) = addressesOf g n
+
+-- Inherited, the written record is laid out as above, sub-types 0 unless type 4.
+abbrev pub subTypes : Split → List ℕ
+subTypes S16x16 = 0 ∷ 0 ∷ 0 ∷ 0 ∷ []
+subTypes S16x8 = 0 ∷ 0 ∷ 0 ∷ 0 ∷ []
+subTypes S8x16 = 0 ∷ 0 ∷ 0 ∷ 0 ∷ []
+subTypes (Quarters t) = subTypeNumber (t .a) ∷ subTypeNumber (t .b) ∷ subTypeNumber (t .c) ∷ subTypeNumber (t .d) ∷ []
+
+-- Otherwise it has type 0 for intra or 5 for outside, sub-types 0, references −1, vectors 0.
+abbrev pub unusedMotion : Motion
+unusedMotion = record { list0 = unused; list1 = unused }
+
+unfoldable pub writtenFor : Answer → List (List Motion) → List ℤ
+writtenFor Outside m = laidOut 5 (λ q. 0) (λ b. unusedMotion)
+writtenFor (Intra n) m = laidOut 0 (λ q. 0) (λ b. unusedMotion)
+writtenFor (Inherited n s) m = laidOut (typeNumber s) (λ q. getD (subTypes s) q 0) (motionAt m)
+
+-- what is made of one macroblock: the answer and its written record
+pub record Made : Type 0 where
+  pub answer : Answer
+  pub written : List ℤ
+
+unfoldable pub madeOf : Axes → List ℤ → ℕ → ℕ → Made
+madeOf g base column row =
+    let answer = answerOf g base column row in
+    record { answer = answer; written = writtenFor answer (inheritedMotions g base column row) }

@@ -1,0 +1,71 @@
+-- "Calls" of document 01: one macroblock, and the picture. Each tests its refusals in rising order, and refused leaves what it was lent.
+use Prim.Native.Nat.{ℕ, _+_, _*_, _/_, _%_}
+use mathlib.Core.Bool.{Bool, true, false}
+use mathlib.Core.List.{List, [], _∷_, _++_}
+use lib.IntN.{ℤ, pos, natAbs}
+use Rattle.definitions.specs.declared.Axes.{Axes}
+use Rattle.definitions.specs.declared.Numbers.{Numbers}
+use Rattle.definitions.specs.declared.Answer.{Answer}
+use Rattle.definitions.specs.declared.Answer.the-variants.{Outside, Intra, Inherited}
+use Rattle.definitions.specs.declared.Refusal.{Refusal}
+use Rattle.definitions.specs.declared.Verdict.{Verdict}
+use Rattle.definitions.specs.declared.Verdict.the-variants.{Accepted, Refused}
+use Rattle.definitions.specs.declared.Counts.{Counts}
+use Rattle.definitions.specs.declared.MacroblockReply.{MacroblockReply}
+use Rattle.definitions.specs.declared.MacroblockReply.the-variants.{Answered, Refused as Declined}
+use Rattle.definitions.specs.declared.PictureReply.{PictureReply}
+use Rattle.definitions.specs.declared.PictureReply.the-variants.{Counted, Refused as NotMade}
+use Rattle.definitions.specs.Tests.{upTo, forEach}
+use Rattle.definitions.specs.Geometry.{axesOf, fullSize, macroblocks}
+use Rattle.definitions.specs.Answer.{Made, madeOf}
+use Rattle.definitions.specs.Refusals.{Test, verdictOf, geometryTests, baseTest, outputTest, placeTest, recordTests, addressesRead, allAddresses}
+
+-- what a call hands back, and the words that it was lent, afterwards
+pub record Outcome (Reply : Type 0) : Type 0 where
+  pub reply : Reply
+  pub words : List ℤ
+
+-- refused, the reply says so and the words are as they were; else what is made
+abbrev pub byVerdict : {Reply : Type 0} → Verdict → (Refusal → Reply) → List ℤ → Outcome Reply → Outcome Reply
+byVerdict Accepted refused words made = made
+byVerdict (Refused r) refused words made = record { reply = refused r; words = words }
+
+-- One macroblock: geometry, base, column, row, and 77 words to write. It checks only the records that it reads; outside it reads none.
+unfoldable pub macroblockTests : Numbers → List ℤ → ℤ → ℤ → List ℤ → List Test
+macroblockTests n base column row words =
+    let g = axesOf n in
+    geometryTests n ++ (baseTest g base ∷ outputTest 1 words ∷ placeTest g column row ∷ recordTests base (addressesRead g (natAbs column) (natAbs row)))
+
+unfoldable pub macroblockCall : Numbers → List ℤ → ℤ → ℤ → List ℤ → Outcome MacroblockReply
+macroblockCall n base column row words =
+    let made = madeOf (axesOf n) base (natAbs column) (natAbs row) in
+    byVerdict (verdictOf (macroblockTests n base column row words)) Declined words (record { reply = Answered (made .answer); words = made .written })
+
+-- Picture: checks all base records, then writes all answers in raster order and returns counts inherited, intra, outside.
+abbrev pub fullCount : Axes → ℕ
+fullCount g = macroblocks (fullSize (g .horizontal)) * macroblocks (fullSize (g .vertical))
+
+unfoldable pub pictureTests : Numbers → List ℤ → List ℤ → List Test
+pictureTests n base words =
+    let g = axesOf n in
+    geometryTests n ++ (baseTest g base ∷ outputTest (fullCount g) words ∷ recordTests base (allAddresses g))
+
+-- the macroblock at an address of the picture
+unfoldable pub madeAt : Axes → List ℤ → ℕ → Made
+madeAt g base address = madeOf g base (address % macroblocks (fullSize (g .horizontal))) (address / macroblocks (fullSize (g .horizontal)))
+
+-- one more of an answer's sort
+abbrev pub counted : Answer → Counts → Counts
+counted Outside c = record { inherited = c .inherited; intra = c .intra; outside = c .outside + 1 }
+counted (Intra n) c = record { inherited = c .inherited; intra = c .intra + 1; outside = c .outside }
+counted (Inherited n s) c = record { inherited = c .inherited + 1; intra = c .intra; outside = c .outside }
+
+unfoldable pub countsOf : List Made → Counts
+countsOf [] = record { inherited = 0; intra = 0; outside = 0 }
+countsOf (m ∷ ms) = counted (m .answer) (countsOf ms)
+
+unfoldable pub pictureCall : Numbers → List ℤ → List ℤ → Outcome PictureReply
+pictureCall n base words =
+    let g = axesOf n in
+    let made = upTo (fullCount g) (madeAt g base) in
+    byVerdict (verdictOf (pictureTests n base words)) NotMade words (record { reply = Counted (countsOf made); words = forEach made (λ m. m .written) })

@@ -1,0 +1,147 @@
+-- "Inheriting" of document 01, steps 1 to 5.
+use Prim.Native.Nat.{ℕ, zero, suc, _+_, _*_, _/_, _%_, _^_}
+use mathlib.Core.Bool.{Bool, true, false, not, _&&_, _||_}
+use mathlib.Core.List.{List, [], _∷_}
+use lib.Count.{ones}
+use lib.Dec.{eqb, leb}
+use lib.IntN.{ℤ, pos, natAbs}
+use lib.ListN.{getD}
+use lib.Signed.{ltZ}
+use Rattle.definitions.specs.declared.Axes.{Axes}
+use Rattle.definitions.specs.declared.Prediction.{Prediction}
+use Rattle.definitions.specs.declared.Motion.{Motion}
+use Rattle.definitions.specs.declared.Split.{Split}
+use Rattle.definitions.specs.Tests.{pick, minus, eqZ, signed, four}
+use Rattle.definitions.specs.Geometry.{baseSize, scaledSize}
+use Rattle.definitions.specs.BlockMap.{addressRead, blockRead}
+use Rattle.definitions.specs.Record.{recordAt, isIntra, motionOf, used}
+use Rattle.definitions.specs.Splits.{quadrantOf, placeOf, rasterOf, splits, fewestIn}
+
+-- A sixteen-bit set marks the blocks that read intra macroblocks: bit i stands for block i.
+unfoldable pub setOf : ℕ → (ℕ → Bool) → ℕ
+setOf zero f = 0
+setOf (suc n) f = setOf n f + pick (f n) (2 ^ n) 0
+
+abbrev pub marked : ℕ → ℕ → Bool
+marked set i = eqb (set / 2 ^ i % 2) 1
+
+unfoldable pub intraSet : Axes → List ℤ → ℕ → ℕ → ℕ
+intraSet g base column row = setOf 16 (λ i. isIntra (recordAt base (addressRead g column row i)))
+
+-- Its count of members decides: nine or more, the answer is intra.
+abbrev pub mostlyIntra : ℕ → Bool
+mostlyIntra set = leb 9 (ones set)
+
+-- The motion that each block reads, as four quadrants of four blocks. What stands at a place that is none of the four is read by no step.
+abbrev pub nothing : Prediction
+nothing = record { reference = pos 0; x = pos 0; y = pos 0 }
+
+abbrev pub noMotion : Motion
+noMotion = record { list0 = nothing; list1 = nothing }
+
+abbrev pub at : List (List Motion) → ℕ → ℕ → Motion
+at m q k = getD (getD m q []) k noMotion
+
+abbrev pub motionAt : List (List Motion) → ℕ → Motion
+motionAt m i = at m (quadrantOf i) (placeOf i)
+
+unfoldable pub gathered : Axes → List ℤ → ℕ → ℕ → List (List Motion)
+gathered g base column row =
+    four (λ q. four (λ k. motionOf (recordAt base (addressRead g column row (rasterOf q k))) (blockRead g column row (rasterOf q k))))
+
+-- Neighbours in a square of four in raster order, 0 1 above 2 3. Blocks of a quadrant, and quadrants of a macroblock, stand so.
+abbrev pub horizontal : ℕ → ℕ
+horizontal k = getD (1 ∷ 0 ∷ 3 ∷ 2 ∷ []) k 0
+
+abbrev pub vertical : ℕ → ℕ
+vertical k = getD (2 ∷ 3 ∷ 0 ∷ 1 ∷ []) k 0
+
+abbrev pub diagonal : ℕ → ℕ
+diagonal k = getD (3 ∷ 2 ∷ 1 ∷ 0 ∷ []) k 0
+
+-- place k itself if it is good, else the first good one of its horizontal, its vertical and its diagonal neighbour
+unfoldable pub source : List Bool → ℕ → ℕ
+source good k =
+    pick (getD good k false) k
+    (pick (getD good (horizontal k) false) (horizontal k)
+    (pick (getD good (vertical k) false) (vertical k)
+    (pick (getD good (diagonal k) false) (diagonal k)
+    k)))
+
+-- Step 1. In a quadrant with some intra blocks, each takes all motion of its horizontal neighbour in the quadrant, else the vertical one, else the
+-- diagonal, whichever first reads no intra; values are those before this step.
+unfoldable pub clearOf : ℕ → ℕ → List Bool
+clearOf set q = four (λ k. not (marked set (rasterOf q k)))
+
+unfoldable pub filled : List Bool → List Motion → List Motion
+filled clear m = four (λ k. getD m (source clear k) noMotion)
+
+-- Step 2. Per list, r is the lowest used reference. Blocks whose reference is not r take r with the vector of the horizontal, else vertical, else
+-- diagonal block that had r before this step. If none is used, the list stays −1 with vectors 0.
+unfoldable pub lower : ℤ → ℤ → ℤ
+lower a b = pick (used a) (pick (used b) (pick (ltZ b a) b a) a) b
+
+abbrev pub referenceAt : List Prediction → ℕ → ℤ
+referenceAt p k = getD p k nothing .reference
+
+unfoldable pub lowest : List Prediction → ℤ
+lowest p = lower (lower (referenceAt p 0) (referenceAt p 1)) (lower (referenceAt p 2) (referenceAt p 3))
+
+unfoldable pub having : List Prediction → ℤ → List Bool
+having p r = four (λ k. eqZ (referenceAt p k) r)
+
+abbrev pub withReference : ℤ → Prediction → Prediction
+withReference r p = record { reference = r; x = p .x; y = p .y }
+
+abbrev pub unused : Prediction
+unused = record { reference = minus 1; x = pos 0; y = pos 0 }
+
+unfoldable pub mergedList : List Prediction → List Prediction
+mergedList p =
+    pick (used (lowest p)) (four (λ k. withReference (lowest p) (getD p (source (having p (lowest p)) k) nothing))) (four (λ k. unused))
+
+unfoldable pub merged : List Motion → List Motion
+merged m =
+    four (λ k. record {
+      list0 = getD (mergedList (four (λ j. getD m j noMotion .list0))) k nothing;
+      list1 = getD (mergedList (four (λ j. getD m j noMotion .list1))) k nothing;
+    })
+
+-- Step 3. A quadrant all intra copies its horizontal neighbour quadrant, block for block; if that was all intra too, the vertical one.
+unfoldable pub someOf : List Bool → Bool
+someOf b = getD b 0 false || (getD b 1 false || (getD b 2 false || getD b 3 false))
+
+unfoldable pub liveOf : ℕ → List Bool
+liveOf set = four (λ q. someOf (clearOf set q))
+
+unfoldable pub copiedFrom : List Bool → ℕ → ℕ
+copiedFrom live q = pick (getD live q false) q (pick (getD live (horizontal q) false) (horizontal q) (vertical q))
+
+unfoldable pub copied : List Bool → List (List Motion) → List (List Motion)
+copied live m = four (λ q. getD m (copiedFrom live q) [])
+
+-- Steps 1 to 3, in order. (What steps 1 and 2 would make of a quadrant all intra is not read: step 3 writes it over.)
+unfoldable pub resolved : ℕ → List (List Motion) → List (List Motion)
+resolved set m = copied (liveOf set) (four (λ q. merged (filled (clearOf set q) (getD m q []))))
+
+-- Step 4. Each vector word v becomes sign(v) · ((|v|·S + B/2) / B) by its axis.
+abbrev pub scaledWord : ℕ → ℕ → ℤ → ℤ
+scaledWord b s v = signed v ((natAbs v * s + b / 2) / b)
+
+unfoldable pub scaledPrediction : Axes → Prediction → Prediction
+scaledPrediction g p = record {
+  reference = p .reference;
+  x = scaledWord (baseSize (g .horizontal)) (scaledSize (g .horizontal)) (p .x);
+  y = scaledWord (baseSize (g .vertical)) (scaledSize (g .vertical)) (p .y);
+}
+
+unfoldable pub scaledMotion : Axes → Motion → Motion
+scaledMotion g m = record { list0 = scaledPrediction g (m .list0); list1 = scaledPrediction g (m .list1) }
+
+unfoldable pub inheritedMotions : Axes → List ℤ → ℕ → ℕ → List (List Motion)
+inheritedMotions g base column row =
+    four (λ q. four (λ k. scaledMotion g (at (resolved (intraSet g base column row) (gathered g base column row)) q k)))
+
+-- Step 5. Split: the fewest pieces with one motion in each, of the 259 permitted.
+abbrev pub chosen : List (List Motion) → Split
+chosen m = fewestIn splits (motionAt m)

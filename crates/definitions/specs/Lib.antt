@@ -1,0 +1,11 @@
+-- Document 01 as definitions, in its order: read these files from the top with the paper beside them.
+pub mod Tests
+pub mod Geometry
+pub mod Accepted
+pub mod BlockMap
+pub mod Splits
+pub mod Record
+pub mod Inheriting
+pub mod Answer
+pub mod Refusals
+pub mod Calls

@@ -1,0 +1,95 @@
+-- "From the input" of document 01: the refusals of the calls on records, 1 to 8, each with the test of where it applies.
+use Prim.Native.Nat.{ℕ, _+_, _*_, _%_}
+use mathlib.Core.Bool.{Bool, true, false, not, _&&_}
+use mathlib.Core.List.{List, [], _∷_, _++_, map}
+use lib.Dec.{eqb}
+use lib.IntN.{ℤ, pos, natAbs, _*ℤ_}
+use lib.ListN.{length}
+use lib.Signed.{leZ, ltZ}
+use Rattle.definitions.specs.declared.Axes.{Axes}
+use Rattle.definitions.specs.declared.Numbers.{Numbers}
+use Rattle.definitions.specs.declared.Refusal.{Refusal}
+use Rattle.definitions.specs.declared.Verdict.{Verdict}
+use Rattle.definitions.specs.declared.Verdict.the-variants.{Accepted, Refused}
+use Rattle.definitions.specs.Tests.{pick, minus, between, upTo}
+use Rattle.definitions.specs.Geometry.{baseSize, fullSize, macroblocks, inside}
+use Rattle.definitions.specs.Record.{recordWords, recordAt, wellFormed, firstBroken}
+use Rattle.definitions.specs.Answer.{namedAt, addressesOf}
+
+-- A refusal has a number and a place; the place is 0 unless given.
+abbrev pub refusal : ℕ → Refusal
+refusal n = record { number = n; place = 0; rule = 0 }
+
+-- a refusal, and whether it applies
+pub record Test : Type 0 where
+  pub applies : Bool
+  pub gives : Refusal
+
+abbrev pub test : Bool → Refusal → Test
+test t r = record { applies = t; gives = r }
+
+-- tests in their order: the first that applies is the verdict
+abbrev pub verdictOf : List Test → Verdict
+verdictOf [] = Accepted
+verdictOf (t ∷ ts) = pick (t .applies) (Refused (t .gives)) (verdictOf ts)
+
+-- 1 and 2: a multiple of 16 in 16..4,096
+abbrev pub sizeRight : ℤ → Bool
+sizeRight z = between (pos 16) (pos 4096) z && eqb (natAbs z % 16) 0
+
+-- 3: S even, not below B and not above 2B
+abbrev pub scaledRight : ℤ → ℤ → Bool
+scaledRight b s = eqb (natAbs s % 2) 0 && between b (pos 2 *ℤ b) s
+
+-- 4: an offset even and in −8,192..8,190
+abbrev pub offsetRight : ℤ → Bool
+offsetRight o = eqb (natAbs o % 2) 0 && between (minus 8192) (pos 8190) o
+
+-- 1 to 4, by number first and then by axis
+unfoldable pub geometryTests : Numbers → List Test
+geometryTests n =
+    let h = n .horizontal in
+    let v = n .vertical in
+    test (not (sizeRight (h .base) && sizeRight (v .base))) (refusal 1)
+    ∷ test (not (sizeRight (h .full) && sizeRight (v .full))) (refusal 2)
+    ∷ test (not (scaledRight (h .base) (h .scaled) && scaledRight (v .base) (v .scaled))) (refusal 3)
+    ∷ test (not (offsetRight (h .offset) && offsetRight (v .offset))) (refusal 4)
+    ∷ []
+
+-- an accepted geometry is one that 1 to 4 do not refuse
+abbrev pub geometryVerdict : Numbers → Verdict
+geometryVerdict n = verdictOf (geometryTests n)
+
+-- 5: base length is not 77 times its macroblocks
+abbrev pub baseCount : Axes → ℕ
+baseCount g = macroblocks (baseSize (g .horizontal)) * macroblocks (baseSize (g .vertical))
+
+abbrev pub baseTest : Axes → List ℤ → Test
+baseTest g base = test (not (eqb (length base) (recordWords * baseCount g))) (refusal 5)
+
+-- 6: output length wrong
+abbrev pub outputTest : ℕ → List ℤ → Test
+outputTest records out = test (not (eqb (length out) (recordWords * records))) (refusal 6)
+
+-- 7: column or row outside the picture
+abbrev pub withinAxis : ℕ → ℤ → Bool
+withinAxis size x = leZ (pos 0) x && ltZ x (pos (macroblocks size))
+
+abbrev pub placeTest : Axes → ℤ → ℤ → Test
+placeTest g column row = test (not (withinAxis (fullSize (g .horizontal)) column && withinAxis (fullSize (g .vertical)) row)) (refusal 7)
+
+-- 8: a malformed record; the place is, among the records checked, the lowest malformed address, and in it the first broken rule as a further number.
+-- (The addresses are in rising order.)
+abbrev pub recordTest : List ℤ → ℕ → Test
+recordTest base a = test (not (wellFormed (recordAt base a))) (record { number = 8; place = a; rule = firstBroken (recordAt base a) })
+
+unfoldable pub recordTests : List ℤ → List ℕ → List Test
+recordTests base addresses = map (recordTest base) addresses
+
+-- the addresses that a macroblock's call checks: those that its class reads; outside none
+unfoldable pub addressesRead : Axes → ℕ → ℕ → List ℕ
+addressesRead g column row = pick (inside g column row) (addressesOf g (namedAt g column row)) []
+
+-- all addresses of the base
+abbrev pub allAddresses : Axes → List ℕ
+allAddresses g = upTo (baseCount g) (λ a. a)
