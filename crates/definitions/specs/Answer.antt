@@ -70,9 +70,26 @@ twoRows Vert = false
 twoRows Hori = true
 twoRows Center = true
 
+-- its columns, and its rows
+abbrev pub columnsOf : Named → List ℕ
+columnsOf n = columnsRead (n .column) (twoColumns (n .class))
+
+abbrev pub rowsOf : Named → List ℕ
+rowsOf n = columnsRead (n .row) (twoRows (n .class))
+
+-- their addresses, in raster order and so in rising order
 unfoldable pub addressesOf : Axes → Named → List ℕ
-addressesOf g n =
-    forEach (columnsRead (n .row) (twoRows (n .class))) (λ row. map (λ column. baseAddress g column row) (columnsRead (n .column) (twoColumns (n .class))))
+addressesOf g n = forEach (rowsOf n) (λ row. map (λ column. baseAddress g column row) (columnsOf n))
+
+abbrev pub columnsNamed : Answer → List ℕ
+columnsNamed Outside = []
+columnsNamed (Intra n) = columnsOf n
+columnsNamed (Inherited n s) = columnsOf n
+
+abbrev pub rowsNamed : Answer → List ℕ
+rowsNamed Outside = []
+rowsNamed (Intra n) = rowsOf n
+rowsNamed (Inherited n s) = rowsOf n
 
 abbrev pub addressesNamed : Axes → Answer → List ℕ
 addressesNamed g Outside = []

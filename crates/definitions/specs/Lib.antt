@@ -9,3 +9,5 @@ pub mod Inheriting
 pub mod Answer
 pub mod Refusals
 pub mod Calls
+pub mod Demand3
+pub mod Examples

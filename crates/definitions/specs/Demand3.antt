@@ -1,0 +1,88 @@
+-- Demand 3 of the buyer (document 00) as document 01 reads it ("For demand 3"): one record type, with a field for each sentence of the demand.
+use Prim.Native.Nat.{ℕ, _+_, _*_, _≤_, _<_}
+use mathlib.Core.Path.{_≡_}
+use mathlib.Core.Logic.{_≢_, _↔_}
+use mathlib.Core.Bool.{Bool, true, false}
+use mathlib.Core.List.{List, [], _∷_, map, List·Memᴰ}
+use lib.Count.{ones}
+use lib.IntN.{ℤ, pos}
+use lib.ListN.{length, take}
+use Rattle.definitions.specs.declared.Axes.{Axes}
+use Rattle.definitions.specs.declared.Numbers.{Numbers}
+use Rattle.definitions.specs.declared.Class.{Class}
+use Rattle.definitions.specs.declared.Class.the-variants.{Corner}
+use Rattle.definitions.specs.declared.Named.{Named}
+use Rattle.definitions.specs.declared.Split.{Split}
+use Rattle.definitions.specs.declared.Answer.{Answer}
+use Rattle.definitions.specs.declared.Answer.the-variants.{Outside, Intra, Inherited}
+use Rattle.definitions.specs.declared.MacroblockReply.{MacroblockReply}
+use Rattle.definitions.specs.declared.MacroblockReply.the-variants.{Answered}
+use Rattle.definitions.specs.declared.PictureReply.{PictureReply}
+use Rattle.definitions.specs.declared.PictureReply.the-variants.{Counted}
+use Rattle.definitions.specs.Tests.{pick}
+use Rattle.definitions.specs.Geometry.{axesOf, baseSize, fullSize, macroblocks, inside}
+use Rattle.definitions.specs.Splits.{Covers, pieces, oneEach, count, splits}
+use Rattle.definitions.specs.Record.{recordAt, motionOf, typeNumber, wellFormed}
+use Rattle.definitions.specs.Inheriting.{intraSet, inheritedMotions, motionAt}
+use Rattle.definitions.specs.Answer.{namedAt, answerClass, answerColumn, answerRow, columnsNamed, rowsNamed, addressesNamed, subTypes, unusedMotion}
+use Rattle.definitions.specs.Refusals.{baseCount}
+use Rattle.definitions.specs.Calls.{Outcome, macroblockCall, pictureCall}
+
+-- what document 01 names for a macroblock: outside class Corner, column and row 0
+abbrev pub namedByPaper : Axes → ℕ → ℕ → Named
+namedByPaper g column row = pick (inside g column row) (namedAt g column row) (record { class = Corner; column = 0; row = 0 })
+
+-- The answer and the written record of the macroblock at a column and row, on a base. Other says which bases are compared with it, and Gives that on
+-- a base a call hands over an answer and a written record. Motions and split are those read back from the written words.
+pub record Demand3 (g : Axes) (column row : ℕ) (base : List ℤ) (answer : Answer) (written : List ℤ) (Other : List ℤ → Type 0) (Gives : List ℤ → Answer → List ℤ → Type 0) : Type 0 where
+  -- The answer's class and first base column and row are document 01's,
+  pub class : answerClass answer ≡ namedByPaper g column row .class
+  pub first-column : answerColumn answer ≡ namedByPaper g column row .column
+  pub first-row : answerRow answer ≡ namedByPaper g column row .row
+  -- and it names only base macroblocks inside the base picture.
+  pub columns-inside : (x : ℕ) → List·Memᴰ x (columnsNamed answer) → x < macroblocks (baseSize (g .horizontal))
+  pub rows-inside : (y : ℕ) → List·Memᴰ y (rowsNamed answer) → y < macroblocks (baseSize (g .vertical))
+  -- Whatever the other base records hold, the answer and its written record are the same.
+  pub others : (other : List ℤ) → Other other → ((a : ℕ) → List·Memᴰ a (addressesNamed g answer) → recordAt other a ≡ recordAt base a) → Gives other answer written
+  -- It is inherited exactly when the macroblock is inside the window and at most eight of its sixteen blocks read intra macroblocks,
+  pub inherited : ((n : Named) × (s : Split) × (answer ≡ Inherited n s)) ↔ ((inside g column row ≡ true) × (ones (intraSet g base column row) ≤ 8))
+  -- and intra exactly when it is inside and nine or more do;
+  pub intra : ((n : Named) × (answer ≡ Intra n)) ↔ ((inside g column row ≡ true) × (9 ≤ ones (intraSet g base column row)))
+  -- outside the window it inherits nothing.
+  pub outside : (answer ≡ Outside) ↔ (inside g column row ≡ false)
+  pub nothing : inside g column row ≡ false → (i : ℕ) → i < 16 → motionOf written i ≡ unusedMotion
+  -- Inherited, its pieces cover the sixteen blocks once each,
+  pub cover : (n : Named) (s : Split) → answer ≡ Inherited n s → Covers (pieces s)
+  -- with one motion in each;
+  pub one-motion : (n : Named) (s : Split) → answer ≡ Inherited n s → oneEach (motionOf written) s ≡ true
+  -- each block has the motion that document 01's block map and steps fix;
+  pub motions : (n : Named) (s : Split) → answer ≡ Inherited n s → (i : ℕ) → i < 16 → motionOf written i ≡ motionAt (inheritedMotions g base column row) i
+  -- and every other of the 259 splits whose pieces each carry one motion has more pieces.
+  pub rivals : (n : Named) (s : Split) → answer ≡ Inherited n s → (t : Split) → List·Memᴰ t splits → oneEach (motionOf written) t ≡ true → t ≢ s → count s < count t
+  -- Inherited, words 0 to 4 of the written record say the answer's split.
+  pub says-split : (n : Named) (s : Split) → answer ≡ Inherited n s → take 5 written ≡ pos (typeNumber s) ∷ map pos (subTypes s)
+
+-- Made singly: the other records may hold any words.
+abbrev pub AnyWords : List ℤ → List ℤ → Type 0
+AnyWords base other = length other ≡ length base
+
+abbrev pub SinglyGives : Numbers → ℕ → ℕ → List ℤ → List ℤ → Answer → List ℤ → Type 0
+SinglyGives n column row words base answer written = macroblockCall n base (pos column) (pos row) words ≡ record { reply = Answered answer; words = written }
+
+abbrev pub Demand3Singly : Numbers → ℕ → ℕ → List ℤ → List ℤ → Answer → List ℤ → Type 0
+Demand3Singly n column row words base answer written =
+    Demand3 (axesOf n) column row base answer written (AnyWords base) (SinglyGives n column row words)
+
+-- Made with the whole picture: the other records are any well-formed ones, the answer is the one-macroblock call's on the same base, and the written
+-- record is the one at the macroblock's address. (alone: 77 words lent to the one-macroblock call, whatever they hold.)
+abbrev pub WellFormedWords : Axes → List ℤ → List ℤ → Type 0
+WellFormedWords g base other = (length other ≡ length base) × ((a : ℕ) → a < baseCount g → wellFormed (recordAt other a) ≡ true)
+
+abbrev pub PictureGives : Numbers → ℕ → ℕ → List ℤ → List ℤ → List ℤ → Answer → List ℤ → Type 0
+PictureGives n column row words alone base answer written =
+    (macroblockCall n base (pos column) (pos row) alone .reply ≡ Answered answer)
+    × (recordAt (pictureCall n base words .words) (row * macroblocks (fullSize (axesOf n .horizontal)) + column) ≡ written)
+
+abbrev pub Demand3Picture : Numbers → ℕ → ℕ → List ℤ → List ℤ → List ℤ → Answer → List ℤ → Type 0
+Demand3Picture n column row words alone base answer written =
+    Demand3 (axesOf n) column row base answer written (WellFormedWords (axesOf n) base) (PictureGives n column row words alone)

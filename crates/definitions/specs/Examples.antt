@@ -1,0 +1,117 @@
+-- "Bench examples" of document 01: the starred ones, in one table, proved by one statement.
+use Prim.Native.Nat.{ℕ, _+_, _*_}
+use mathlib.Core.Path.{_≡_}
+use mathlib.Core.Bool.{Bool, true, false, not, _&&_}
+use mathlib.Core.List.{List, [], _∷_, _++_}
+use lib.Count.{ones, onesIn}
+use lib.Dec.{T, eqb}
+use lib.IntN.{ℤ, pos}
+use lib.ListN.{getD, replicate}
+use Rattle.definitions.specs.declared.Axis.{Axis}
+use Rattle.definitions.specs.declared.Axes.{Axes}
+use Rattle.definitions.specs.declared.AxisNumbers.{AxisNumbers}
+use Rattle.definitions.specs.declared.Numbers.{Numbers}
+use Rattle.definitions.specs.declared.Prediction.{Prediction}
+use Rattle.definitions.specs.declared.Motion.{Motion}
+use Rattle.definitions.specs.declared.MacroblockReply.{MacroblockReply}
+use Rattle.definitions.specs.declared.MacroblockReply.the-variants.{Answered, Refused}
+use Rattle.definitions.specs.Tests.{pick, minus, eqZ, allBelow, allOf, upTo, four}
+use Rattle.definitions.specs.Geometry.{axesOf, axisOf, insideAxis, cOf, kOf, mOf, nOf, fOf, twoOf, inside, baseSize, scaledSize}
+use Rattle.definitions.specs.BlockMap.{digitsOf, coordinateOf, stepOf, addressRead, blockRead}
+use Rattle.definitions.specs.Splits.{quadrantOf, placeOf, sameMotion, samePrediction, alike, oneEach, fewestIn}
+use Rattle.definitions.specs.Record.{recordWords, recordAt, motionOf, splitSaid, rule1, rule2, rule3, rule4, rule5, rule6, firstBroken, laidOut}
+use Rattle.definitions.specs.Inheriting.{setOf, intraSet, gathered, source, clearOf, filled, lower, lowest, having, unused, nothing, mergedList, merged, someOf, liveOf, copiedFrom, copied, resolved, scaledWord, scaledPrediction, scaledMotion, inheritedMotions}
+use Rattle.definitions.specs.Answer.{namedAt, answerOf, answerType, addressesOf, unusedMotion, writtenFor, madeOf}
+use Rattle.definitions.specs.Refusals.{geometryTests, recordTests, addressesRead}
+use Rattle.definitions.specs.Calls.{Outcome, macroblockTests, macroblockCall}
+use Rattle.definitions.specs.Geometry.{columnsRead}
+
+-- what an axis gives for a macroblock: outside, or M, N, F and whether two columns are read
+pub data Seen : Type 0 where
+  out : Seen
+  gives : ℤ → ℤ → ℕ → Bool → Seen
+
+pub data Example : Type 0 where
+  -- an axis with B, S, o, the macroblock at P
+  axis : ℕ → ℕ → ℤ → ℕ → Seen → Example
+  -- with B and S a vector word gives another
+  word : ℕ → ℕ → ℤ → ℤ → Example
+  -- B and S 32, o 4 on both axes, the macroblock at 16,16 on this base: how many blocks read intra macroblocks, and the answer's type
+  macroblock : List ℤ → ℕ → ℕ → Example
+  -- there, step 1 gives a block the motion of this place of its quadrant
+  fill : List ℤ → ℕ → ℕ → Example
+  -- in a quadrant with these predictions of a list, step 2 gives all four the reference and vector of this block
+  merge : List Prediction → ℕ → Example
+
+abbrev axisFor : ℕ → ℕ → ℤ → AxisNumbers
+axisFor b s o = record { base = pos b; scaled = pos s; offset = o; full = pos 64 }
+
+abbrev centred : Numbers
+centred = record { horizontal = axisFor 32 32 (pos 4); vertical = axisFor 32 32 (pos 4) }
+
+abbrev setFor : List ℤ → ℕ
+setFor base = intraSet (axesOf centred) base 1 1
+
+abbrev replyType : MacroblockReply → ℕ → Bool
+replyType (Answered a) t = eqb (answerType a) t
+replyType (Refused r) t = false
+
+abbrev sameBool : Bool → Bool → Bool
+sameBool true b = b
+sameBool false b = not b
+
+abbrev seen : Axis → ℕ → Seen → Bool
+seen a p out = not (insideAxis a p)
+seen a p (gives m n f two) =
+    let b = baseSize a in
+    let s = scaledSize a in
+    let c = cOf a p in
+    insideAxis a p && (eqZ (mOf b s c) m && (eqZ (nOf b s c) n && (eqb (fOf b s c) f && sameBool (twoOf b s c) two)))
+
+abbrev pub holds : Example → Bool
+holds (axis b s o p e) = seen (axisOf (axisFor b s o)) p e
+holds (word b s v w) = eqZ (scaledWord b s v) w
+holds (macroblock base members type) =
+    eqb (ones (setFor base)) members && replyType (macroblockCall centred base (pos 1) (pos 1) (replicate recordWords (pos 0)) .reply) type
+holds (fill base i k) = eqb (source (clearOf (setFor base) (quadrantOf i)) (placeOf i)) k
+holds (merge p k) = allBelow 4 (λ j. samePrediction (getD (mergedList p) j nothing) (getD p k nothing))
+
+-- an intra record, and one of type 1
+abbrev intraRecord : List ℤ
+intraRecord = laidOut 0 (λ q. 0) (λ b. unusedMotion)
+
+abbrev wholeRecord : List ℤ
+wholeRecord = laidOut 1 (λ q. 0) (λ b. record { list0 = record { reference = pos 0; x = pos 4; y = minus 8 }; list1 = unused })
+
+abbrev onlyLast : List ℤ
+onlyLast = intraRecord ++ (intraRecord ++ (intraRecord ++ wholeRecord))
+
+abbrev allButLast : List ℤ
+allButLast = wholeRecord ++ (wholeRecord ++ (wholeRecord ++ intraRecord))
+
+abbrev predicts : ℕ → ℤ → Prediction
+predicts r v = record { reference = pos r; x = v; y = v }
+
+abbrev pub starred : List Example
+starred =
+    axis 32 48 (pos 0) 0 (gives (minus 8) (pos 4) 0 false)
+    ∷ axis 32 48 (pos 0) 16 (gives (pos 0) (pos 12) 0 true)
+    ∷ axis 32 48 (pos 0) 32 (gives (pos 8) (minus 4) 1 false)
+    ∷ axis 16 16 (pos 0) 0 (gives (pos 8) (pos 0) 0 false)
+    ∷ axis 32 64 (pos 6) 0 out
+    ∷ axis 32 64 (pos 6) 16 (gives (pos 16) (minus 4) 0 false)
+    ∷ axis 32 64 (pos 6) 32 (gives (minus 4) (pos 16) 0 true)
+    ∷ word 32 48 (pos 3) (pos 5)
+    ∷ word 32 48 (minus 3) (minus 5)
+    ∷ word 32 64 (pos 8191) (pos 16382)
+    ∷ word 32 64 (minus 8192) (minus 16384)
+    ∷ macroblock onlyLast 7 1
+    ∷ fill onlyLast 0 3
+    ∷ macroblock allButLast 9 0
+    ∷ merge (predicts 2 (pos 1) ∷ predicts 1 (pos 2) ∷ predicts 1 (pos 3) ∷ predicts 0 (pos 4) ∷ []) 3
+    ∷ []
+
+-- The starred examples hold.
+pub starred-hold : T (allOf holds starred)
+unfolding allOf allBelow pick upTo insideAxis mOf nOf fOf twoOf columnsRead digitsOf coordinateOf stepOf addressRead blockRead sameMotion samePrediction alike oneEach fewestIn recordAt motionOf splitSaid rule1 rule2 rule3 rule4 rule5 rule6 firstBroken laidOut setOf intraSet gathered source clearOf filled lower lowest having mergedList merged someOf liveOf copiedFrom copied resolved scaledPrediction scaledMotion inheritedMotions namedAt answerOf addressesOf writtenFor madeOf geometryTests recordTests addressesRead macroblockTests macroblockCall ones onesIn
+starred-hold = tt
