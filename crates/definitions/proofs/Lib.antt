@@ -2,3 +2,6 @@
 pub mod Choices
 pub mod Differences
 pub mod Places
+pub mod Verdicts
+pub mod Answers
+pub mod Sameness
