@@ -19,7 +19,7 @@ pub record Row : Type 0 where
 abbrev pub row : ℤ → ℤ → ℕ → ℕ → ℕ → ℕ → Row
 row m n a b c d = record { border = m; border8 = n; digits = a ∷ b ∷ c ∷ d ∷ [] }
 
-pub evenRows : List Row
+abbrev pub evenRows : List Row
 evenRows =
     row (minus 16) (pos 0) 1 1 2 2  -- +
     ∷ row (minus 16) (pos 4) 1 1 1 2  -- +
@@ -39,7 +39,7 @@ evenRows =
     ∷ row (pos 0) (pos 16) 3 3 4 4
     ∷ []
 
-pub oddRows : List Row
+abbrev pub oddRows : List Row
 oddRows =
     row (pos 0) (minus 16) 3 3 4 4  -- +
     ∷ row (pos 0) (minus 12) 3 3 4 4  -- +
@@ -60,7 +60,6 @@ oddRows =
     ∷ []
 
 abbrev pub rowsOf : Bool → List Row
-unfolding evenRows oddRows
 rowsOf true = evenRows
 rowsOf false = oddRows
 
