@@ -2,3 +2,7 @@
 pub mod Choices
 pub mod Differences
 pub mod Places
+pub mod Motions
+pub mod Pieces
+pub mod Shapes
+pub mod Fewest
