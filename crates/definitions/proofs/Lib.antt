@@ -2,6 +2,10 @@
 pub mod Choices
 pub mod Differences
 pub mod Places
+pub mod Motions
+pub mod Pieces
+pub mod Shapes
+pub mod Fewest
 pub mod Verdicts
 pub mod Answers
 pub mod Sameness
