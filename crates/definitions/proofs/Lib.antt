@@ -9,3 +9,4 @@ pub mod Fewest
 pub mod Verdicts
 pub mod Answers
 pub mod Sameness
+pub mod Blocks
