@@ -11,3 +11,4 @@ pub mod Verdicts
 pub mod Answers
 pub mod Sameness
 pub mod Blocks
+pub mod Addresses
