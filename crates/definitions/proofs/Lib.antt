@@ -12,3 +12,4 @@ pub mod Answers
 pub mod Sameness
 pub mod Blocks
 pub mod Addresses
+pub mod Written
