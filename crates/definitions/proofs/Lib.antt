@@ -6,3 +6,4 @@ pub mod Motions
 pub mod Pieces
 pub mod Shapes
 pub mod Fewest
+pub mod Steps
