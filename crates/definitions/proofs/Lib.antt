@@ -7,6 +7,7 @@ pub mod Motions
 pub mod Pieces
 pub mod Shapes
 pub mod Fewest
+pub mod Steps
 pub mod Verdicts
 pub mod Answers
 pub mod Sameness
