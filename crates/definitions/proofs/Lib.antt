@@ -3,6 +3,7 @@ pub mod Choices
 pub mod Differences
 pub mod Places
 pub mod Map
+pub mod Accepted
 pub mod Motions
 pub mod Pieces
 pub mod Shapes
