@@ -15,3 +15,4 @@ pub mod Sameness
 pub mod Blocks
 pub mod Addresses
 pub mod Written
+pub mod Promises

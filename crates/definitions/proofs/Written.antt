@@ -19,6 +19,11 @@ each-block P p0 p1 p2 p3 p4 p5 p6 p7 p8 p9 p10 p11 p12 p13 p14 p15 i h =
     (each (λ a. (b : ℕ) → b < 4 → P (4 * a + b)) (each (λ b. P (4 * 0 + b)) p0 p1 p2 p3) (each (λ b. P (4 * 1 + b)) p4 p5 p6 p7)
     (each (λ b. P (4 * 2 + b)) p8 p9 p10 p11) (each (λ b. P (4 * 3 + b)) p12 p13 p14 p15) (i / 4) (omega arith) (i % 4) (omega arith))
 
+-- both references of each block are those of its quadrant's first
+pub record OneReference (m : ℕ → Motion) : Type 0 where
+  pub list0 : (i : ℕ) → i < 16 → m (rasterOf (quadrantOf i) 0) .list0 .reference ≡ m i .list0 .reference
+  pub list1 : (i : ℕ) → i < 16 → m (rasterOf (quadrantOf i) 0) .list1 .reference ≡ m i .list1 .reference
+
 module _ (type : ℕ) (sub : ℕ → ℕ) (m : ℕ → Motion) where
   pub laid-length : length (laidOut type sub m) ≡ recordWords
   unfolding laidOut upTo
@@ -27,11 +32,6 @@ module _ (type : ℕ) (sub : ℕ → ℕ) (m : ℕ → Motion) where
   pub laid-types : take 5 (laidOut type sub m) ≡ pos type ∷ pos (sub 0) ∷ pos (sub 1) ∷ pos (sub 2) ∷ pos (sub 3) ∷ []
   unfolding laidOut upTo
   laid-types = refl
-
-  -- both references of each block are those of its quadrant's first
-  pub record OneReference : Type 0 where
-    pub list0 : (i : ℕ) → i < 16 → m (rasterOf (quadrantOf i) 0) .list0 .reference ≡ m i .list0 .reference
-    pub list1 : (i : ℕ) → i < 16 → m (rasterOf (quadrantOf i) 0) .list1 .reference ≡ m i .list1 .reference
 
   -- block i's motion, with the references of its quadrant's first block
   abbrev written : ℕ → Motion
@@ -45,7 +45,7 @@ module _ (type : ℕ) (sub : ℕ → ℕ) (m : ℕ → Motion) where
   laid-block =
       each-block (λ i. motionOf (laidOut type sub m) i ≡ written i) refl refl refl refl refl refl refl refl refl refl refl refl refl refl refl refl
 
-  pub laid-motion : OneReference → (i : ℕ) → i < 16 → motionOf (laidOut type sub m) i ≡ m i
+  pub laid-motion : OneReference m → (i : ℕ) → i < 16 → motionOf (laidOut type sub m) i ≡ m i
   laid-motion o i h =
       laid-block i h ∙ (let p = o .list0 i h in let q = o .list1 i h in
       λ k. record {
