@@ -16,3 +16,4 @@ pub mod Blocks
 pub mod Addresses
 pub mod Written
 pub mod Promises
+pub mod Demand
