@@ -17,3 +17,4 @@ pub mod Addresses
 pub mod Written
 pub mod Promises
 pub mod Demand
+pub mod RecordLists
