@@ -8,9 +8,6 @@ use lib.IntN.{ℤ}
 use Rattle.definitions.specs.declared.Refusal.{Refusal}
 use Rattle.definitions.specs.declared.Verdict.{Verdict}
 use Rattle.definitions.specs.declared.Verdict.the-variants.{Accepted, Refused}
-use Rattle.definitions.specs.declared.Answer.{Answer}
-use Rattle.definitions.specs.declared.MacroblockReply.{MacroblockReply}
-use Rattle.definitions.specs.declared.MacroblockReply.the-variants.{Answered, Refused as Declined}
 use Rattle.definitions.specs.Tests.{pick}
 use Rattle.definitions.specs.Refusals.{Test, verdictOf}
 use Rattle.definitions.specs.Calls.{Outcome, byVerdict}
@@ -55,7 +52,8 @@ refused-first (x ∷ xs) ys r e = by (x .applies) (λ q. refused-first xs ys r q
     by false f p = f p
 
 -- ---- a call's outcome
--- a reply that is an answer comes of an accepted verdict
-pub answered-accepted : (v : Verdict) (words : List ℤ) (made : Outcome MacroblockReply) (answer : Answer) → byVerdict v Declined words made .reply ≡ Answered answer → v ≡ Accepted
-answered-accepted Accepted words made answer e = refl
-answered-accepted (Refused r) words made answer e = absurd (let z : _≡_ {A = ℕ} 0 1 = cc in omega arith)
+-- a reply that is none of a refusal comes of an accepted verdict
+pub reply-accepted : {Reply : Type 0} (v : Verdict) (refused : Refusal → Reply) (words : List ℤ) (made : Outcome Reply) (reply : Reply) → ((r : Refusal) → refused r ≡ reply → ⊥)
+    → byVerdict v refused words made .reply ≡ reply → v ≡ Accepted
+reply-accepted Accepted refused words made reply n e = refl
+reply-accepted (Refused r) refused words made reply n e = absurd (n r e)
