@@ -1,0 +1,290 @@
+-- DEMAND 3. demand3-singly and demand3-picture are its two theorems: whatever the one-macroblock call, and the picture call, hand over is as the record
+-- type of specs/Demand3 says. Assumes nothing.
+use Prim.Native.Nat.{ℕ, _+_, _*_, _/_, _%_, _<_}
+use mathlib.Core.Path.{_≡_, refl, sym, ap, subst, _∙_}
+use mathlib.Core.Bool.{Bool, true, false, not}
+use mathlib.Core.List.{List, [], _∷_, _++_, List·Memᴰ, List·Memᴰ·head, List·Memᴰ·tail, List·Memᴰ·not-nil}
+use native.Mathlib.Nat.{div-eq-of-lt-le, mod-eq-of-lt, mul-add-mod-self-right, mul-le-mul-right}
+use native.Mathlib.Omega.{arith}
+use lib.Dec.{eqb}
+use lib.IntN.{ℤ, pos, natAbs}
+use lib.ListN.{length}
+use borrow.Author.Tests.{eq-eqb, le-leb, lt-ltb}
+use Rattle.definitions.specs.declared.Axes.{Axes}
+use Rattle.definitions.specs.declared.Numbers.{Numbers}
+use Rattle.definitions.specs.declared.Verdict.{Verdict}
+use Rattle.definitions.specs.declared.Verdict.the-variants.{Accepted, Refused}
+use Rattle.definitions.specs.declared.Answer.{Answer}
+use Rattle.definitions.specs.declared.Answer.the-variants.{Outside, Intra, Inherited}
+use Rattle.definitions.specs.declared.Motion.{Motion}
+use Rattle.definitions.specs.declared.Named.{Named}
+use Rattle.definitions.specs.declared.Refusal.{Refusal}
+use Rattle.definitions.specs.declared.Counts.{Counts}
+use Rattle.definitions.specs.declared.PictureReply.{PictureReply}
+use Rattle.definitions.specs.declared.PictureReply.the-variants.{Counted, Refused as NotMade}
+use Rattle.definitions.specs.declared.MacroblockReply.{MacroblockReply}
+use Rattle.definitions.specs.declared.MacroblockReply.the-variants.{Answered, Refused as Declined}
+use Rattle.definitions.specs.Tests.{pick, upTo, forEach}
+use Rattle.definitions.specs.Accepted.{Inside}
+use Rattle.definitions.specs.Geometry.{axesOf, baseSize, scaledSize, fullSize, cOf, sampleOf, macroblocks, insideAxis, inside}
+use Rattle.definitions.specs.BlockMap.{addressRead}
+use Rattle.definitions.specs.Record.{recordWords, recordAt, wellFormed, firstBroken}
+use Rattle.definitions.specs.Inheriting.{inheritedMotions}
+use Rattle.definitions.specs.Answer.{Made, answerOf, writtenFor, madeOf, addressesNamed}
+use Rattle.definitions.specs.Refusals.{Test, test, refusal, verdictOf, geometryTests, geometryVerdict, baseCount, baseTest, outputTest, placeTest, recordTest, recordTests, withinAxis, addressesRead, allAddresses}
+use Rattle.definitions.specs.Calls.{Outcome, byVerdict, macroblockTests, macroblockCall, fullCount, pictureTests, madeAt, countsOf, pictureCall}
+use Rattle.definitions.specs.Demand3.{Demand3, AnyWords, SinglyGives, Demand3Singly, WellFormedWords, PictureGives, Demand3Picture}
+use Rattle.definitions.proofs.Choices.{yes, no, and-true, and-intro}
+use Rattle.definitions.proofs.Verdicts.{first-passed, both-passed, then-verdict, reply-accepted}
+use Rattle.definitions.proofs.RecordLists.{all-formed, formed-all, index-member, member-index, record-of}
+use Rattle.definitions.proofs.Accepted.{accepted-axes, inside-axis}
+use Rattle.definitions.proofs.Answers.{Decided, is-outside, is-intra, is-inherited, decided}
+use Rattle.definitions.proofs.Sameness.{same-made}
+use Rattle.definitions.proofs.Addresses.{address-named, address-below}
+use Rattle.definitions.proofs.Pieces.{covered}
+use Rattle.definitions.proofs.Written.{laid-length}
+use Rattle.definitions.proofs.Promises.{named-right, inherited-when, intra-when, outside-when, nothing-written, motions-written, fewest-written, split-written, columns-below, rows-below}
+
+-- ---- bases that agree on some records
+-- the records at the addresses are the same
+abbrev pub Agree : List ℕ → List ℤ → List ℤ → Type 0
+Agree addresses base other = (a : ℕ) → List·Memᴰ a addresses → recordAt other a ≡ recordAt base a
+
+tests-same : (base other : List ℤ) (addresses : List ℕ) → Agree addresses base other → recordTests other addresses ≡ recordTests base addresses
+unfolding recordTests
+tests-same base other [] e = refl
+tests-same base other (a ∷ rest) e =
+    let p : recordAt other a ≡ recordAt base a = e a (List·Memᴰ·head refl) in
+    let q = tests-same base other rest (λ b m. e b (List·Memᴰ·tail m)) in
+    λ i. test (not (wellFormed (p i))) (record { number = 8; place = a; rule = firstBroken (p i) }) ∷ q i
+
+module _ (g : Axes) (base : List ℤ) (column row : ℕ) where
+  -- a call checks the records that its answer names
+  read-named : {answer : Answer} → Decided g base column row answer → addressesRead g column row ≡ addressesNamed g answer
+  unfolding addressesRead
+  read-named (is-outside e) = no _ _ e
+  read-named (is-intra e m) = yes _ _ e
+  read-named (is-inherited e m) = yes _ _ e
+
+  made-outside : inside g column row ≡ false → madeOf g base column row ≡ record { answer = Outside; written = writtenFor Outside [] }
+  unfolding madeOf answerOf writtenFor
+  made-outside e = ap (λ (a : Answer). record { answer = a; written = writtenFor a (inheritedMotions g base column row) }) (no _ _ e)
+
+-- ---- an accepted geometry, and a macroblock inside
+module _ (n : Numbers) (column row : ℕ) (accepted : geometryVerdict n ≡ Accepted) where
+  abbrev axes : Axes
+  axes = axesOf n
+
+  across-inside : inside axes column row ≡ true → Inside (baseSize (axes .horizontal)) (scaledSize (axes .horizontal)) (cOf (axes .horizontal) (sampleOf column))
+  across-inside e = inside-axis (axes .horizontal) (sampleOf column) (accepted-axes n accepted .0) (and-true (insideAxis (axes .horizontal) (sampleOf column)) (insideAxis (axes .vertical) (sampleOf row)) e .0)
+
+  down-inside : inside axes column row ≡ true → Inside (baseSize (axes .vertical)) (scaledSize (axes .vertical)) (cOf (axes .vertical) (sampleOf row))
+  down-inside e = inside-axis (axes .vertical) (sampleOf row) (accepted-axes n accepted .1) (and-true (insideAxis (axes .horizontal) (sampleOf column)) (insideAxis (axes .vertical) (sampleOf row)) e .1)
+
+  -- other records do not matter
+  pub made-same : (base other : List ℤ) → Agree (addressesNamed axes (answerOf axes base column row)) base other → madeOf axes other column row ≡ madeOf axes base column row
+  made-same base other e = by (decided axes base column row) e
+    where
+      by : {answer : Answer} → Decided axes base column row answer → Agree (addressesNamed axes answer) base other → madeOf axes other column row ≡ madeOf axes base column row
+      by (is-outside i) a = made-outside axes other column row i ∙ sym (made-outside axes base column row i)
+      by (is-intra i m) a = same-made axes base other column row (λ k h. a _ (address-named axes column row (across-inside i) (down-inside i) k h))
+      by (is-inherited i m) a = same-made axes base other column row (λ k h. a _ (address-named axes column row (across-inside i) (down-inside i) k h))
+
+  -- all sentences but the one on other records
+  pub promised : (base : List ℤ) (Other : List ℤ → Type 0) (Gives : List ℤ → Answer → List ℤ → Type 0)
+      → ((other : List ℤ) → Other other → Agree (addressesNamed axes (answerOf axes base column row)) base other → Gives other (madeOf axes base column row .answer) (madeOf axes base column row .written))
+      → Demand3 axes column row base (madeOf axes base column row .answer) (madeOf axes base column row .written) Other Gives
+  unfolding madeOf
+  promised base Other Gives same =
+      let d = decided axes base column row in
+      record {
+        class = ap (λ (m : Named). m .class) (named-right axes base column row d);
+        first-column = ap (λ (m : Named). m .column) (named-right axes base column row d);
+        first-row = ap (λ (m : Named). m .row) (named-right axes base column row d);
+        columns-inside = columns-below axes base column row across-inside down-inside d;
+        rows-inside = rows-below axes base column row across-inside down-inside d;
+        others = same;
+        inherited = inherited-when axes base column row d;
+        intra = intra-when axes base column row d;
+        outside = outside-when axes base column row d;
+        nothing = nothing-written axes base column row d;
+        cover = λ m s e. covered s;
+        one-motion = λ m s e. fewest-written axes base column row d m s e .one;
+        motions = motions-written axes base column row;
+        rivals = λ m s e t listed. fewest-written axes base column row d m s e .more t;
+        says-split = split-written axes base column row;
+      }
+
+-- ---- made singly
+answer-not-refusal : {r : Refusal} {answer : Answer} → Declined r ≡ Answered answer → ⊥
+answer-not-refusal e = let z : _≡_ {A = ℕ} 0 1 = cc in omega arith
+
+-- where a call is accepted, it gives what is made
+gives-made : (n : Numbers) (column row : ℕ) (words base : List ℤ) → verdictOf (macroblockTests n base (pos column) (pos row) words) ≡ Accepted
+    → SinglyGives n column row words base (madeOf (axesOf n) base column row .answer) (madeOf (axesOf n) base column row .written)
+unfolding macroblockCall
+gives-made n column row words base v =
+    let made = madeOf (axesOf n) base column row in
+    ap (λ (w : Verdict). byVerdict w Declined words (record { reply = Answered (made .answer); words = made .written })) v
+
+module _ (n : Numbers) (column row : ℕ) (words base : List ℤ) where
+  abbrev single : Verdict
+  single = verdictOf (macroblockTests n base (pos column) (pos row) words)
+
+  singly-accepted : (answer : Answer) (written : List ℤ) → SinglyGives n column row words base answer written → single ≡ Accepted
+  unfolding macroblockCall
+  singly-accepted answer written e = reply-accepted single Declined words _ (Answered answer) (λ r q. answer-not-refusal q) (ap (λ (o : Outcome MacroblockReply). o .reply) e)
+
+  geometry-accepted : single ≡ Accepted → geometryVerdict n ≡ Accepted
+  unfolding macroblockTests
+  geometry-accepted v = both-passed (geometryTests n) _ v .0
+
+  -- the tests are the same on a base of the same length with the same named records
+  verdict-same : (other : List ℤ) → AnyWords base other → Agree (addressesRead (axesOf n) column row) base other → verdictOf (macroblockTests n other (pos column) (pos row) words) ≡ single
+  unfolding macroblockTests
+  verdict-same other l e =
+      let g = axesOf n in
+      let b : baseTest g other ≡ baseTest g base = ap (λ (k : ℕ). test (not (eqb k (recordWords * baseCount g))) (refusal 5)) l in
+      let r = tests-same base other (addressesRead g column row) e in
+      λ i. verdictOf (geometryTests n ++ (b i ∷ outputTest 1 words ∷ placeTest g (pos column) (pos row) ∷ r i))
+
+  -- other records, whatever they hold, change nothing
+  others-same : single ≡ Accepted → (other : List ℤ) → AnyWords base other → Agree (addressesNamed (axesOf n) (answerOf (axesOf n) base column row)) base other
+      → SinglyGives n column row words other (madeOf (axesOf n) base column row .answer) (madeOf (axesOf n) base column row .written)
+  others-same v other l e =
+      let g = axesOf n in
+      let read = subst (λ (l : List ℕ). Agree l base other) (sym (read-named g base column row (decided g base column row))) e in
+      let same = made-same n column row (geometry-accepted v) base other e in
+      subst (λ (m : Made). SinglyGives n column row words other (m .answer) (m .written)) same
+      (gives-made n column row words other (verdict-same other l read ∙ v))
+
+-- Demand 3 for the one-macroblock call: whatever it hands over.
+pub demand3-singly : (n : Numbers) (column row : ℕ) (words base : List ℤ) (answer : Answer) (written : List ℤ)
+    → SinglyGives n column row words base answer written → Demand3Singly n column row words base answer written
+demand3-singly n column row words base answer written e =
+    let g = axesOf n in
+    let v = singly-accepted n column row words base answer written e in
+    let made = madeOf g base column row in
+    let p = sym (gives-made n column row words base v) ∙ e in
+    let a : made .answer ≡ answer = cc (ap (λ (o : Outcome MacroblockReply). o .reply) p) in
+    let w : made .written ≡ written = ap (λ (o : Outcome MacroblockReply). o .words) p in
+    subst (λ (x : Answer). Demand3Singly n column row words base x written) a
+    (subst (λ (x : List ℤ). Demand3Singly n column row words base (made .answer) x) w
+    (promised n column row (geometry-accepted n column row words base v) base (AnyWords base) (SinglyGives n column row words) (others-same n column row words base v)))
+
+-- ---- made with the whole picture
+counts-not-refusal : {r : Refusal} {counts : Counts} → NotMade r ≡ Counted counts → ⊥
+counts-not-refusal e = let z : _≡_ {A = ℕ} 0 1 = cc in omega arith
+
+written-length : (answer : Answer) (m : List (List Motion)) → length (writtenFor answer m) ≡ recordWords
+unfolding writtenFor
+written-length Outside m = laid-length _ _ _
+written-length (Intra n) m = laid-length _ _ _
+written-length (Inherited n s) m = laid-length _ _ _
+
+made-length : (g : Axes) (base : List ℤ) (address : ℕ) → length (madeAt g base address .written) ≡ recordWords
+unfolding madeAt madeOf
+made-length g base address = written-length _ _
+
+module _ (n : Numbers) (words base : List ℤ) where
+  abbrev g : Axes
+  g = axesOf n
+
+  abbrev whole : Verdict
+  whole = verdictOf (pictureTests n base words)
+
+  -- what acceptance of a picture says
+  record Passed : Type 0 where
+    geometry : geometryVerdict n ≡ Accepted
+    base-length : baseTest g base .applies ≡ false
+    word-length : outputTest (fullCount g) words .applies ≡ false
+    formed : (a : ℕ) → a < baseCount g → wellFormed (recordAt base a) ≡ true
+
+  passed : whole ≡ Accepted → Passed
+  unfolding pictureTests
+  passed v =
+      let p = both-passed (geometryTests n) (baseTest g base ∷ outputTest (fullCount g) words ∷ recordTests base (allAddresses g)) v in
+      let q = first-passed (baseTest g base) (outputTest (fullCount g) words ∷ recordTests base (allAddresses g)) (p .1) in
+      let r = first-passed (outputTest (fullCount g) words) (recordTests base (allAddresses g)) (q .1) in
+      record { geometry = p .0; base-length = q .0; word-length = r .0; formed = λ a h. all-formed base (allAddresses g) (r .1) a (index-member (baseCount g) a h) }
+
+  accepted : Passed → whole ≡ Accepted
+  unfolding pictureTests
+  accepted p =
+      then-verdict (geometryTests n) _ (p .geometry) ∙ (no _ _ (p .base-length) ∙ (no _ _ (p .word-length)
+      ∙ formed-all base (allAddresses g) (λ a m. p .formed a (member-index (baseCount g) a m))))
+
+  counted-accepted : (counts : Counts) → pictureCall n base words .reply ≡ Counted counts → whole ≡ Accepted
+  unfolding pictureCall
+  counted-accepted counts e = reply-accepted whole NotMade words _ (Counted counts) (λ r q. counts-not-refusal q) e
+
+  picture-words : whole ≡ Accepted → pictureCall n base words .words ≡ forEach (upTo (fullCount g) (madeAt g base)) (λ m. m .written)
+  unfolding pictureCall
+  picture-words v =
+      ap (λ (w : Verdict). byVerdict w NotMade words (record { reply = Counted (countsOf (upTo (fullCount g) (madeAt g base))); words = forEach (upTo (fullCount g) (madeAt g base)) (λ m. m .written) }) .words) v
+
+  -- a macroblock of the picture
+  module _ (column row : ℕ) (x : column < macroblocks (fullSize (g .horizontal))) (y : row < macroblocks (fullSize (g .vertical))) where
+    -- the records that its call checks are records of the base
+    read-below : geometryVerdict n ≡ Accepted → (a : ℕ) → List·Memᴰ a (addressesRead g column row) → a < baseCount g
+    unfolding addressesRead
+    read-below k a m = by (inside g column row) refl
+      where
+        by : (b : Bool) → inside g column row ≡ b → a < baseCount g
+        by true e = address-below g column row (across-inside n column row k e) (down-inside n column row k e) (subst (List·Memᴰ a) (yes _ _ e) m)
+        by false e = absurd (List·Memᴰ·not-nil (subst (List·Memᴰ a) (no _ _ e) m))
+
+    within : (size k : ℕ) → k < macroblocks size → withinAxis size (pos k) ≡ true
+    within size k h = and-intro (le-leb 0 k (omega arith)) (lt-ltb k (macroblocks size) h)
+
+    -- so the one-macroblock call on the same base is accepted
+    alone-accepted : Passed → (alone : List ℤ) → length alone ≡ recordWords → verdictOf (macroblockTests n base (pos column) (pos row) alone) ≡ Accepted
+    unfolding macroblockTests
+    alone-accepted p alone l =
+        then-verdict (geometryTests n) _ (p .geometry) ∙ (no _ _ (p .base-length) ∙ (no _ _ (ap not (eq-eqb (length alone) recordWords l))
+        ∙ (no _ _ (ap not (and-intro (within (fullSize (g .horizontal)) column x) (within (fullSize (g .vertical)) row y)))
+        ∙ formed-all base (addressesRead g column row) (λ a m. p .formed a (read-below (p .geometry) a m)))))
+
+    -- and the record at its address is what is made of it
+    record-made : whole ≡ Accepted → recordAt (pictureCall n base words .words) (row * macroblocks (fullSize (g .horizontal)) + column) ≡ madeOf g base column row .written
+    unfolding madeAt
+    record-made v =
+        let width = macroblocks (fullSize (g .horizontal)) in
+        let address = row * width + column in
+        let p : address % width ≡ column = mul-add-mod-self-right row width column ∙ mod-eq-of-lt x in
+        let q : address / width ≡ row = div-eq-of-lt-le width (omega arith) (omega arith) in
+        ap (λ (l : List ℤ). recordAt l address) (picture-words v)
+        ∙ (record-of (madeAt g base) (λ m. m .written) (made-length g base) (fullCount g) address (omega (arith, mul-le-mul-right width y))
+        ∙ (λ i. madeOf g base (p i) (q i) .written))
+
+-- Demand 3 for the picture call: what stands at each macroblock's address, with the one-macroblock call's answer on the same base.
+pub demand3-picture : (n : Numbers) (words base : List ℤ) (counts : Counts) → pictureCall n base words .reply ≡ Counted counts
+    → (column row : ℕ) → column < macroblocks (fullSize (axesOf n .horizontal)) → row < macroblocks (fullSize (axesOf n .vertical))
+    → (alone : List ℤ) → length alone ≡ recordWords → (answer : Answer) (written : List ℤ) → PictureGives n column row words alone base answer written
+    → Demand3Picture n column row words alone base answer written
+demand3-picture n words base counts e column row x y alone l answer written given =
+    let g = axesOf n in
+    let v = counted-accepted n words base counts e in
+    let k = passed n words base v in
+    let made = madeOf g base column row in
+    let single = gives-made n column row alone base (alone-accepted n words base column row x y k alone l) in
+    let p = sym (ap (λ (o : Outcome MacroblockReply). o .reply) single) ∙ given .0 in
+    let a : made .answer ≡ answer = cc p in
+    let w : made .written ≡ written = sym (record-made n words base column row x y v) ∙ given .1 in
+    subst (λ (z : Answer). Demand3Picture n column row words alone base z written) a
+    (subst (λ (z : List ℤ). Demand3Picture n column row words alone base (made .answer) z) w
+    (promised n column row (k .geometry) base (WellFormedWords g base) (PictureGives n column row words alone) others))
+  where
+    others : (other : List ℤ) → WellFormedWords (axesOf n) base other → Agree (addressesNamed (axesOf n) (answerOf (axesOf n) base column row)) base other
+        → PictureGives n column row words alone other (madeOf (axesOf n) base column row .answer) (madeOf (axesOf n) base column row .written)
+    others other formed agree =
+        let g = axesOf n in
+        let k = passed n words base (counted-accepted n words base counts e) in
+        let b : baseTest g other .applies ≡ false = ap (λ (m : ℕ). not (eqb m (recordWords * baseCount g))) (formed .0) ∙ k .base-length in
+        let q : Passed n words other = record { geometry = k .geometry; base-length = b; word-length = k .word-length; formed = formed .1 } in
+        let v = accepted n words other q in
+        let same = made-same n column row (k .geometry) base other agree in
+        let single = gives-made n column row alone other (alone-accepted n words other column row x y q alone l) in (
+          ap (λ (o : Outcome MacroblockReply). o .reply) single ∙ ap (λ (m : Made). Answered (m .answer)) same,
+          record-made n words other column row x y v ∙ ap (λ (m : Made). m .written) same,
+        )

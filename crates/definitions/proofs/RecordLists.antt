@@ -1,0 +1,80 @@
+-- Lists of records: the tests of many records, and the records of a list made one after the other. Assumes nothing.
+use Prim.Native.Nat.{ℕ, zero, suc, _+_, _*_, _-_, _≤_, _<_}
+use mathlib.Core.Path.{_≡_, refl, sym, ap, subst, _∙_}
+use mathlib.Core.Bool.{Bool, true, false, not}
+use mathlib.Core.List.{List, [], _∷_, _++_, append-assoc, List·Memᴰ, List·Memᴰ·head, List·Memᴰ·tail, List·Memᴰ·cases-cons, List·Memᴰ·not-nil, Memᴰ·append-left, Memᴰ·append-right, List·Memᴰ·append-cases, List·Memᴰ·eq-of-singleton}
+use mathlib.Core.Logic.{⊎-elim}
+use native.Mathlib.Nat.{eq-or-lt-of-le, le-of-suc-le-suc, not-suc-le-zero}
+use native.Mathlib.Omega.{arith}
+use lib.IntN.{ℤ}
+use lib.ListN.{length, take, drop, length-append, length-drop}
+use lib.Seq.{take-append-le, drop-append-le, take-all, drop-at}
+use Rattle.definitions.specs.declared.Verdict.{Verdict}
+use Rattle.definitions.specs.declared.Verdict.the-variants.{Accepted, Refused}
+use Rattle.definitions.specs.Tests.{pick, upTo, forEach}
+use Rattle.definitions.specs.Record.{recordWords, recordAt, wellFormed}
+use Rattle.definitions.specs.Refusals.{Test, test, verdictOf, recordTest, recordTests}
+use Rattle.definitions.proofs.Choices.{no}
+use Rattle.definitions.proofs.Verdicts.{first-passed}
+
+-- ---- the tests of some records are passed exactly when each is well formed
+not-false : (b : Bool) → not b ≡ false → b ≡ true
+not-false true e = refl
+not-false false e = sym e
+
+pub all-formed : (base : List ℤ) (addresses : List ℕ) → verdictOf (recordTests base addresses) ≡ Accepted → (a : ℕ) → List·Memᴰ a addresses → wellFormed (recordAt base a) ≡ true
+unfolding recordTests
+all-formed base [] v a m = absurd (List·Memᴰ·not-nil m)
+all-formed base (b ∷ rest) v a m =
+    let h = first-passed (recordTest base b) (recordTests base rest) v in
+    ⊎-elim (λ e. ap (λ (c : ℕ). wellFormed (recordAt base c)) e ∙ not-false (wellFormed (recordAt base b)) (h .0)) (λ t. all-formed base rest (h .1) a t) (List·Memᴰ·cases-cons m)
+
+pub formed-all : (base : List ℤ) (addresses : List ℕ) → ((a : ℕ) → List·Memᴰ a addresses → wellFormed (recordAt base a) ≡ true) → verdictOf (recordTests base addresses) ≡ Accepted
+unfolding recordTests
+formed-all base [] f = refl
+formed-all base (b ∷ rest) f =
+    no _ _ (ap not (f b (List·Memᴰ·head refl))) ∙ formed-all base rest (λ a m. f a (List·Memᴰ·tail m))
+
+-- ---- the members of 0, 1, .. n−1
+pub index-member : (n a : ℕ) → a < n → List·Memᴰ a (upTo n (λ k. k))
+unfolding upTo
+index-member zero a h = absurd (not-suc-le-zero h)
+index-member (suc n) a h =
+    ⊎-elim (λ e. Memᴰ·append-right (upTo n (λ k. k)) (List·Memᴰ·head e)) (λ l. Memᴰ·append-left (n ∷ []) (index-member n a l)) (eq-or-lt-of-le (le-of-suc-le-suc h))
+
+pub member-index : (n a : ℕ) → List·Memᴰ a (upTo n (λ k. k)) → a < n
+unfolding upTo
+member-index zero a m = absurd (List·Memᴰ·not-nil m)
+member-index (suc n) a m =
+    ⊎-elim (λ l. let h = member-index n a l in omega arith) (λ l. let e = List·Memᴰ·eq-of-singleton l in omega arith) (List·Memᴰ·append-cases (upTo n (λ k. k)) m)
+
+-- ---- records one after the other
+pub joined-each : {A B : Type 0} (f : A → List B) (xs ys : List A) → forEach (xs ++ ys) f ≡ forEach xs f ++ forEach ys f
+joined-each f [] ys = refl
+joined-each f (x ∷ xs) ys = ap (λ (l : List _). f x ++ l) (joined-each f xs ys) ∙ sym (append-assoc (f x) (forEach xs f) (forEach ys f))
+
+module _ {A : Type 0} (f : ℕ → A) (words : A → List ℤ) (whole : (k : ℕ) → length (words (f k)) ≡ recordWords) where
+  abbrev first : ℕ → List ℤ
+  first n = forEach (upTo n f) words
+
+  first-more : (n : ℕ) → first (suc n) ≡ first n ++ (words (f n) ++ [])
+  unfolding upTo
+  first-more n = joined-each words (upTo n f) (f n ∷ [])
+
+  pub first-length : (n : ℕ) → length (first n) ≡ recordWords * n
+  unfolding upTo
+  first-length zero = refl
+  first-length (suc n) = ap length (first-more n) ∙ simp (length-append, first-length n, whole) (omega arith)
+
+  -- the record at an address is the one that was put there
+  pub record-of : (n a : ℕ) → a < n → recordAt (first n) a ≡ words (f a)
+  unfolding recordAt
+  record-of zero a h = absurd (not-suc-le-zero h)
+  record-of (suc n) a h =
+      ap (λ (l : List ℤ). recordAt l a) (first-more n)
+      ∙ ⊎-elim
+      (λ e. ap (take recordWords) (drop-at (first n) (words (f n) ++ []) (recordWords * a) (first-length n ∙ ap (λ (k : ℕ). recordWords * k) (sym e)))
+      ∙ (take-append-le recordWords (words (f n)) [] (omega (arith, whole n)) ∙ (take-all recordWords (words (f n)) (omega (arith, whole n)) ∙ ap (λ (k : ℕ). words (f k)) (sym e))))
+      (λ l. ap (take recordWords) (drop-append-le (recordWords * a) (first n) (words (f n) ++ []) (omega (arith, first-length n)))
+      ∙ (take-append-le recordWords (drop (recordWords * a) (first n)) (words (f n) ++ []) (omega (arith, first-length n, length-drop (recordWords * a) (first n))) ∙ record-of n a l))
+      (eq-or-lt-of-le (le-of-suc-le-suc h))
