@@ -1,8 +1,8 @@
 -- The three cases of an answer, each with what decides it (specs/Answer). Assumes nothing.
 use Prim.Native.Nat.{ℕ, _≤_, _<_}
-use mathlib.Core.Path.{_≡_, refl, sym, subst, _∙_}
+use mathlib.Core.Path.{_≡_, refl, sym, ap, subst, _∙_}
 use mathlib.Core.Bool.{Bool, true, false}
-use mathlib.Core.List.{List}
+use mathlib.Core.List.{List, []}
 use native.Mathlib.Omega.{arith}
 use lib.Count.{ones}
 use lib.Dec.{leb}
@@ -14,7 +14,7 @@ use Rattle.definitions.specs.declared.Answer.the-variants.{Outside, Intr
 use Rattle.definitions.specs.Tests.{pick}
 use Rattle.definitions.specs.Geometry.{inside}
 use Rattle.definitions.specs.Inheriting.{intraSet, mostlyIntra, inheritedMotions, chosen}
-use Rattle.definitions.specs.Answer.{namedAt, answerOf}
+use Rattle.definitions.specs.Answer.{namedAt, answerOf, writtenFor, madeOf}
 use Rattle.definitions.proofs.Choices.{yes, no}
 
 -- an answer, and why it is the one
@@ -39,3 +39,8 @@ module _ (g : Axes) (base : List ℤ) (column row : ℕ) where
 
   pub decided : Decided g base column row (answerOf g base column row)
   decided = by-window (inside g column row) refl
+
+  -- outside nothing of the base is read
+  pub made-outside : inside g column row ≡ false → madeOf g base column row ≡ record { answer = Outside; written = writtenFor Outside [] }
+  unfolding madeOf answerOf writtenFor
+  made-outside e = ap (λ (a : Answer). record { answer = a; written = writtenFor a (inheritedMotions g base column row) }) (no _ _ e)

@@ -38,7 +38,7 @@ use Rattle.definitions.proofs.Choices.{yes, no, and-true, and-intro}
 use Rattle.definitions.proofs.Verdicts.{first-passed, both-passed, then-verdict, reply-accepted}
 use Rattle.definitions.proofs.RecordLists.{all-formed, formed-all, index-member, member-index, record-of}
 use Rattle.definitions.proofs.Accepted.{accepted-axes, inside-axis}
-use Rattle.definitions.proofs.Answers.{Decided, is-outside, is-intra, is-inherited, decided}
+use Rattle.definitions.proofs.Answers.{Decided, is-outside, is-intra, is-inherited, decided, made-outside}
 use Rattle.definitions.proofs.Sameness.{same-made}
 use Rattle.definitions.proofs.Addresses.{address-named, address-below}
 use Rattle.definitions.proofs.Pieces.{covered}
@@ -65,10 +65,6 @@ module _ (g : Axes) (base : List ℤ) (column row : ℕ) where
   read-named (is-outside e) = no _ _ e
   read-named (is-intra e m) = yes _ _ e
   read-named (is-inherited e m) = yes _ _ e
-
-  made-outside : inside g column row ≡ false → madeOf g base column row ≡ record { answer = Outside; written = writtenFor Outside [] }
-  unfolding madeOf answerOf writtenFor
-  made-outside e = ap (λ (a : Answer). record { answer = a; written = writtenFor a (inheritedMotions g base column row) }) (no _ _ e)
 
 -- ---- an accepted geometry, and a macroblock inside
 module _ (n : Numbers) (column row : ℕ) (accepted : geometryVerdict n ≡ Accepted) where

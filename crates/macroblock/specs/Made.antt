@@ -1,0 +1,73 @@
+-- What is made of a macroblock inside, as a function of what its axes give and of the base: document 01's, with the axes' part worked out once.
+use Prim.Native.Nat.{ℕ, _+_, _*_, _/_, _%_, _≤_, _<_}
+use mathlib.Core.Path.{_≡_}
+use mathlib.Core.Bool.{true, false, _&&_}
+use mathlib.Core.List.{List, [], _∷_}
+use lib.IntN.{ℤ, pos}
+use lib.ListN.{length, getD}
+use Rattle.definitions.specs.declared.Axis.{Axis}
+use Rattle.definitions.specs.declared.Axes.{Axes}
+use Rattle.definitions.specs.declared.AxisStep.{AxisStep}
+use Rattle.definitions.specs.declared.Motion.{Motion}
+use Rattle.definitions.specs.declared.Named.{Named}
+use Rattle.definitions.specs.declared.Answer.{Answer}
+use Rattle.definitions.specs.declared.Answer.the-variants.{Outside, Intra, Inherited}
+use Rattle.macroblock.specs.declared.AxisRead.{AxisRead}
+use Rattle.definitions.specs.Tests.{pick, four}
+use Rattle.definitions.specs.Geometry.{baseSize, classOf, macroblocks, insideAxis, sampleOf}
+use Rattle.definitions.specs.BlockMap.{columnOf, placeIn, stepOf}
+use Rattle.definitions.specs.Splits.{rasterOf}
+use Rattle.definitions.specs.Record.{recordWords, recordAt, isIntra, motionOf, wellFormed}
+use Rattle.definitions.specs.Inheriting.{setOf, mostlyIntra, at, resolved, scaledMotion, chosen}
+use Rattle.definitions.specs.Answer.{Made, writtenFor}
+
+-- The coordinates that the blocks read along the two axes, and how many macroblocks wide the base is: the address and the block that block i reads
+abbrev pub addressBy : ℕ → List ℕ → List ℕ → ℕ → ℕ
+addressBy width across down i = columnOf (getD down (i / 4) 0) * width + columnOf (getD across (i % 4) 0)
+
+abbrev pub blockBy : List ℕ → List ℕ → ℕ → ℕ
+blockBy across down i = 4 * placeIn (getD down (i / 4) 0) + placeIn (getD across (i % 4) 0)
+
+abbrev pub readBy : ℕ → List ℕ → List ℕ → List ℤ → ℕ → List ℤ
+readBy width across down base i = recordAt base (addressBy width across down i)
+
+unfoldable pub setBy : ℕ → List ℕ → List ℕ → List ℤ → ℕ
+setBy width across down base = setOf 16 (λ i. isIntra (readBy width across down base i))
+
+unfoldable pub motionBy : ℕ → List ℕ → List ℕ → List ℤ → ℕ → Motion
+motionBy width across down base i = motionOf (readBy width across down base i) (blockBy across down i)
+
+unfoldable pub gatheredBy : ℕ → List ℕ → List ℕ → List ℤ → List (List Motion)
+gatheredBy width across down base = four (λ q. four (λ k. motionBy width across down base (rasterOf q k)))
+
+abbrev pub namedBy : AxisStep → AxisStep → Named
+namedBy h v = record { class = classOf (h .two) (v .two); column = h .first; row = v .first }
+
+unfoldable pub motionsBy : Axes → AxisStep → AxisStep → List ℤ → List (List Motion)
+motionsBy g h v base =
+    let width = macroblocks (baseSize (g .horizontal)) in
+    four (λ q. four (λ k. scaledMotion g (at (resolved (setBy width (h .reads) (v .reads) base) (gatheredBy width (h .reads) (v .reads) base)) q k)))
+
+unfoldable pub answerBy : Axes → AxisStep → AxisStep → List ℤ → Answer
+answerBy g h v base =
+    pick (mostlyIntra (setBy (macroblocks (baseSize (g .horizontal))) (h .reads) (v .reads) base)) (Intra (namedBy h v)) (Inherited (namedBy h v) (chosen (motionsBy g h v base)))
+
+unfoldable pub madeBy : Axes → AxisStep → AxisStep → List ℤ → Made
+madeBy g h v base = record { answer = answerBy g h v base; written = writtenFor (answerBy g h v base) (motionsBy g h v base) }
+
+-- the records that the blocks read lie in the base and are well formed
+pub record Readable (width : ℕ) (across down : List ℕ) (base : List ℤ) : Type 0 where
+  pub low : (i : ℕ) → i < 16 → addressBy width across down i < 65536
+  pub fits : (i : ℕ) → i < 16 → (addressBy width across down i + 1) * recordWords ≤ length base
+  pub formed : (i : ℕ) → i < 16 → wellFormed (readBy width across down base i) ≡ true
+
+-- An axis at macroblock x: whether it is inside there, and then its step
+abbrev pub noStep : AxisStep
+noStep = record { k = 0; border = record { 0 = pos 0 }; border8 = record { 0 = pos 0 }; first = 0; two = false; reads = 0 ∷ 0 ∷ 0 ∷ 0 ∷ [] }
+
+unfoldable pub readOf : Axis → ℕ → AxisRead
+readOf a x = record { inside = insideAxis a (sampleOf x); step = pick (insideAxis a (sampleOf x)) (stepOf a (sampleOf x)) noStep }
+
+-- What is made of any macroblock: outside no record is read
+unfoldable pub placedBy : Axes → AxisRead → AxisRead → List ℤ → Made
+placedBy g h v base = pick (h .inside && v .inside) (madeBy g (h .step) (v .step) base) (record { answer = Outside; written = writtenFor Outside [] })
