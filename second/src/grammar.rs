@@ -233,3 +233,6 @@ impl Machine {
         }
     }
 }
+
+#[cfg(test)]
+mod tests;

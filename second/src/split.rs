@@ -185,7 +185,7 @@ mod tests {
     #[test]
     fn quick_is_the_search() {
         let mut random = Random(7);
-        for round in 0..20_000 {
+        for round in 0..4_000 {
             let blocks = random_blocks(&mut random, round % 5);
             let best = reference::best(&blocks);
             assert_eq!(best, [fewest_pieces(&to_quadrants(&blocks))]);

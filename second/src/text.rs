@@ -15,12 +15,15 @@ pub const TEXT_WORDS: usize = TEXT_RECORDS * WORDS;
 
 /// The numbers on a line of a text that belongs to the grammar.
 fn numbers(line: &[u8]) -> impl Iterator<Item = i16> + '_ {
-    line.split(|byte| !matches!(byte, b'-' | b'0'..=b'9')).filter(|digits| !digits.is_empty()).map(|digits| {
-        digits.iter().fold((0i32, 1), |(value, sign), &digit| match digit {
-            b'-' => (value, -1),
-            _ => (10 * value + (digit - b'0') as i32, sign),
+    line.split(|byte| !matches!(byte, b'-' | b'0'..=b'9'))
+        .filter(|digits| !digits.is_empty())
+        .map(|digits| {
+            digits.iter().fold((0i32, 1), |(value, sign), &digit| match digit {
+                b'-' => (value, -1),
+                _ => (10 * value + (digit - b'0') as i32, sign),
+            })
         })
-    }).map(|(value, sign)| (sign * value) as i16)
+        .map(|(value, sign)| (sign * value) as i16)
 }
 
 /// Reads a record line.

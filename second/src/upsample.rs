@@ -250,13 +250,7 @@ impl<'a> Prepared<'a> {
 }
 
 /// The one-macroblock call.
-pub fn macroblock(
-    numbers: Numbers,
-    base: &[i16],
-    column: i32,
-    row: i32,
-    out: &mut [i16],
-) -> Result<Answer, Refusal> {
+pub fn macroblock(numbers: Numbers, base: &[i16], column: i32, row: i32, out: &mut [i16]) -> Result<Answer, Refusal> {
     macroblock_of(&Geometry::new(numbers)?, base, column, row, out)
 }
 

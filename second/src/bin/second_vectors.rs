@@ -57,7 +57,11 @@ fn singly(numbers: Numbers, base: &[i16], out: &[i16], accepted: bool) -> Result
         counts.add(single.map_or(Kind::Outside, |answer| answer.kind));
     }
     let (_, totals) = session.totals();
-    if totals == counts { Ok(()) } else { Err(format!("totals {totals:?}")) }
+    if totals == counts {
+        Ok(())
+    } else {
+        Err(format!("totals {totals:?}"))
+    }
 }
 
 fn try_picture(input: &str, expected: &str) -> Result<(), String> {
@@ -105,5 +109,9 @@ fn main() -> ExitCode {
         tell(&path, try_picture(&read(&path), &read(&path.with_extension("out"))));
     }
     println!("{tried} tried, {failed} differ");
-    if failed == 0 && tried > 0 { ExitCode::SUCCESS } else { ExitCode::FAILURE }
+    if failed == 0 && tried > 0 {
+        ExitCode::SUCCESS
+    } else {
+        ExitCode::FAILURE
+    }
 }
