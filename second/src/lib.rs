@@ -1,0 +1,24 @@
+//! A second implementation of document 01, motion upsampling between two
+//! layers of a track clip. Written from the papers alone, in plain Rust and
+//! without other crates, to be compared with the proved library.
+
+pub mod geometry;
+pub mod grammar;
+pub mod inherit;
+pub mod log;
+pub mod map;
+pub mod record;
+pub mod refusal;
+pub mod session;
+pub mod split;
+pub mod text;
+pub mod upsample;
+
+pub use geometry::Numbers;
+pub use log::log;
+pub use record::WORDS;
+pub use refusal::Refusal;
+pub use session::Session;
+pub use split::{Split, SubSplit};
+pub use text::{text, TEXT_RECORDS, TEXT_WORDS};
+pub use upsample::{macroblock, picture, Answer, Class, Counts, Kind};

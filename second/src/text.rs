@@ -1,0 +1,81 @@
+//! The sync text's reader. The machine of `grammar` judges the text; what
+//! belongs is then read line by line without further tests.
+
+use crate::geometry::Numbers;
+use crate::grammar::Machine;
+use crate::record::{write_without_motion, Record, REFERENCES, TYPE_INTRA, VECTORS, WORDS};
+use crate::refusal::Refusal;
+
+/// Longest text, in bytes.
+pub const TEXT_LIMIT: usize = 65_536;
+/// Most record lines.
+pub const TEXT_RECORDS: usize = 99;
+/// Words to be lent for them.
+pub const TEXT_WORDS: usize = TEXT_RECORDS * WORDS;
+
+/// The numbers on a line of a text that belongs to the grammar.
+fn numbers(line: &[u8]) -> impl Iterator<Item = i16> + '_ {
+    line.split(|byte| !matches!(byte, b'-' | b'0'..=b'9'))
+        .filter(|digits| !digits.is_empty())
+        .map(|digits| {
+            digits.iter().fold((0i32, 1), |(value, sign), &digit| match digit {
+                b'-' => (value, -1),
+                _ => (10 * value + (digit - b'0') as i32, sign),
+            })
+        })
+        .map(|(value, sign)| (sign * value) as i16)
+}
+
+/// Reads a record line.
+fn read_record(line: &[u8], record: &mut Record) {
+    match line[1] {
+        b'i' => write_without_motion(record, TYPE_INTRA),
+        b'w' => {
+            let mut six = [0; 6];
+            six.iter_mut().zip(numbers(line)).for_each(|(word, number)| *word = number);
+            record[..REFERENCES].copy_from_slice(&[1, 0, 0, 0, 0]);
+            for references in record[REFERENCES..VECTORS].chunks_exact_mut(2) {
+                references.copy_from_slice(&six[..2]);
+            }
+            for vectors in record[VECTORS..].chunks_exact_mut(4) {
+                vectors.copy_from_slice(&six[2..]);
+            }
+        }
+        _ => record.iter_mut().zip(numbers(line)).for_each(|(word, number)| *word = number),
+    }
+}
+
+/// The forms differ in their first letter.
+fn is_head(line: &&[u8]) -> bool {
+    matches!(line[1], b'b' | b's' | b'a' | b'f')
+}
+
+fn is_record(line: &&[u8]) -> bool {
+    matches!(line[1], b'i' | b'w' | b'm')
+}
+
+/// The text call: the geometry's numbers and the count of record lines, whose
+/// words stand first in `words`. Refusals 6, 10 by length, 9, 10 by lines.
+pub fn text(bytes: &[u8], words: &mut [i16]) -> Result<(Numbers, u32), Refusal> {
+    if words.len() != TEXT_WORDS {
+        return Err(Refusal::of(6));
+    }
+    if bytes.len() > TEXT_LIMIT {
+        return Err(Refusal::of(10));
+    }
+    if let Err(offset) = Machine::sync_text().belongs(bytes) {
+        return Err(Refusal::grammar(offset as u32));
+    }
+    let lines = || bytes.split(|&byte| byte == b'\n').filter(|line| !line.is_empty());
+    let count = lines().filter(is_record).count();
+    if count > TEXT_RECORDS {
+        return Err(Refusal::of(10));
+    }
+    for (line, record) in lines().filter(is_record).zip(words.as_chunks_mut().0) {
+        read_record(line, record);
+    }
+    let mut eight = [0; 8];
+    let heads = lines().filter(is_head).flat_map(numbers);
+    eight.iter_mut().zip(heads).for_each(|(word, number)| *word = number as i32);
+    Ok((Numbers::from_array(eight), count as u32))
+}

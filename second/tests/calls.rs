@@ -1,0 +1,298 @@
+//! The one-macroblock call, the picture call and the session.
+
+mod common;
+
+use common::*;
+use second::{macroblock, picture, Answer, Class, Counts, Kind, Numbers, Refusal, Session, Split, WORDS};
+
+const UNTOUCHED: i16 = -12_345;
+
+/// The call's result; refused, it has left the words as they were.
+fn one(numbers: Numbers, base: &[i16], column: i32, row: i32, words: usize) -> (Result<Answer, Refusal>, Vec<i16>) {
+    let mut out = vec![UNTOUCHED; words];
+    let result = macroblock(numbers, base, column, row, &mut out);
+    if result.is_err() {
+        assert!(out.iter().all(|&word| word == UNTOUCHED));
+    }
+    (result, out)
+}
+
+fn refusal(number: u32) -> Refusal {
+    Refusal { number, place: 0, rule: 0 }
+}
+
+fn malformed(place: u32, rule: u32) -> Refusal {
+    Refusal { number: 8, place, rule }
+}
+
+/// Bench example: B S 32, o 4, both axes, macroblock at 16,16.
+#[test]
+fn bench_center() {
+    let numbers = Numbers::from_array([32, 32, 32, 32, 4, 4, 48, 48]);
+    let motion = whole([2, -1], [5, -7, 0, 0]);
+
+    let base = [intra(), intra(), intra(), motion].concat();
+    let (result, out) = one(numbers, &base, 1, 1, WORDS);
+    let inherited = Kind::Inherited(Split::S16x16);
+    assert_eq!(result, Ok(Answer { kind: inherited, class: Class::Center, first_column: 0, first_row: 0 }));
+    assert_eq!(out, motion);
+
+    let base = [motion, motion, motion, intra()].concat();
+    let (result, out) = one(numbers, &base, 1, 1, WORDS);
+    assert_eq!(result, Ok(Answer { kind: Kind::Intra, class: Class::Center, first_column: 0, first_row: 0 }));
+    assert_eq!(out, intra());
+}
+
+/// Bench examples for one axis, seen in the answers.
+#[test]
+fn bench_axes_in_answers() {
+    let ask = |b: i32, s: i32, o: i32, column: i32| {
+        let numbers = Numbers::from_array([b, 16, s, 16, o, 0, 96, 16]);
+        let base = base_of(&mut Random(1), (b / 16) as usize, &[1, 2, 3, 4], 8191);
+        let answer = one(numbers, &base, column, 0, WORDS).0.unwrap();
+        (answer.class, answer.first_column, answer.kind != Kind::Outside)
+    };
+    assert_eq!(ask(32, 48, 0, 0), (Class::Corner, 0, true));
+    assert_eq!(ask(32, 48, 0, 1), (Class::Vert, 0, true));
+    assert_eq!(ask(32, 48, 0, 2), (Class::Corner, 1, true));
+    assert_eq!(ask(16, 16, 0, 0), (Class::Corner, 0, true));
+    assert_eq!(ask(32, 64, 6, 0), (Class::Corner, 0, false));
+    assert_eq!(ask(32, 64, 6, 1), (Class::Corner, 0, true));
+    assert_eq!(ask(32, 64, 6, 2), (Class::Vert, 0, true));
+}
+
+/// Bench example: scaled words, seen in a written record.
+#[test]
+fn bench_scaling_in_records() {
+    let numbers = Numbers::from_array([32, 32, 48, 64, 0, 0, 16, 16]);
+    let base = whole([0, 1], [3, 8191, -3, -8192]).repeat(4);
+    let (_, out) = one(numbers, &base, 0, 0, WORDS);
+    assert_eq!(out, whole([0, 1], [5, 16382, -5, -16384]));
+}
+
+#[test]
+fn refusals_in_order() {
+    let good = Numbers::from_array([32, 32, 32, 32, 0, 0, 32, 32]);
+    let mut base = base_of(&mut Random(2), 4, &[1], 8191);
+    assert!(one(good, &base, 1, 1, WORDS).0.is_ok());
+    base[3 * WORDS] = 9;
+    let bad_record = base.clone();
+    assert_eq!(one(good, &bad_record, 1, 1, WORDS).0, Err(malformed(3, 1)));
+    for (column, row) in [(-1, 0), (0, -1), (2, 0), (0, 2), (i32::MIN, i32::MAX), (i32::MAX, 0)] {
+        assert_eq!(one(good, &bad_record, column, row, WORDS).0, Err(refusal(7)));
+    }
+    for words in [0, 76, 78, 154] {
+        assert_eq!(one(good, &bad_record, -1, 0, words).0, Err(refusal(6)));
+    }
+    for length in [0, 1, 4 * WORDS - 1, 3 * WORDS] {
+        assert_eq!(one(good, &bad_record[..length], -1, 0, 0).0, Err(refusal(5)));
+    }
+    for (at, value, number) in [(4, 1, 4), (2, 34 + 32, 3), (7, 0, 2), (1, 8, 1)] {
+        let mut eight = [32, 32, 32, 32, 0, 0, 32, 32];
+        eight[at] = value;
+        assert_eq!(one(Numbers::from_array(eight), &[], -1, -1, 0).0, Err(refusal(number)));
+        let mut out = [];
+        assert_eq!(picture(Numbers::from_array(eight), &[], &mut out), Err(refusal(number)));
+    }
+    // The picture call: 5, 6, 8.
+    let mut out = vec![UNTOUCHED; 4 * WORDS];
+    assert_eq!(picture(good, &bad_record[1..], &mut out), Err(refusal(5)));
+    assert_eq!(picture(good, &bad_record, &mut out[1..]), Err(refusal(6)));
+    assert_eq!(picture(good, &bad_record, &mut out), Err(malformed(3, 1)));
+    assert!(out.iter().all(|&word| word == UNTOUCHED));
+}
+
+/// The lowest malformed address among those read, whatever rules are broken.
+#[test]
+fn places_of_malformed_records() {
+    let numbers = Numbers::from_array([32, 32, 32, 32, 4, 4, 48, 48]);
+    let mut base = base_of(&mut Random(3), 4, &[1], 8191);
+    base[2 * WORDS + 1] = 1;
+    base[3 * WORDS] = 7;
+    assert_eq!(one(numbers, &base, 1, 1, WORDS).0, Err(malformed(2, 2)));
+    // Outside the window no record is read.
+    let (result, out) = one(numbers, &base, 0, 0, WORDS);
+    assert_eq!(result, Ok(Answer { kind: Kind::Outside, class: Class::Corner, first_column: 0, first_row: 0 }));
+    let mut outside = intra();
+    outside[0] = 5;
+    assert_eq!(out, outside);
+    // The picture checks all, even with the window off the picture.
+    let away = Numbers::from_array([32, 32, 32, 32, 400, 4, 48, 48]);
+    let mut words = vec![UNTOUCHED; 9 * WORDS];
+    assert_eq!(picture(away, &base, &mut words), Err(malformed(2, 2)));
+    assert!(words.iter().all(|&word| word == UNTOUCHED));
+}
+
+/// The pieces of a written record's split have one motion each.
+fn pieces_are_even(out: &[i16]) -> bool {
+    (0..16).all(|b| {
+        let q = b / 8 * 2 + b % 4 / 2;
+        let (width, height) = match (out[0], out[1 + q]) {
+            (1, 0) => (16, 16),
+            (2, 0) => (16, 8),
+            (3, 0) => (8, 16),
+            (4, 0) => (8, 8),
+            (4, 1) => (8, 4),
+            (4, 2) => (4, 8),
+            (4, 3) => (4, 4),
+            _ => return false,
+        };
+        let lead = b / 4 * 4 / height * height / 4 * 4 + b % 4 * 4 / width * width / 4;
+        let lead_q = lead / 8 * 2 + lead % 4 / 2;
+        out[13 + 4 * b..17 + 4 * b] == out[13 + 4 * lead..17 + 4 * lead]
+            && out[5 + 2 * q..7 + 2 * q] == out[5 + 2 * lead_q..7 + 2 * lead_q]
+    })
+}
+
+/// Over random pictures: the picture, the single calls and a session agree;
+/// records that are not named may hold anything; windows and pieces are right.
+#[test]
+fn picture_single_and_session() {
+    let mut random = Random(77);
+    let mut seen = Counts::default();
+    for round in 0..600 {
+        let numbers = geometry(&mut random);
+        let kinds: &[i16] = [&[0, 1, 2, 3, 4][..], &[1, 4], &[0, 0, 4], &[0, 1]][round % 4];
+        let span = if random.below(2) == 0 { 1 } else { 8191 };
+        let base = base_of(&mut random, base_records(numbers), kinds, span);
+        let mut out = vec![UNTOUCHED; full_records(numbers) * WORDS];
+        let counts = picture(numbers, &base, &mut out).unwrap();
+        let mut singly = Counts::default();
+        let (mut session, begun) = Session::fresh().begin(numbers);
+        assert_eq!(begun, Ok(()));
+        for (address, record) in out.chunks(WORDS).enumerate() {
+            let width = numbers.full_width as usize / 16;
+            let (column, row) = ((address % width) as i32, (address / width) as i32);
+            let (result, words) = one(numbers, &base, column, row, WORDS);
+            let answer = result.unwrap();
+            assert_eq!(words, record);
+            assert_eq!(answer.type_number(), record[0]);
+            singly.add(answer.kind);
+
+            let mut words = [UNTOUCHED; WORDS];
+            let (handed_back, next) = session.next(&base, &mut words);
+            session = handed_back;
+            assert_eq!((next, &words[..]), (Ok(answer), record));
+
+            let inside = |p: i32, o: i32, s: i32| o <= p && p + 16 <= o + s;
+            let is_inside = inside(16 * column, numbers.offset_x, numbers.scaled_width)
+                && inside(16 * row, numbers.offset_y, numbers.scaled_height);
+            assert_eq!(answer.kind != Kind::Outside, is_inside);
+            if let Kind::Inherited(split) = answer.kind {
+                assert!(pieces_are_even(record));
+                assert_eq!((split.number(), &split.sub_numbers()[..]), (record[0], &record[1..5]));
+            }
+
+            // Anything in the records that are not named.
+            let (columns, rows) = match answer.class {
+                _ if answer.kind == Kind::Outside => (0, 0),
+                Class::Corner => (1, 1),
+                Class::Vert => (2, 1),
+                Class::Hori => (1, 2),
+                Class::Center => (2, 2),
+            };
+            let mut other = base.clone();
+            for (at, words) in other.chunks_mut(WORDS).enumerate() {
+                let base_width = numbers.base_width / 16;
+                let (x, y) = (at as i32 % base_width - answer.first_column, at as i32 / base_width - answer.first_row);
+                if !((0..columns).contains(&x) && (0..rows).contains(&y)) {
+                    words.iter_mut().for_each(|word| *word = random.within(-32768, 32767) as i16);
+                }
+            }
+            let (result, words) = one(numbers, &other, column, row, WORDS);
+            assert_eq!((result, &words[..]), (Ok(answer), record));
+        }
+        assert_eq!(counts, singly);
+        assert_eq!(counts.sum() as usize, full_records(numbers));
+        let (session, totals) = session.totals();
+        assert_eq!(totals, counts);
+        assert_eq!(session.next(&base, &mut [0; WORDS]).1, Err(refusal(21)));
+        seen.inherited += counts.inherited;
+        seen.intra += counts.intra;
+        seen.outside += counts.outside;
+    }
+    assert!(seen.inherited > 500 && seen.intra > 500 && seen.outside > 500, "{seen:?}");
+}
+
+/// The largest counts: 65,536 macroblocks.
+#[test]
+fn largest_picture() {
+    let numbers = Numbers::from_array([4096, 4096, 8192, 8192, 0, 0, 4096, 4096]);
+    let base = whole([0, -1], [1, 1, 0, 0]).repeat(65_536);
+    let mut out = vec![0; 65_536 * WORDS];
+    assert_eq!(picture(numbers, &base, &mut out), Ok(Counts { inherited: 65_536, intra: 0, outside: 0 }));
+    let mut bad = base.clone();
+    bad[65_535 * WORDS + 76] = 1;
+    assert_eq!(picture(numbers, &bad, &mut out), Err(malformed(65_535, 5)));
+}
+
+#[test]
+fn session_states() {
+    let numbers = Numbers::from_array([16, 16, 32, 32, 0, 0, 48, 32]);
+    let bad_numbers = Numbers::from_array([16, 16, 34, 32, 0, 0, 48, 32]);
+    let base = whole([0, -1], [4, -8, 0, 0]);
+    let mut words = [UNTOUCHED; WORDS];
+    let fresh = Session::fresh();
+
+    // Nothing begun.
+    let (session, result) = fresh.clone().next(&base, &mut words);
+    assert_eq!((&session, result), (&fresh, Err(refusal(20))));
+    let (session, result) = session.abandon();
+    assert_eq!((&session, result), (&fresh, Err(refusal(20))));
+    let (session, result) = session.begin(bad_numbers);
+    assert_eq!((&session, result), (&fresh, Err(refusal(3))));
+    let (session, totals) = session.totals();
+    assert_eq!(totals, Counts::default());
+
+    // Begun: unfinished from the start, and 22 precedes 1 to 4.
+    let (session, result) = session.begin(numbers);
+    assert_eq!(result, Ok(()));
+    let before = session.clone();
+    for again in [numbers, bad_numbers] {
+        let (after, result) = before.clone().begin(again);
+        assert_eq!((&after, result), (&before, Err(refusal(22))));
+    }
+
+    // Refused next calls change nothing.
+    let (session, result) = session.next(&base[1..], &mut words[1..]);
+    assert_eq!((&session, result), (&before, Err(refusal(5))));
+    let (session, result) = session.next(&base, &mut words[1..]);
+    assert_eq!((&session, result), (&before, Err(refusal(6))));
+    let mut broken = base;
+    broken[0] = 6;
+    let (mut session, result) = session.next(&broken, &mut words);
+    assert_eq!((&session, result), (&before, Err(malformed(0, 1))));
+    assert_eq!(words, [UNTOUCHED; WORDS]);
+
+    // Two accepted, then abandoned.
+    for _ in 0..2 {
+        session = session.next(&base, &mut words).0;
+    }
+    let (session, totals) = session.totals();
+    assert_eq!(totals, Counts { inherited: 2, intra: 0, outside: 0 });
+    let (session, result) = session.abandon();
+    assert_eq!((&session, result), (&fresh, Ok(())));
+
+    // To the end: the third and sixth are outside and read no record.
+    let (mut session, _) = session.begin(numbers);
+    for address in 0..6 {
+        let lent = if address % 3 == 2 { &broken } else { &base };
+        let (after, result) = session.next(lent, &mut words);
+        assert!(result.is_ok());
+        session = after;
+    }
+    let finished = session.clone();
+    words = [UNTOUCHED; WORDS];
+    let (session, result) = session.next(&[], &mut words);
+    assert_eq!((&session, result), (&finished, Err(refusal(21))));
+    let (session, result) = session.abandon();
+    assert_eq!((&session, result), (&finished, Err(refusal(21))));
+    let (session, result) = session.begin(bad_numbers);
+    assert_eq!((&session, result), (&finished, Err(refusal(3))));
+    assert_eq!(words, [UNTOUCHED; WORDS]);
+    let (session, totals) = session.totals();
+    assert_eq!(totals, Counts { inherited: 4, intra: 0, outside: 2 });
+    let (session, result) = session.begin(numbers);
+    assert_eq!(result, Ok(()));
+    assert_eq!(session.totals().1, Counts::default());
+}

@@ -1,0 +1,114 @@
+//! The text call and the log program.
+
+mod common;
+
+use common::*;
+use second::{log, text, Numbers, Refusal, TEXT_RECORDS, TEXT_WORDS, WORDS};
+
+const HEAD: &str = "(base 16 16)\n(scaled 32 32)\n(at 0 0)\n(full 48 32)\n";
+const WHOLE: &str = "(whole (0 -1) (4 -8 0 0))\n";
+const UNTOUCHED: i16 = -12_345;
+
+fn read(bytes: &[u8]) -> (Result<(Numbers, u32), Refusal>, Vec<i16>) {
+    let mut words = vec![UNTOUCHED; TEXT_WORDS];
+    let result = text(bytes, &mut words);
+    let written = result.map_or(0, |(_, records)| records as usize * WORDS);
+    assert!(words[written..].iter().all(|&word| word == UNTOUCHED));
+    (result, words)
+}
+
+fn refusal(number: u32, place: u32) -> Refusal {
+    Refusal { number, place, rule: 0 }
+}
+
+fn logged(text: &str) -> String {
+    String::from_utf8(log(text.as_bytes())).unwrap()
+}
+
+#[test]
+fn whole_case() {
+    let expected =
+        "(mb 0 0 1 1)\n(mb 1 0 1 1)\n(mb 2 0 5 0)\n(mb 0 1 1 1)\n(mb 1 1 1 1)\n(mb 2 1 5 0)\n(sync 6 4 0 2)\n";
+    assert_eq!(logged(&format!("{HEAD}{WHOLE}")), expected);
+    let noted = format!("{HEAD}{WHOLE}").replace('\n', "\n(note)\n(note base (16 -16 (intra)) mb)\n");
+    assert_eq!(logged(&format!("(note at the start)\n{noted}")), expected);
+}
+
+#[test]
+fn record_lines() {
+    let mut random = Random(8);
+    let mixed: [i16; WORDS] = std::array::from_fn(|_| random.within(-32768, 32767) as i16);
+    let part = |words: &[i16]| words.iter().map(|word| word.to_string()).collect::<Vec<_>>().join(" ");
+    let mb = format!("(mb {} ({}) ({}) ({}))\n", mixed[0], part(&mixed[1..5]), part(&mixed[5..13]), part(&mixed[13..]));
+    let lines = format!(
+        "(base 1 -2)\n(note 9 (9))\n(scaled 0 32767)\n(at -32768 5)\n(full 6 7)\n(intra)\n{WHOLE}(note x 5)\n{mb}(whole (7 -9) (32767 -32768 1 0))\n"
+    );
+    let (result, words) = read(lines.as_bytes());
+    assert_eq!(result, Ok((Numbers::from_array([1, -2, 0, 32767, -32768, 5, 6, 7]), 4)));
+    let expected = [intra(), whole([0, -1], [4, -8, 0, 0]), mixed, whole([7, -9], [32767, -32768, 1, 0])];
+    assert_eq!(words[..4 * WORDS], expected.concat());
+}
+
+#[test]
+fn text_refusals_in_order() {
+    let long = vec![b'x'; 65_537];
+    for length in [0, TEXT_WORDS - 1, TEXT_WORDS + 1, WORDS] {
+        let mut words = vec![UNTOUCHED; length];
+        assert_eq!(text(&long, &mut words), Err(refusal(6, 0)));
+        assert_eq!(text(HEAD.as_bytes(), &mut words), Err(refusal(6, 0)));
+        assert!(words.iter().all(|&word| word == UNTOUCHED));
+    }
+    assert_eq!(read(&long).0, Err(refusal(10, 0)));
+    assert_eq!(read(&long[1..]).0, Err(refusal(9, 0)));
+    assert_eq!(read(b"").0, Err(refusal(9, 0)));
+
+    let lines = |count: usize| format!("{HEAD}{}", "(intra)\n".repeat(count));
+    assert_eq!(read(HEAD.as_bytes()).0.unwrap().1, 0);
+    assert_eq!(read(lines(TEXT_RECORDS).as_bytes()).0.unwrap().1, 99);
+    assert_eq!(read(lines(100).as_bytes()).0, Err(refusal(10, 0)));
+    // 9 precedes 10 by lines.
+    let bad = lines(100) + ".";
+    assert_eq!(read(bad.as_bytes()).0, Err(refusal(9, bad.len() as u32 - 1)));
+
+    // Exactly 65,536 bytes are read, one more is not.
+    let room = 65_536 - HEAD.len() - "(note )\n".len();
+    let full = format!("{HEAD}(note {})\n", "a".repeat(room));
+    assert_eq!(full.len(), 65_536);
+    assert!(read(full.as_bytes()).0.is_ok());
+    let early = &full[..65_535];
+    assert_eq!(read(early.as_bytes()).0, Err(refusal(9, 65_535)));
+    let over = full.replace("(note ", "(note b");
+    assert_eq!(read(over.as_bytes()).0, Err(refusal(10, 0)));
+}
+
+#[test]
+fn log_refusals_in_order() {
+    assert_eq!(logged(""), "(refused 9 0)\n");
+    assert_eq!(logged(&"x".repeat(65_537)), "(refused 10 0)\n");
+    assert_eq!(logged(&format!("{HEAD}{}", WHOLE.repeat(100))), "(refused 10 0)\n");
+    assert_eq!(logged(HEAD), "(refused 5 0)\n");
+    assert_eq!(logged(&format!("{HEAD}{WHOLE}{WHOLE}")), "(refused 5 0)\n");
+    let two = HEAD.replace("base 16", "base 32");
+    let bad = "(whole (0 -1) (4 -8 0 1))\n";
+    assert_eq!(logged(&format!("{two}{WHOLE}{bad}")), "(refused 8 1)\n");
+    // All records are checked, and before the first line.
+    let away = two.replace("(at 0 0)", "(at 800 0)");
+    assert_eq!(logged(&format!("{away}{WHOLE}{bad}")), "(refused 8 1)\n");
+    assert_eq!(logged(&format!("{away}{WHOLE}{WHOLE}")).lines().last(), Some("(sync 6 0 0 6)"));
+    assert_eq!(logged(&format!("{two}{bad}")), "(refused 5 0)\n");
+    let odd = HEAD.replace("(at 0 0)", "(at 0 1)");
+    assert_eq!(logged(&odd), "(refused 4 0)\n");
+    assert_eq!(logged(&odd.replace("32 32", "32 34")), "(refused 3 0)\n");
+    assert_eq!(logged(&odd.replace("48 32", "48 33")), "(refused 2 0)\n");
+    assert_eq!(logged(&odd.replace("16 16", "16 -16")), "(refused 1 0)\n");
+}
+
+/// The largest log.
+#[test]
+fn largest_log() {
+    let sync = "(base 16 16)\n(scaled 32 32)\n(at 0 0)\n(full 4096 4096)\n(intra)\n";
+    let found = logged(sync);
+    assert_eq!(found.lines().count(), 65_537);
+    assert_eq!(found.lines().nth(65_535), Some("(mb 255 255 5 0)"));
+    assert_eq!(found.lines().last(), Some("(sync 65536 0 4 65532)"));
+}
