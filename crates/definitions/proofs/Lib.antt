@@ -19,3 +19,4 @@ pub mod Promises
 pub mod Demand
 pub mod RecordLists
 pub mod Ratios
+pub mod Counting
