@@ -2,3 +2,4 @@
 pub mod Choices
 pub mod Differences
 pub mod Places
+pub mod Rounding

@@ -6,6 +6,7 @@ pub mod BlockMap
 pub mod Splits
 pub mod Record
 pub mod Inheriting
+pub mod Why
 pub mod Answer
 pub mod Refusals
 pub mod Calls
