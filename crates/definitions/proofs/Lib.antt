@@ -3,3 +3,4 @@ pub mod Choices
 pub mod Differences
 pub mod Places
 pub mod Rounding
+pub mod Overlap
