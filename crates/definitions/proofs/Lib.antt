@@ -2,5 +2,7 @@
 pub mod Choices
 pub mod Differences
 pub mod Places
+pub mod Map
+pub mod Accepted
 pub mod Rounding
 pub mod Overlap
