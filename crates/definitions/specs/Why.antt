@@ -14,3 +14,13 @@ pub record Nearest (b s : ℕ) (v v′ : ℤ) : Type 0 where
   pub near : 2 * errorOf b s v v′ ≤ b
   -- and where that is so of two, it is the one further from zero: exactly a half away, |v|·S/B is below |v′|
   pub half : 2 * errorOf b s v v′ ≡ b → natAbs v * s < natAbs v′ * b
+
+-- Block i of 0..3 along an axis of the macroblock whose middle is c (both in enhancement samples from the window's start): its centre. c is not below 8.
+abbrev pub centreOf : ℕ → ℕ → ℕ
+centreOf c i = c + 4 * i - 6
+
+-- Base block q along an axis covers base samples 4q to 4(q + 1), so its scaled picture covers 4q·S/B to 4(q + 1)·S/B. The block with centre x covers
+-- x − 2 to x + 2. The two overlap: each starts before the other ends. (Both sides times B.)
+pub record Overlaps (b s q x : ℕ) : Type 0 where
+  pub starts : 4 * q * s < (x + 2) * b
+  pub ends : (x - 2) * b < 4 * (q + 1) * s
