@@ -1,9 +1,9 @@
 -- Each block of a macroblock inside overlaps the scaled picture of the base block that it reads. Assumes nothing.
 --
--- Twice B is the unit here. The scaled pictures of base samples 8k and 8(k + 1) lie at 8kS and 8(k + 1)S. p(k) and p(k+1) are these rounded, so each
--- bounds its own from both sides. The edges of base blocks lie half a step from each other: that of block 2k + j − 4 is (6 − j) times the first and
--- j − 4 times the second. So it is bounded too, and whether the bounds say enough of the block that a row names is a test on d1, d2 and the block's
--- number, which is computed for all of them.
+-- All places are times B, so that they are whole. Base samples 8k and 8(k + 1) scale to 8kS and 8(k + 1)S, the two places that c lies between. p(k) and
+-- p(k+1) are these rounded, so each gives bounds of its own (Bounds). Base block 2k + j − 4 starts (j − 4)/2 steps of 8S behind the first place: twice its
+-- start is 6 − j times the first and j − 4 times the second, so it has bounds too. Whether these suffice for the block that a row names depends only on d1,
+-- d2 and the number of the block, and is computed for all of them (rows-fit).
 use Prim.Native.Nat.{ℕ, zero, suc, _+_, _*_, _/_, _%_, _-_, _≤_, _<_}
 use mathlib.Core.Path.{_≡_, refl, sym, ap, _∙_}
 use mathlib.Core.Bool.{Bool, true, false, _&&_}
@@ -27,7 +27,7 @@ times : (k : ℕ) {m n : ℕ} → m ≡ n → m * k ≡ n * k
 times k e = ap (λ (x : ℕ). x * k) e
 
 -- ---- the bounds
--- p(j) and p(j+1) do not both round up from a half: else 8S were a multiple of B, and so 8jS, which then is no half of B away from one
+-- p(j) and p(j+1) do not both round up from a half: else 8S is a multiple of B, and so is 8jS, which is then not B/2 away from one
 one-apart : (b s j : ℕ) → 0 < b → b % 2 ≡ 0 → pOf b s j * b + pOf b s (j + 1) * b < 8 * j * s + b / 2 + (8 * (j + 1) * s + b / 2)
 one-apart b s j hb h₂ =
     let p = pOf b s j in
@@ -53,11 +53,11 @@ xOf b s c = pOf b s (kOf b s c) + 16 - c
 abbrev yOf : ℕ → ℕ → ℕ → ℕ
 yOf b s c = pOf b s (kOf b s c + 1) - c
 
--- d1 is below the next whole number, but not above 1: there it is exact, for 8kS ≤ cB + B/2
+-- p(k) is (8kS + B/2) / B rounded down, so before that it lies between x and x + 1; and x is at most 17, where it is exact, for 8kS ≤ cB + B/2
 abbrev topOf : ℕ → ℕ
 topOf x = x + 1 - x / 17
 
--- The bounds of 8kS + B/2 and 8(k + 1)S + B/2. The last two say that no two that have one-apart's halves are met at once.
+-- The bounds of 8kS + B/2 and of 8(k + 1)S + B/2. The last two are from one-apart: two bounds are not both met.
 record Bounds (b s c k x y : ℕ) : Type 0 where
   first-low : (c + x) * b ≤ 8 * k * s + b / 2 + 16 * b
   first-high : 8 * k * s + b / 2 + 16 * b ≤ (c + topOf x) * b
@@ -90,19 +90,20 @@ bounds b s c a =
     (omega arith)
     (omega arith)
 
--- ---- an edge, by its bounds
--- It ends before block i does, or starts after
-abbrev highLeft : ℕ → ℕ → ℕ → ℕ
-highLeft j x y = (6 - j) * topOf x + (j - 4) * (y + 1) + 16 * j
+-- ---- the start of base block 2k + j − 4, by the bounds
+-- Its highest place is not behind the end of block i, its lowest not before the start. (Twice the place, from c, and 97 − 16j more. Where 6 − j or j − 4 is
+-- below 0, j − 6 or 4 − j stands on the other side, with the other bound.)
+abbrev highest : ℕ → ℕ → ℕ → ℕ
+highest j x y = (6 - j) * topOf x + (j - 4) * (y + 1) + 16 * j
 
-abbrev highRight : ℕ → ℕ → ℕ → ℕ → ℕ
-highRight j x y i = 8 * i + 89 + (j - 6) * x + (4 - j) * y
+abbrev blockEnd : ℕ → ℕ → ℕ → ℕ → ℕ
+blockEnd i j x y = 8 * i + 89 + (j - 6) * x + (4 - j) * y
 
-abbrev lowLeft : ℕ → ℕ → ℕ → ℕ → ℕ
-lowLeft j x y i = 8 * i + 81 + (j - 6) * topOf x + (4 - j) * (y + 1)
+abbrev lowest : ℕ → ℕ → ℕ → ℕ
+lowest j x y = (6 - j) * x + (j - 4) * y + 16 * j
 
-abbrev lowRight : ℕ → ℕ → ℕ → ℕ
-lowRight j x y = (6 - j) * x + (j - 4) * y + 16 * j
+abbrev blockStart : ℕ → ℕ → ℕ → ℕ → ℕ
+blockStart i j x y = 8 * i + 81 + (j - 6) * topOf x + (4 - j) * (y + 1)
 
 from-2-to-8 : (P : ℕ → Type 0) → P 2 → P 3 → P 4 → P 5 → P 6 → P 7 → P 8 → (j : ℕ) → 2 ≤ j → j ≤ 8 → P j
 from-2-to-8 P p2 p3 p4 p5 p6 p7 p8 zero l u = absurd (omega arith)
@@ -116,10 +117,11 @@ from-2-to-8 P p2 p3 p4 p5 p6 p7 p8 (suc (suc (suc (suc (suc (suc (suc zero))))))
 from-2-to-8 P p2 p3 p4 p5 p6 p7 p8 (suc (suc (suc (suc (suc (suc (suc (suc zero)))))))) l u = p8
 from-2-to-8 P p2 p3 p4 p5 p6 p7 p8 (suc (suc (suc (suc (suc (suc (suc (suc (suc j))))))))) l u = absurd (omega arith)
 
+-- (At 4 and 6 the test is between an even and an odd number, so that it is strict.)
 module _ (b s c k x y i : ℕ) (hb : 0 < b) (h₂ : b % 2 ≡ 0) (n : Bounds b s c k x y) where
-  edge-before : (j : ℕ) → 2 ≤ j → j ≤ 8 → highLeft j x y ≤ highRight j x y i → 16 * k * s + 8 * j * s + 8 * b < 2 * c * b + 8 * i * b + 32 * s
-  edge-before =
-      from-2-to-8 (λ j. highLeft j x y ≤ highRight j x y i → 16 * k * s + 8 * j * s + 8 * b < 2 * c * b + 8 * i * b + 32 * s)
+  starts-before : (j : ℕ) → 2 ≤ j → j ≤ 8 → highest j x y ≤ blockEnd i j x y → 16 * k * s + 8 * j * s + 8 * b < 2 * c * b + 8 * i * b + 32 * s
+  starts-before =
+      from-2-to-8 (λ j. highest j x y ≤ blockEnd i j x y → 16 * k * s + 8 * j * s + 8 * b < 2 * c * b + 8 * i * b + 32 * s)
       (λ t. omega (arith, mul-le-mul-right b t))
       (λ t. omega (arith, mul-le-mul-right b t))
       (λ t. let t′ : 2 * topOf x + 65 ≤ 8 * i + 89 = omega arith in omega (arith, mul-le-mul-right b t′))
@@ -128,9 +130,9 @@ module _ (b s c k x y i : ℕ) (hb : 0 < b) (h₂ : b % 2 ≡ 0) (n : Bounds b s
       (λ t. omega (arith, mul-le-mul-right b t))
       (λ t. omega (arith, mul-le-mul-right b t))
 
-  edge-behind : (j : ℕ) → 2 ≤ j → j ≤ 8 → lowLeft j x y i ≤ lowRight j x y → 2 * c * b + 8 * i * b + 32 * s < 16 * k * s + 8 * j * s + 16 * b
-  edge-behind =
-      from-2-to-8 (λ j. lowLeft j x y i ≤ lowRight j x y → 2 * c * b + 8 * i * b + 32 * s < 16 * k * s + 8 * j * s + 16 * b)
+  starts-behind : (j : ℕ) → 2 ≤ j → j ≤ 8 → blockStart i j x y ≤ lowest j x y → 2 * c * b + 8 * i * b + 32 * s < 16 * k * s + 8 * j * s + 16 * b
+  starts-behind =
+      from-2-to-8 (λ j. blockStart i j x y ≤ lowest j x y → 2 * c * b + 8 * i * b + 32 * s < 16 * k * s + 8 * j * s + 16 * b)
       (λ t. omega (arith, mul-le-mul-right b t))
       (λ t. omega (arith, mul-le-mul-right b t))
       (λ t. let t′ : 8 * i + 82 ≤ 2 * x + 64 = omega arith in omega (arith, mul-le-mul-right b t′))
@@ -139,20 +141,20 @@ module _ (b s c k x y i : ℕ) (hb : 0 < b) (h₂ : b % 2 ≡ 0) (n : Bounds b s
       (λ t. omega (arith, mul-le-mul-right b t))
       (λ t. omega (arith, mul-le-mul-right b t))
 
--- both edges of a block, 2k + j − 4 and the next
+-- block 2k + j − 4 starts before block i ends, and the next one starts behind the start of block i
 fitting : ℕ → ℕ → ℕ → ℕ → Bool
-fitting x y i j = leb 2 j && (leb j 7 && (leb (highLeft j x y) (highRight j x y i) && leb (lowLeft (j + 1) x y i) (lowRight (j + 1) x y)))
+fitting x y i j = leb 2 j && (leb j 7 && (leb (highest j x y) (blockEnd i j x y) && leb (blockStart i (j + 1) x y) (lowest (j + 1) x y)))
 
 fits : (b s c k x y i j q : ℕ) → Inside b s c → Bounds b s c k x y → q + 4 ≡ 2 * k + j → fitting x y i j ≡ true → Overlaps b s q (centreOf c i)
 unfolding fitting
 fits b s c k x y i j q a n e t =
     let t₁ = and-true (leb 2 j) _ t in
     let t₂ = and-true (leb j 7) _ (t₁ .1) in
-    let t₃ = and-true (leb (highLeft j x y) (highRight j x y i)) (leb (lowLeft (j + 1) x y i) (lowRight (j + 1) x y)) (t₂ .1) in
+    let t₃ = and-true (leb (highest j x y) (blockEnd i j x y)) (leb (blockStart i (j + 1) x y) (lowest (j + 1) x y)) (t₂ .1) in
     let j-low = leb-true 2 j (t₁ .0) in
     let j-high = leb-true j 7 (t₂ .0) in
-    let before = edge-before b s c k x y i (omega arith) (omega arith) n j j-low (omega arith) (leb-true _ _ (t₃ .0)) in
-    let behind = edge-behind b s c k x y i (omega arith) (omega arith) n (j + 1) (omega arith) (omega arith) (leb-true _ _ (t₃ .1)) in
+    let before = starts-before b s c k x y i (omega arith) (omega arith) n j j-low (omega arith) (leb-true _ _ (t₃ .0)) in
+    let behind = starts-behind b s c k x y i (omega arith) (omega arith) n (j + 1) (omega arith) (omega arith) (leb-true _ _ (t₃ .1)) in
     let centre : c + 4 * i - 6 + 6 ≡ c + 4 * i = omega arith in
     let start : c + 4 * i - 6 - 2 + 8 ≡ c + 4 * i = omega arith in
     record { starts = omega (arith, times s e, times b centre); ends = omega (arith, times s e, times b start) }
