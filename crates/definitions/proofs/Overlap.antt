@@ -53,11 +53,12 @@ xOf b s c = pOf b s (kOf b s c) + 16 - c
 abbrev yOf : ℕ → ℕ → ℕ → ℕ
 yOf b s c = pOf b s (kOf b s c + 1) - c
 
--- p(k) is (8kS + B/2) / B rounded down, so before that it lies between x and x + 1; and x is at most 17, where it is exact, for 8kS ≤ cB + B/2
+-- From x samples the first place, of which p(k) is the lower end, reaches to the next whole number; but at 17, the last x, it is exact, for k is chosen
+-- with 8kS ≤ cB + B/2.
 abbrev topOf : ℕ → ℕ
 topOf x = x + 1 - x / 17
 
--- The bounds of 8kS + B/2 and of 8(k + 1)S + B/2. The last two are from one-apart: two bounds are not both met.
+-- The bounds of 8kS + B/2 and of 8(k + 1)S + B/2, and from one-apart that the low bounds are not both met, nor the first one's high with the other's low.
 record Bounds (b s c k x y : ℕ) : Type 0 where
   first-low : (c + x) * b ≤ 8 * k * s + b / 2 + 16 * b
   first-high : 8 * k * s + b / 2 + 16 * b ≤ (c + topOf x) * b
