@@ -4,5 +4,6 @@ pub mod Differences
 pub mod Places
 pub mod Map
 pub mod Accepted
+pub mod Ratios
 pub mod Rounding
 pub mod Overlap
