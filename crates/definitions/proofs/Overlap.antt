@@ -53,8 +53,8 @@ xOf b s c = pOf b s (kOf b s c) + 16 - c
 abbrev yOf : ℕ → ℕ → ℕ → ℕ
 yOf b s c = pOf b s (kOf b s c + 1) - c
 
--- From x samples the first place, of which p(k) is the lower end, reaches to the next whole number; but at 17, the last x, it is exact, for k is chosen
--- with 8kS ≤ cB + B/2.
+-- x is (8kS + B/2) / B, counted from c − 16, rounded down. Before that it is below x + 1; but at 17, the last x, it is exact, for k is chosen with
+-- 8kS ≤ cB + B/2.
 abbrev topOf : ℕ → ℕ
 topOf x = x + 1 - x / 17
 
