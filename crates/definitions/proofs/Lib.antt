@@ -19,3 +19,5 @@ pub mod Promises
 pub mod Demand
 pub mod RecordLists
 pub mod Ratios
+pub mod Rounding
+pub mod Overlap
