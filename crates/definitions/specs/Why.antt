@@ -1,0 +1,26 @@
+-- Why the rounding of step 4 is right, and why the block map is: what proofs/Rounding and proofs/Overlap show of the definitions. No other definition
+-- cites these.
+use Prim.Native.Nat.{ℕ, _+_, _*_, _-_, _<_, _≤_}
+use mathlib.Core.Path.{_≡_}
+use lib.IntN.{ℤ, pos, natAbs, _*ℤ_, _-ℤ_}
+
+-- A vector word v, scaled, would be v·S/B, which need not be whole. How far a whole number v′ is from it, times B: |B·v′ − S·v|
+abbrev pub errorOf : ℕ → ℕ → ℤ → ℤ → ℕ
+errorOf b s v v′ = natAbs (pos b *ℤ v′ -ℤ pos s *ℤ v)
+
+-- v′ is the whole number nearest to v·S/B: it is at most a half away, and where two are exactly a half away it is the one further from zero, with |v′|
+-- above |v|·S/B. The scaled word is, and no other number is.
+pub record Nearest (b s : ℕ) (v v′ : ℤ) : Type 0 where
+  pub near : 2 * errorOf b s v v′ ≤ b
+  pub half : 2 * errorOf b s v v′ ≡ b → natAbs v * s < natAbs v′ * b
+
+-- The centre of block i of 0..3 along an axis, in enhancement samples from the window's start as c is. c is the macroblock's middle, and inside it is
+-- not below 8.
+abbrev pub centreOf : ℕ → ℕ → ℕ
+centreOf c i = c + 4 * i - 6
+
+-- The block with centre x covers x − 2 to x + 2. The base block at 4 by 4 coordinate q covers base samples 4q to 4(q + 1), so its scaled picture covers
+-- 4q·S/B to 4(q + 1)·S/B. The two overlap: each starts before the other ends. (Written times B.)
+pub record Overlaps (b s q x : ℕ) : Type 0 where
+  pub starts : 4 * q * s < (x + 2) * b
+  pub ends : (x - 2) * b < 4 * (q + 1) * s
