@@ -22,3 +22,4 @@ pub mod Ratios
 pub mod Rounding
 pub mod Overlap
 pub mod Counting
+pub mod Formed
