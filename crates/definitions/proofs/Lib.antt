@@ -1,0 +1,4 @@
+-- Laws of the definitions. Each file says in its first line what it is about.
+pub mod Choices
+pub mod Differences
+pub mod Places
