@@ -1,10 +1,10 @@
 -- Laws of a difference of two naturals, subℕ. (A computed test below a bound becomes its rule by below-true of Choices.) Assumes nothing.
-use Prim.Native.Nat.{ℕ, suc, _+_, _-_, _≤_, _<_}
+use Prim.Native.Nat.{ℕ, zero, suc, _+_, _-_, _≤_, _<_}
 use mathlib.Core.Path.{_≡_, refl, ap, sym, subst, _∙_}
 use mathlib.Core.Bool.{Bool, true, false}
 use native.Mathlib.Omega.{arith}
 use lib.Dec.{ltb}
-use lib.IntN.{ℤ, pos, negsuc, subℕ}
+use lib.IntN.{ℤ, pos, negsuc, subℕ, _-ℤ_}
 use borrow.Author.Tests.{lt-ltb, le-ltb, ltb-true, ltb-false}
 
 pub sub-neg : (a b : ℕ) → a < b → subℕ a b ≡ negsuc (b - suc a)
@@ -27,3 +27,7 @@ sub-shift a b n m e =
     sub-cases (λ z. z ≡ subℕ n m) a b
     (λ l. let d : b - suc a ≡ m - suc n = omega arith in ap negsuc d ∙ sym (sub-neg n m (omega arith)))
     (λ l. let d : a - b ≡ n - m = omega arith in ap pos d ∙ sym (sub-pos n m (omega arith)))
+
+pub pos-minus : (a b : ℕ) → pos a -ℤ pos b ≡ subℕ a b
+pos-minus a zero = let e : a + 0 ≡ a - 0 = omega arith in ap pos e ∙ sym (sub-pos a 0 (omega arith))
+pos-minus a (suc b) = refl

@@ -2,3 +2,5 @@
 pub mod Choices
 pub mod Differences
 pub mod Places
+pub mod Map
+pub mod Accepted
