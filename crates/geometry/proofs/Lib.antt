@@ -1,2 +1,3 @@
 -- Laws for the proofs of the functions.
+mod Verdicts
 mod Words

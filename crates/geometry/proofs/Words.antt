@@ -3,8 +3,8 @@ use Prim.Native.Nat.{ℕ, zero, suc, _+_, _*_, _-_, _/_, _%_, _≤_, _<_, _^_}
 use mathlib.Core.Path.{_≡_, refl, sym, ap, subst, _∙_}
 use native.Mathlib.Nat.{div-le-self, mod-lt}
 use native.Mathlib.Omega.{arith}
-use mathlib.Core.Bool.{Bool, true, false}
-use lib.Dec.{T, eqb}
+use mathlib.Core.Bool.{true, false≢true}
+use lib.Dec.{T, eqb, leb}
 use lib.IntN.{ℤ, pos, negsuc, negℤ, natAbs, _*ℤ_}
 use lib.Signed.{mag, nonNeg, quotZ, remZ}
 use Rattle.definitions.specs.Refusals.{sizeRight}
@@ -35,10 +35,10 @@ rem-zero (negsuc a) n l h =
 pub cast-fits : (z : ℤ) → SFits w32 z → T (nonNeg z) → T (nonNeg (toZ w32 (ofZ w32 z))) × Fits w32 (natAbs (toZ w32 (ofZ w32 z)))
 cast-fits z f t = rw (toZ-ofZ f) (t, fits-natAbs tt f)
 
+-- 2B of a base size that refusal 1 accepts
 pub double-fits : (b : ℤ) → sizeRight b ≡ true → SFits w32 (pos 2 *ℤ b)
-double-fits (pos b) e =
-    let h = and-true _ _ e in
-    let r = and-true _ _ (h .0) in
-    let l = leb-true b 4096 (r .1) in
+double-fits (pos n) e =
+    let bounds = and-true _ (eqb (n % 16) 0) e .0 in
+    let high = leb-true n 4096 (and-true (leb 16 n) (leb n 4096) bounds .1) in
     record { sfits = omega arith }
-double-fits (negsuc b) e = absurd (let z : _≡_ {A = ℕ} 0 1 = ? in omega arith)
+double-fits (negsuc n) e = absurd (false≢true e)

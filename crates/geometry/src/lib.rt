@@ -5,19 +5,16 @@ ghost use Rattle.definitions.specs.Tests.{between as inRange};
 ghost use Rattle.geometry.specs.Checked.{NoneNegative, checkedOf};
 ghost use mathlib.Core.Bool.{_&&_, true};
 ghost use mathlib.Core.Path.{_≡_};
-
-use definitions::{
-    Axes,
-    Axis,
-    AxisNumbers,
-    BaseSample,
-    Class,
-    EnhancementOffset,
-    EnhancementSample,
-    Numbers,
-    Refusal,
-    Verdict,
-};
+use definitions::Axes;
+use definitions::Axis;
+use definitions::AxisNumbers;
+use definitions::BaseSample;
+use definitions::Class;
+use definitions::EnhancementOffset;
+use definitions::EnhancementSample;
+use definitions::Numbers;
+use definitions::Refusal;
+use definitions::Verdict;
 
 // A geometry that refusals 1 to 4 accept. Only `new` makes one.
 pub struct Geometry {
@@ -32,9 +29,13 @@ pub enum Checked {
 impl Geometry {
     // Base and enhancement sizes are multiples of a macroblock's.
     pub const SIZE_STEP: i32 = 16;
+
     pub const SIZE_MIN: i32 = 16;
+
     pub const SIZE_MAX: i32 = 4096;
+
     pub const OFFSET_MIN: i32 = -8192;
+
     pub const OFFSET_MAX: i32 = 8190;
 
     pub fn new(n: Numbers) -> Checked
@@ -75,7 +76,11 @@ fn verdict_on(n: Numbers) -> Verdict
 fn refused_by(number: u32) -> Verdict
     ensures { λ r. ⌜ r ≡ Verdict.Refused (refusal number) ⌝ }
 {
-    Verdict::Refused(Refusal { number, place: 0, rule: 0 })
+    Verdict::Refused(Refusal {
+        number,
+        place: 0,
+        rule: 0,
+    })
 }
 
 fn bases_right(n: Numbers) -> bool
@@ -95,7 +100,8 @@ fn scaleds_right(n: Numbers) -> bool
     requires { ⌜ (sizeRight (n .horizontal .base) && sizeRight (n .vertical .base)) ≡ true ⌝ }
     ensures { λ r. ⌜ r ≡ (scaledRight (n .horizontal .base) (n .horizontal .scaled) && scaledRight (n .vertical .base) (n .vertical .scaled)) ⌝ }
 {
-    scaled_right(n.horizontal.base, n.horizontal.scaled) & scaled_right(n.vertical.base, n.vertical.scaled)
+    scaled_right(n.horizontal.base, n.horizontal.scaled)
+        & scaled_right(n.vertical.base, n.vertical.scaled)
 }
 
 fn offsets_right(n: Numbers) -> bool
@@ -159,16 +165,8 @@ pub fn class_of(columns: bool, rows: bool) -> Class
     ensures { λ r. ⌜ r ≡ classOf columns rows ⌝ }
 {
     if columns {
-        if rows {
-            Class::Center
-        } else {
-            Class::Vert
-        }
+        if rows { Class::Center } else { Class::Vert }
     } else {
-        if rows {
-            Class::Hori
-        } else {
-            Class::Corner
-        }
+        if rows { Class::Hori } else { Class::Corner }
     }
 }

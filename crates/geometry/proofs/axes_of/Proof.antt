@@ -1,20 +1,17 @@
+-- `geometry::axes_of` meets its contract. Assumes nothing.
+use Rattle.definitions.proofs.Accepted.{accepted-numbers}
+use Rattle.geometry.proofs.Verdicts.{none-negative}
 use Rattle.geometry.proofs.axes_of.Statement.{statement}
 use Rattle.geometry.proofs.axes_of.Tie as tie
-use Rattle.geometry.proofs.axes_of.Reads as reads
-use Rattle.geometry.proofs.axes_of.Lts as lts
-use Rattle.geometry.proofs.axis_of.Reads as axis-of-reads
 
--- src/lib.rt:140:21
 axis-of-requires : tie.Need-axis-of-requires
-axis-of-requires c κs = ?
+axis-of-requires c κs = none-negative (accepted-numbers (c .args .n) (c .pre) .0)
 
--- src/lib.rt:141:19
 axis-of-requires-2 : tie.Need-axis-of-requires-2
-axis-of-requires-2 c κs = ?
+axis-of-requires-2 c κs = none-negative (accepted-numbers (c .before .args .n) (c .before .pre) .1)
 
--- src/lib.rt:135:1
 returns : tie.Need-returns
-returns c = ?
+returns c = λ i. record { horizontal = c .before .axis-of .ensures i; vertical = c .axis-of2 .ensures i }
 
 pub axes-of-spec : {M : Type 1} → statement M
 axes-of-spec = tie.close (tie.spec axis-of-requires axis-of-requires-2 returns)
