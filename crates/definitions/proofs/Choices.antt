@@ -54,6 +54,16 @@ pub or-false : (a b : Bool) → (a || b) ≡ false → (a ≡ false) × (b ≡ f
 or-false true b e = (cc, cc)
 or-false false b e = (refl, e)
 
+-- where the first test holds, the second does
+unfoldable pub implies : Bool → Bool → Bool
+implies true t = t
+implies false t = true
+
+pub implied : (s t : Bool) → implies s t ≡ true → s ≡ true → t ≡ true
+unfolding implies
+implied true t h e = h
+implied false t h e = cc
+
 -- ---- eqZ
 pub eqZ-true : (a b : ℤ) → eqZ a b ≡ true → a ≡ b
 eqZ-true (pos m) (pos n) e = ap pos (eqb-true m n e)

@@ -4,3 +4,4 @@ pub mod Differences
 pub mod Places
 pub mod Map
 pub mod Accepted
+pub mod Ratios

@@ -14,9 +14,9 @@ use lib.Signed.{ltZ}
 use borrow.Author.Tests.{eqb-true, eqb-false, le-leb, ltb-true}
 use Rattle.definitions.specs.Accepted.{Inside}
 use Rattle.definitions.specs.Tests.{pick, minus, allBelow}
-use Rattle.definitions.specs.Geometry.{kOf, pOf, d1Of, d2Of, roundedOf, even, mOf, nOf, fOf, twoOf, columnsRead}
+use Rattle.definitions.specs.Geometry.{kOf, pOf, d1Of, d2Of, roundedOf, even, mOf, nOf, fOf, twoOf, columnsRead, macroblocks}
 use Rattle.definitions.specs.BlockMap.{digitsOf, coordinateOf}
-use Rattle.definitions.proofs.Choices.{pick-cases, and-true, or-true, below-true}
+use Rattle.definitions.proofs.Choices.{pick-cases, and-true, or-true, implies, implied, below-true}
 use Rattle.definitions.proofs.Differences.{sub-pos, sub-cases}
 use Rattle.definitions.proofs.Places.{near, first-edge, last-edge, m-even, n-even, m-odd, n-odd}
 
@@ -33,6 +33,14 @@ pub record Paired (i j : ℕ) : Type 0 where
   pub j-top : j < 5
   pub sum-low : 2 ≤ i + j
   pub sum-high : i + j ≤ 5
+
+-- a test computed on them, and so its rule
+abbrev pub onPairs : (ℕ → ℕ → Bool) → Bool
+onPairs f = allBelow 5 (λ i. allBelow 5 (λ j. implies (leb 2 (i + j)) (implies (leb (i + j) 5) (f i j))))
+
+pub on-pair : (f : ℕ → ℕ → Bool) → onPairs f ≡ true → (i j : ℕ) → Paired i j → f i j ≡ true
+on-pair f t i j p =
+    implied _ _ (implied _ _ (below-true 5 _ (below-true 5 _ t i (p .i-top)) j (p .j-top)) (le-leb 2 (i + j) (p .sum-low))) (le-leb (i + j) 5 (p .sum-high))
 
 module _ (b s c : ℕ) (a : Inside b s c) where
   pub paired : Paired (foursBefore b s c) (foursBehind b s c)
@@ -73,15 +81,6 @@ digitAt k-even i j n = getD (digitsAt k-even i j) n 0
 abbrev pub twoAt : Bool → ℕ → ℕ → Bool
 twoAt k-even i j = ltb (pick k-even i j) 2
 
-implies : Bool → Bool → Bool
-implies true t = t
-implies false t = true
-
-implied : (s t : Bool) → implies s t ≡ true → s ≡ true → t ≡ true
-unfolding implies
-implied true t h e = h
-implied false t h e = cc
-
 same-true : (s t : Bool) → Bool·beq s t ≡ true → s ≡ t
 same-true true true e = refl
 same-true true false e = cc
@@ -108,7 +107,7 @@ rowRight k-even i j =
     && (allBelow 4 (λ n. zeroOrOne two (digitAt k-even i j n / 4))
     && (eqb (digitAt k-even i j 0 / 4) 0 && implies two (eqb (digitAt k-even i j 3 / 4) 1)))))
 
-rows-right : (k-even : Bool) → allBelow 5 (λ i. allBelow 5 (λ j. implies (leb 2 (i + j)) (implies (leb (i + j) 5) (rowRight k-even i j)))) ≡ true
+rows-right : (k-even : Bool) → onPairs (rowRight k-even) ≡ true
 unfolding allBelow implies zeroOrOne rowRight pick digitsOf
 rows-right true = refl
 rows-right false = refl
@@ -125,21 +124,33 @@ record Right (k-even : Bool) (i j : ℕ) : Type 0 where
 right : (k-even : Bool) (i j : ℕ) → Paired i j → Right k-even i j
 unfolding rowRight
 right k-even i j p =
-    let t₀ = below-true 5 _ (below-true 5 _ (rows-right k-even) i (p .i-top)) j (p .j-top) in
-    let t₁ = implied _ _ (implied _ _ t₀ (le-leb 2 (i + j) (p .sum-low))) (le-leb (i + j) 5 (p .sum-high)) in
-    let t₂ = and-true _ _ t₁ in
+    let t₁ = and-true _ _ (on-pair (rowRight k-even) (rows-right k-even) i j p) in
+    let t₂ = and-true _ _ (t₁ .1) in
     let t₃ = and-true _ _ (t₂ .1) in
     let t₄ = and-true _ _ (t₃ .1) in
     let t₅ = and-true _ _ (t₄ .1) in
-    let t₆ = and-true _ _ (t₅ .1) in
     record {
-      digits = eqb-true _ 4 (t₂ .0);
-      two = same-true _ _ (t₃ .0);
-      back = same-true _ _ (t₄ .0);
-      each-named = λ n h. zero-or-one _ _ (below-true 4 (λ m. zeroOrOne (twoAt k-even i j) (digitAt k-even i j m / 4)) (t₅ .0) n h);
-      first-read = eqb-true _ 0 (t₆ .0);
-      last-read = λ e. eqb-true _ 1 (implied _ _ (t₆ .1) e);
+      digits = eqb-true _ 4 (t₁ .0);
+      two = same-true _ _ (t₂ .0);
+      back = same-true _ _ (t₃ .0);
+      each-named = λ n h. zero-or-one _ _ (below-true 4 (λ m. zeroOrOne (twoAt k-even i j) (digitAt k-even i j m / 4)) (t₄ .0) n h);
+      first-read = eqb-true _ 0 (t₅ .0);
+      last-read = λ e. eqb-true _ 1 (implied _ _ (t₅ .1) e);
     }
+
+-- The map of the mirrored picture is the mirrored map: M and N change their signs, k its parity, and blocks and coordinates count from the other end
+-- of the columns read. So a wrong digit in one half of the map shows against the other half.
+mirrorRight : ℕ → ℕ → Bool
+mirrorRight i j = allBelow 4 (λ n. eqb (digitAt false j i n + digitAt true i j (3 - n)) (pick (twoAt true i j) 7 3))
+
+mirrors-right : onPairs mirrorRight ≡ true
+unfolding allBelow implies mirrorRight pick digitsOf
+mirrors-right = refl
+
+pub mirrored : (i j n : ℕ) → Paired i j → n < 4 → digitAt false j i n + digitAt true i j (3 - n) ≡ pick (twoAt true i j) 7 3
+unfolding mirrorRight
+mirrored i j n p h =
+    eqb-true _ _ (below-true 4 (λ m. eqb (digitAt false j i m + digitAt true i j (3 - m)) (pick (twoAt true i j) 7 3)) (on-pair mirrorRight mirrors-right i j p) n h)
 
 -- ---- a macroblock inside
 module _ (b s c : ℕ) (a : Inside b s c) where
@@ -198,16 +209,16 @@ module _ (b s c : ℕ) (a : Inside b s c) where
       ⊎-elim (λ z. let k-last : kOf b s c ≡ b / 8 - 1 = omega arith in let edge = last-edge b s c a k-last in absurd (omega arith)) (λ h′. h′) (eq-or-lt-of-le h)
 
   -- F, and F + 1 where two are read, lie inside the base
-  pub f-below : fOf b s c < b / 16
+  pub f-below : fOf b s c < macroblocks b
   f-below =
       let n = near b s c a in
-      subst (λ (f : ℕ). f < b / 16) (sym f-is) (pick-cases (λ f. f < b / 16) _ _ _ (λ e. omega arith) (λ e. omega arith))
+      subst (λ (f : ℕ). f < macroblocks b) (sym f-is) (pick-cases (λ f. f < macroblocks b) _ _ _ (λ e. omega arith) (λ e. omega arith))
 
-  pub two-below : twoOf b s c ≡ true → fOf b s c + 1 < b / 16
+  pub two-below : twoOf b s c ≡ true → fOf b s c + 1 < macroblocks b
   unfolding pick
-  two-below t = subst (λ (f : ℕ). f + 1 < b / 16) (sym f-is) (go (even (kOf b s c)) refl)
+  two-below t = subst (λ (f : ℕ). f + 1 < macroblocks b) (sym f-is) (go (even (kOf b s c)) refl)
     where
-      go : (u : Bool) → even (kOf b s c) ≡ u → pick (even (kOf b s c) && twoOf b s c) (kOf b s c / 2 - 1) (kOf b s c / 2) + 1 < b / 16
+      go : (u : Bool) → even (kOf b s c) ≡ u → pick (even (kOf b s c) && twoOf b s c) (kOf b s c / 2 - 1) (kOf b s c / 2) + 1 < macroblocks b
       go true e =
           let n = near b s c a in
           rw (e, t) (omega (arith, not-first t e))
@@ -245,11 +256,11 @@ module _ (b s c : ℕ) (a : Inside b s c) where
       go false t m = first (List·Memᴰ·eq-of-singleton m)
 
   -- the columns that are named, and so the coordinates, lie inside the base
-  pub named-below : {x : ℕ} → List·Memᴰ x (columnsRead (fOf b s c) (twoOf b s c)) → x < b / 16
+  pub named-below : {x : ℕ} → List·Memᴰ x (columnsRead (fOf b s c) (twoOf b s c)) → x < macroblocks b
   unfolding columnsRead pick
   named-below {x} m = go (twoOf b s c) refl m
     where
-      go : (t : Bool) → twoOf b s c ≡ t → List·Memᴰ x (columnsRead (fOf b s c) t) → x < b / 16
+      go : (t : Bool) → twoOf b s c ≡ t → List·Memᴰ x (columnsRead (fOf b s c) t) → x < macroblocks b
       go true t m = ⊎-elim (λ e. omega (arith, f-below)) (λ l. let e = List·Memᴰ·eq-of-singleton l in omega (arith, two-below t)) (List·Memᴰ·cases-cons m)
       go false t m = let e = List·Memᴰ·eq-of-singleton m in omega (arith, f-below)
 
