@@ -3,16 +3,18 @@ use Prim.Native.Nat.{ℕ, zero, suc, _+_, _*_, _-_, _/_, _%_, _≤_, _<_, _^_}
 use mathlib.Core.Path.{_≡_, refl, sym, ap, subst, _∙_}
 use native.Mathlib.Nat.{div-le-self, mod-lt}
 use native.Mathlib.Omega.{arith}
-use mathlib.Core.Bool.{true, false≢true}
+use mathlib.Core.Bool.{true, false, false≢true}
 use lib.Dec.{T, eqb, leb}
-use lib.IntN.{ℤ, pos, negsuc, negℤ, natAbs, _*ℤ_}
-use lib.Signed.{mag, nonNeg, quotZ, remZ}
+use lib.IntN.{ℤ, pos, negsuc, negℤ, natAbs, subℕ, _-ℤ_, _*ℤ_}
+use lib.Signed.{mag, ltZ, nonNeg, quotZ, remZ}
 use Rattle.definitions.specs.Refusals.{sizeRight}
+use Rattle.definitions.specs.Tests.{minus}
 use Rattle.definitions.proofs.Choices.{and-true}
+use Rattle.definitions.proofs.Differences.{sub-neg, sub-cases}
 use mir.Syntax.{w32}
 use mir.Val.{Fits, SFits, ofZ, toZ}
 use mir.Facts.{toZ-ofZ, fits-natAbs}
-use borrow.Author.Tests.{eq-eqb, ne-eqb, leb-true}
+use borrow.Author.Tests.{eq-eqb, ne-eqb, leb-true, ltb-true}
 
 -- a negated natural, by cases
 neg-cases : (P : ℤ → Type 0) (n : ℕ) → (n ≡ 0 → P (pos 0)) → (0 < n → P (negsuc (n - 1))) → P (negℤ (pos n))
@@ -42,3 +44,23 @@ double-fits (pos n) e =
     let high = leb-true n 4096 (and-true (leb 16 n) (leb n 4096) bounds .1) in
     record { sfits = omega arith }
 double-fits (negsuc n) e = absurd (false≢true e)
+
+-- ---- by the sign
+pub is-negative : (z : ℤ) → ltZ z (pos 0) ≡ true → z ≡ negsuc (mag z)
+is-negative (pos n) t = absurd (omega (arith, ltb-true n 0 t))
+is-negative (negsuc n) t = refl
+
+pub is-natural : (z : ℤ) → ltZ z (pos 0) ≡ false → z ≡ pos (mag z)
+is-natural (pos n) t = refl
+is-natural (negsuc n) t = absurd (false≢true (sym t))
+
+-- ---- differences
+pub zero-minus : (n : ℕ) → pos 0 -ℤ pos n ≡ minus n
+zero-minus zero = refl
+zero-minus (suc n) = sub-neg 0 (suc n) (omega arith) ∙ ap negsuc (let e : suc n - 1 ≡ n = omega arith in e)
+
+pub minus-fits : (n : ℕ) → n < 2 ^ 31 → SFits w32 (minus n)
+minus-fits n h = neg-cases (SFits w32) n (λ e. record { sfits = omega arith }) (λ l. record { sfits = omega arith })
+
+pub difference-fits : (a b : ℕ) → a < 2 ^ 31 → b < 2 ^ 31 → SFits w32 (subℕ a b)
+difference-fits a b h g = sub-cases (SFits w32) a b (λ l. record { sfits = omega arith }) (λ l. record { sfits = omega arith })

@@ -1,2 +1,3 @@
 -- The checked geometry as a definition.
 pub mod Checked
+pub mod Step

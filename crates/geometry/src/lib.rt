@@ -1,4 +1,10 @@
 // The geometry of the two layers: numbers that refusals 1 to 4 accept, and what an axis gives for one macroblock.
+pub mod map; // map.rt: the block map's table
+pub mod sign; // sign.rt: the size and the sign of a displacement
+pub mod step; // step.rt: an axis, for one macroblock
+
+pub use step::axis_step;
+pub use step::is_inside;
 ghost use Rattle.definitions.specs.Geometry.{axesOf, axisOf, classOf};
 ghost use Rattle.definitions.specs.Refusals.{geometryVerdict, offsetRight, refusal, scaledRight, sizeRight};
 ghost use Rattle.definitions.specs.Tests.{between as inRange};
