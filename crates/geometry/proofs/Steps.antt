@@ -1,0 +1,58 @@
+-- An axis step from its parts: what the small functions give of k, D1 and D2 is what document 01 defines. Assumes nothing.
+use Prim.Native.Nat.{ℕ, zero, suc, _+_, _*_, _-_, _/_, _≤_, _<_}
+use mathlib.Core.Path.{_≡_, ap, sym, subst, _∙_}
+use mathlib.Core.Bool.{Bool, true, false, not, _&&_}
+use native.Mathlib.Nat.{lt-of-le-of-lt}
+use native.Mathlib.Omega.{arith}
+use lib.Dec.{leb, lit<}
+use lib.IntN.{ℤ, natAbs}
+use lib.ListN.{getD}
+use lib.Signed.{ltZ}
+use borrow.Author.Tests.{lt-leb, ltb-true}
+use Rattle.definitions.specs.Accepted.{Inside}
+use Rattle.definitions.specs.BlockMap.{coordinateOf, digitsOf}
+use Rattle.definitions.specs.Geometry.{d1Of, d2Of, even, fOf, kOf, mOf, nOf, roundedOf, twoOf}
+use Rattle.definitions.specs.Tests.{four, minus, pick}
+use Rattle.definitions.proofs.Choices.{and-true}
+use Rattle.definitions.proofs.Map.{d1-rounded, foursBefore, not-first, row-of}
+use Rattle.definitions.proofs.Places.{m-even}
+use Rattle.geometry.proofs.Rows.{tops}
+
+-- −n is above −8: n is below 8
+above : (n : ℕ) → ltZ (minus 8) (minus n) ≡ true → leb 8 (natAbs (minus n)) ≡ false
+above zero e = lt-leb 8 0 (lit< tt)
+above (suc n) e = let l = ltb-true n 7 e in lt-leb 8 (suc n) (omega arith)
+
+module _ (b s c : ℕ) (a : Inside b s c) where
+  pub border-small : natAbs (mOf b s c) < 65536
+  border-small = lt-of-le-of-lt (tops (kOf b s c) (mOf b s c) (nOf b s c) (row-of b s c a) .0) (lit< tt)
+
+  -- k/2 − 1 is taken only where it is not below 0
+  pub not-zero : (even (kOf b s c) && ltZ (minus 8) (mOf b s c)) ≡ true → 2 ≤ kOf b s c
+  unfolding twoOf
+  not-zero e =
+      let both = and-true (even (kOf b s c)) (ltZ (minus 8) (mOf b s c)) e in
+      let m : mOf b s c ≡ minus (4 * foursBefore b s c) = m-even b s c (both .0) ∙ d1-rounded b s c a in
+      let far = above (4 * foursBefore b s c) (subst (λ (z : ℤ). ltZ (minus 8) z ≡ true) m (both .1)) in
+      not-first b s c a (ap (λ (z : ℤ). not (leb 8 (natAbs z))) m ∙ ap not far) (both .0)
+
+module _ (b s c : ℕ) {k : ℕ} (k-is : k ≡ kOf b s c) where
+  pub border : {d1 d2 : ℤ} → d1 ≡ roundedOf (d1Of b s c) → d2 ≡ roundedOf (d2Of b s c) → pick (even k) d1 d2 ≡ mOf b s c
+  unfolding mOf
+  border e1 e2 = λ i. pick (even (k-is i)) (e1 i) (e2 i)
+
+  pub border8 : {d1 d2 : ℤ} → d1 ≡ roundedOf (d1Of b s c) → d2 ≡ roundedOf (d2Of b s c) → pick (even k) d2 d1 ≡ nOf b s c
+  unfolding nOf
+  border8 e1 e2 = λ i. pick (even (k-is i)) (e2 i) (e1 i)
+
+  pub first : {m : ℤ} → m ≡ mOf b s c → pick (even k && ltZ (minus 8) m) (k / 2 - 1) (k / 2) ≡ fOf b s c
+  unfolding fOf
+  first e = λ i. pick (even (k-is i) && ltZ (minus 8) (e i)) (k-is i / 2 - 1) (k-is i / 2)
+
+  pub reads : {m n : ℤ} {f : ℕ} → m ≡ mOf b s c → n ≡ nOf b s c → f ≡ fOf b s c → four (λ j. 4 * f + getD (digitsOf (even k) m n) j 0) ≡ four (coordinateOf b s c)
+  unfolding coordinateOf
+  reads e1 e2 e3 = λ i. four (λ j. 4 * e3 i + getD (digitsOf (even (k-is i)) (e1 i) (e2 i)) j 0)
+
+pub two : (b s c : ℕ) {m : ℤ} → m ≡ mOf b s c → not (leb 8 (natAbs m)) ≡ twoOf b s c
+unfolding twoOf
+two b s c e = ap (λ (m : ℤ). not (leb 8 (natAbs m))) e

@@ -1,0 +1,3 @@
+-- The checked geometry as a definition.
+pub mod Checked
+pub mod Step

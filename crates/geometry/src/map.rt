@@ -1,0 +1,61 @@
+// The block map: the coordinates that the four blocks along an axis read.
+ghost use Prim.Native.Nat.{_*_, _+_, _<_};
+ghost use Rattle.definitions.specs.BlockMap.{digitsOf};
+ghost use Rattle.definitions.specs.Geometry.{even};
+ghost use Rattle.definitions.specs.Tests.{four};
+ghost use Rattle.geometry.specs.Step.{Complete, decimals};
+ghost use lib.ListN.{getD, length};
+ghost use mathlib.Core.Path.{_≡_};
+use crate::sign::magnitude;
+use definitions::EnhancementOffset;
+
+// Document 01's rows as decimal numbers, k even and then k odd: a line for each |M| / 4, in it an entry for each |N| / 4.
+// 0 stands where there is no row.
+const ROWS: [[[u32; 5]; 5]; 2] = [
+    [
+        [0, 0, 2345, 3344, 3344],
+        [0, 3456, 3455, 3445, 3444],
+        [0123, 0012, 0011, 0011, 0],
+        [1122, 0112, 0011, 0, 0],
+        [1122, 1112, 0, 0, 0],
+    ],
+    [
+        [0, 0, 2345, 3344, 3344],
+        [0, 1234, 2234, 2334, 3334],
+        [0123, 1233, 2233, 2233, 0],
+        [1122, 1223, 2233, 0, 0],
+        [1122, 1222, 0, 0, 0],
+    ],
+];
+
+fn table() -> [[[u32; 5]; 5]; 2]
+    ensures { λ r. ⌜ Complete r ⌝ }
+{
+    ROWS
+}
+
+// The row with this M and N.
+fn row(k: u32, m: EnhancementOffset, n: EnhancementOffset) -> u32
+    requires { ⌜ length (digitsOf (even k) (m .0) (n .0)) ≡ 4 ⌝ }
+    ensures { λ r. ⌜ decimals r ≡ digitsOf (even k) (m .0) (n .0) ⌝ }
+{
+    let e = (k % 2) as usize;
+    let i = (magnitude(m) / 4) as usize;
+    let j = (magnitude(n) / 4) as usize;
+    let t = table();
+    t[e][i][j]
+}
+
+// 4F + m for each m of the row with this M and N.
+pub fn reads(k: u32, m: EnhancementOffset, n: EnhancementOffset, f: u32) -> [u32; 4]
+    requires { ⌜ (length (digitsOf (even k) (m .0) (n .0)) ≡ 4) × (f < 65536) ⌝ }
+    ensures { λ r. ⌜ r ≡ four (λ i. 4 * f + getD (digitsOf (even k) (m .0) (n .0)) i 0) ⌝ }
+{
+    let r = row(k, m, n);
+    [
+        4 * f + r / 1000,
+        4 * f + r / 100 % 10,
+        4 * f + r / 10 % 10,
+        4 * f + r % 10,
+    ]
+}
