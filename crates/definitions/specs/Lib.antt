@@ -7,6 +7,7 @@ pub mod Splits
 pub mod Fewest
 pub mod Record
 pub mod Inheriting
+pub mod Why
 pub mod Answer
 pub mod Refusals
 pub mod Calls
