@@ -3,6 +3,7 @@ pub mod Choices
 pub mod Differences
 pub mod Places
 pub mod Rounding
+pub mod Branches
 pub mod Motions
 pub mod Pieces
 pub mod Shapes
