@@ -2,6 +2,8 @@
 pub mod Choices
 pub mod Differences
 pub mod Places
+pub mod Rounding
+pub mod Branches
 pub mod Map
 pub mod Accepted
 pub mod Motions
@@ -9,6 +11,7 @@ pub mod Pieces
 pub mod Shapes
 pub mod Fewest
 pub mod Steps
+pub mod Scaling
 pub mod Verdicts
 pub mod Answers
 pub mod Sameness
