@@ -22,7 +22,6 @@ pub mod Promises
 pub mod Demand
 pub mod RecordLists
 pub mod Ratios
-pub mod Rounding
 pub mod Overlap
 pub mod Counting
 pub mod Formed
