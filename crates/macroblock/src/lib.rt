@@ -7,7 +7,8 @@ use definitions::Axis;
 use definitions::AxisStep;
 use definitions::EnhancementOffset;
 use definitions::EnhancementSample;
-use geometry::{axis_step, is_inside};
+use geometry::axis_step;
+use geometry::is_inside;
 
 // An axis at a macroblock: whether it is inside there, and then its step (outside, zeros).
 pub struct AxisRead {
