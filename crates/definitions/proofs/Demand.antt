@@ -1,15 +1,14 @@
--- DEMAND 3. demand3-singly and demand3-picture are its two theorems: whatever the one-macroblock call, and the picture call, hand over is as the record
--- type of specs/Demand3 says. Assumes nothing.
+-- DEMAND 3. The last declaration, demand3, is the theorem: both calls are as specs/Demand3 says, entire. Assumes nothing.
 use Prim.Native.Nat.{ℕ, _+_, _*_, _/_, _%_, _<_}
 use mathlib.Core.Path.{_≡_, refl, sym, ap, subst, _∙_}
 use mathlib.Core.Bool.{Bool, true, false, not}
 use mathlib.Core.List.{List, [], _∷_, _++_, List·Memᴰ, List·Memᴰ·head, List·Memᴰ·tail, List·Memᴰ·not-nil}
 use native.Mathlib.Nat.{div-eq-of-lt-le, mod-eq-of-lt, mul-add-mod-self-right, mul-le-mul-right}
 use native.Mathlib.Omega.{arith}
-use lib.Dec.{eqb}
+use lib.Dec.{eqb, leb, ltb}
 use lib.IntN.{ℤ, pos, natAbs}
-use lib.ListN.{length}
-use borrow.Author.Tests.{eq-eqb, le-leb, lt-ltb}
+use lib.ListN.{length, replicate, length-replicate}
+use borrow.Author.Tests.{eq-eqb, eqb-true, le-leb, lt-ltb, ltb-true}
 use Rattle.definitions.specs.declared.Axes.{Axes}
 use Rattle.definitions.specs.declared.Numbers.{Numbers}
 use Rattle.definitions.specs.declared.Verdict.{Verdict}
@@ -33,10 +32,10 @@ use Rattle.definitions.specs.Inheriting.{inheritedMotions}
 use Rattle.definitions.specs.Answer.{Made, answerOf, writtenFor, madeOf, addressesNamed}
 use Rattle.definitions.specs.Refusals.{Test, test, refusal, verdictOf, geometryTests, geometryVerdict, baseCount, baseTest, outputTest, placeTest, recordTest, recordTests, withinAxis, addressesRead, allAddresses}
 use Rattle.definitions.specs.Calls.{Outcome, byVerdict, macroblockTests, macroblockCall, fullCount, pictureTests, madeAt, countsOf, pictureCall}
-use Rattle.definitions.specs.Demand3.{Demand3, AnyWords, SinglyGives, Demand3Singly, WellFormedWords, PictureGives, Demand3Picture}
+use Rattle.definitions.specs.Demand3.{Demand3, AnyWords, SinglyGives, Demand3Singly, AllFormed, FormedWords, PictureGives, Demand3Picture, Case, Demand3Entire}
 use Rattle.definitions.proofs.Choices.{yes, no, and-true, and-intro}
 use Rattle.definitions.proofs.Verdicts.{first-passed, both-passed, then-verdict, reply-accepted}
-use Rattle.definitions.proofs.RecordLists.{all-formed, formed-all, index-member, member-index, record-of}
+use Rattle.definitions.proofs.RecordLists.{not-false, all-formed, formed-all, index-member, member-index, record-of}
 use Rattle.definitions.proofs.Accepted.{accepted-axes, inside-axis}
 use Rattle.definitions.proofs.Answers.{Decided, is-outside, is-intra, is-inherited, decided, made-outside}
 use Rattle.definitions.proofs.Sameness.{same-made}
@@ -127,9 +126,9 @@ module _ (n : Numbers) (column row : ℕ) (words base : List ℤ) where
   abbrev single : Verdict
   single = verdictOf (macroblockTests n base (pos column) (pos row) words)
 
-  singly-accepted : (answer : Answer) (written : List ℤ) → SinglyGives n column row words base answer written → single ≡ Accepted
+  answered-accepted : (answer : Answer) → macroblockCall n base (pos column) (pos row) words .reply ≡ Answered answer → single ≡ Accepted
   unfolding macroblockCall
-  singly-accepted answer written e = reply-accepted single Declined words _ (Answered answer) (λ r q. answer-not-refusal q) (ap (λ (o : Outcome MacroblockReply). o .reply) e)
+  answered-accepted answer e = reply-accepted single Declined words _ (Answered answer) (λ r q. answer-not-refusal q) e
 
   geometry-accepted : single ≡ Accepted → geometryVerdict n ≡ Accepted
   unfolding macroblockTests
@@ -155,11 +154,11 @@ module _ (n : Numbers) (column row : ℕ) (words base : List ℤ) where
       (gives-made n column row words other (verdict-same other l read ∙ v))
 
 -- Demand 3 for the one-macroblock call: whatever it hands over.
-pub demand3-singly : (n : Numbers) (column row : ℕ) (words base : List ℤ) (answer : Answer) (written : List ℤ)
+singly : (n : Numbers) (column row : ℕ) (words base : List ℤ) (answer : Answer) (written : List ℤ)
     → SinglyGives n column row words base answer written → Demand3Singly n column row words base answer written
-demand3-singly n column row words base answer written e =
+singly n column row words base answer written e =
     let g = axesOf n in
-    let v = singly-accepted n column row words base answer written e in
+    let v = answered-accepted n column row words base answer (ap (λ (o : Outcome MacroblockReply). o .reply) e) in
     let made = madeOf g base column row in
     let p = sym (gives-made n column row words base v) ∙ e in
     let a : made .answer ≡ answer = cc (ap (λ (o : Outcome MacroblockReply). o .reply) p) in
@@ -214,6 +213,11 @@ module _ (n : Numbers) (words base : List ℤ) where
   unfolding pictureCall
   counted-accepted counts e = reply-accepted whole NotMade words _ (Counted counts) (λ r q. counts-not-refusal q) e
 
+  counted-made : whole ≡ Accepted → pictureCall n base words .reply ≡ Counted (countsOf (upTo (fullCount g) (madeAt g base)))
+  unfolding pictureCall
+  counted-made v =
+      ap (λ (w : Verdict). byVerdict w NotMade words (record { reply = Counted (countsOf (upTo (fullCount g) (madeAt g base))); words = forEach (upTo (fullCount g) (madeAt g base)) (λ m. m .written) }) .reply) v
+
   picture-words : whole ≡ Accepted → pictureCall n base words .words ≡ forEach (upTo (fullCount g) (madeAt g base)) (λ m. m .written)
   unfolding pictureCall
   picture-words v =
@@ -253,34 +257,94 @@ module _ (n : Numbers) (words base : List ℤ) where
         ∙ (record-of (madeAt g base) (λ m. m .written) (made-length g base) (fullCount g) address (omega (arith, mul-le-mul-right width y))
         ∙ (λ i. madeOf g base (p i) (q i) .written))
 
--- Demand 3 for the picture call: what stands at each macroblock's address, with the one-macroblock call's answer on the same base.
-pub demand3-picture : (n : Numbers) (words base : List ℤ) (counts : Counts) → pictureCall n base words .reply ≡ Counted counts
-    → (column row : ℕ) → column < macroblocks (fullSize (axesOf n .horizontal)) → row < macroblocks (fullSize (axesOf n .vertical))
-    → (alone : List ℤ) → length alone ≡ recordWords → (answer : Answer) (written : List ℤ) → PictureGives n column row words alone base answer written
-    → Demand3Picture n column row words alone base answer written
-demand3-picture n words base counts e column row x y alone l answer written given =
+-- a macroblock whose call is accepted is one of the picture, and was lent 77 words
+within-picture : (size k : ℕ) → withinAxis size (pos k) ≡ true → k < macroblocks size
+within-picture size k e = ltb-true k (macroblocks size) (and-true (leb 0 k) (ltb k (macroblocks size)) e .1)
+
+record Asked (n : Numbers) (column row : ℕ) (alone : List ℤ) : Type 0 where
+  column-within : column < macroblocks (fullSize (axesOf n .horizontal))
+  row-within : row < macroblocks (fullSize (axesOf n .vertical))
+  alone-length : length alone ≡ recordWords
+
+asked : (n : Numbers) (column row : ℕ) (alone base : List ℤ) → verdictOf (macroblockTests n base (pos column) (pos row) alone) ≡ Accepted → Asked n column row alone
+unfolding macroblockTests
+asked n column row alone base v =
     let g = axesOf n in
-    let v = counted-accepted n words base counts e in
-    let k = passed n words base v in
+    let records = recordTests base (addressesRead g column row) in
+    let place = placeTest g (pos column) (pos row) in
+    let p = both-passed (geometryTests n) (baseTest g base ∷ outputTest 1 alone ∷ place ∷ records) v in
+    let q = first-passed (baseTest g base) (outputTest 1 alone ∷ place ∷ records) (p .1) in
+    let r = first-passed (outputTest 1 alone) (place ∷ records) (q .1) in
+    let t = first-passed place records (r .1) in
+    let h = withinAxis (fullSize (g .horizontal)) (pos column) in
+    let both = and-true h (withinAxis (fullSize (g .vertical)) (pos row)) (not-false _ (t .0)) in
+    record {
+      column-within = within-picture (fullSize (g .horizontal)) column (both .0);
+      row-within = within-picture (fullSize (g .vertical)) row (both .1);
+      alone-length = eqb-true (length alone) recordWords (not-false (eqb (length alone) recordWords) (r .0));
+    }
+
+-- where a picture is accepted, it gives what is made of each macroblock
+picture-gives : (n : Numbers) (column row : ℕ) (words alone base : List ℤ) → Passed n words base → Asked n column row alone
+    → PictureGives n column row words alone base (madeOf (axesOf n) base column row .answer) (madeOf (axesOf n) base column row .written)
+picture-gives n column row words alone base k q =
+    let v = accepted n words base k in
+    let c = alone-accepted n words base column row (q .column-within) (q .row-within) k alone (q .alone-length) in
+    record {
+      counts = _;
+      accepted = counted-made n words base v;
+      answered = ap (λ (o : Outcome MacroblockReply). o .reply) (gives-made n column row alone base c);
+      at-address = record-made n words base column row (q .column-within) (q .row-within) v;
+    }
+
+-- Demand 3 for the picture call: whatever stands at a macroblock's address, with the one-macroblock call's answer on the same base.
+picture : (n : Numbers) (column row : ℕ) (words alone base : List ℤ) (answer : Answer) (written : List ℤ)
+    → PictureGives n column row words alone base answer written → Demand3Picture n column row words alone base answer written
+picture n column row words alone base answer written given =
+    let g = axesOf n in
     let made = madeOf g base column row in
-    let single = gives-made n column row alone base (alone-accepted n words base column row x y k alone l) in
-    let p = sym (ap (λ (o : Outcome MacroblockReply). o .reply) single) ∙ given .0 in
-    let a : made .answer ≡ answer = cc p in
-    let w : made .written ≡ written = sym (record-made n words base column row x y v) ∙ given .1 in
+    let k = passed n words base (counted-accepted n words base (given .counts) (given .accepted)) in
+    let q = asked n column row alone base (answered-accepted n column row alone base answer (given .answered)) in
+    let own = picture-gives n column row words alone base k q in
+    let a : made .answer ≡ answer = cc (sym (own .answered) ∙ given .answered) in
+    let w : made .written ≡ written = sym (own .at-address) ∙ given .at-address in
     subst (λ (z : Answer). Demand3Picture n column row words alone base z written) a
     (subst (λ (z : List ℤ). Demand3Picture n column row words alone base (made .answer) z) w
-    (promised n column row (k .geometry) base (WellFormedWords g base) (PictureGives n column row words alone) others))
+    (promised n column row (k .geometry) base (FormedWords g base) (PictureGives n column row words alone) (others k q)))
   where
-    others : (other : List ℤ) → WellFormedWords (axesOf n) base other → Agree (addressesNamed (axesOf n) (answerOf (axesOf n) base column row)) base other
+    others : Passed n words base → Asked n column row alone → (other : List ℤ) → FormedWords (axesOf n) base other → Agree (addressesNamed (axesOf n) (answerOf (axesOf n) base column row)) base other
         → PictureGives n column row words alone other (madeOf (axesOf n) base column row .answer) (madeOf (axesOf n) base column row .written)
-    others other formed agree =
+    others k q other formed agree =
         let g = axesOf n in
-        let k = passed n words base (counted-accepted n words base counts e) in
         let b : baseTest g other .applies ≡ false = ap (λ (m : ℕ). not (eqb m (recordWords * baseCount g))) (formed .0) ∙ k .base-length in
-        let q : Passed n words other = record { geometry = k .geometry; base-length = b; word-length = k .word-length; formed = formed .1 } in
-        let v = accepted n words other q in
-        let same = made-same n column row (k .geometry) base other agree in
-        let single = gives-made n column row alone other (alone-accepted n words other column row x y q alone l) in (
-          ap (λ (o : Outcome MacroblockReply). o .reply) single ∙ ap (λ (m : Made). Answered (m .answer)) same,
-          record-made n words other column row x y v ∙ ap (λ (m : Made). m .written) same,
-        )
+        let p : Passed n words other = record { geometry = k .geometry; base-length = b; word-length = k .word-length; formed = formed .1 } in
+        subst (λ (m : Made). PictureGives n column row words alone other (m .answer) (m .written)) (made-same n column row (k .geometry) base other agree)
+        (picture-gives n column row words alone other p q)
+
+-- ---- entire
+module _ (n : Numbers) (column row : ℕ) (base : List ℤ) (case : Case n column row base) where
+  case-passed : (words : List ℤ) → length words ≡ recordWords * fullCount (axesOf n) → Passed n words base
+  case-passed words l = record {
+    geometry = case .geometry;
+    base-length = ap not (eq-eqb (length base) (recordWords * baseCount (axesOf n)) (case .base-length));
+    word-length = ap not (eq-eqb (length words) (recordWords * fullCount (axesOf n)) l);
+    formed = case .formed;
+  }
+
+  case-asked : (alone : List ℤ) → length alone ≡ recordWords → Asked n column row alone
+  case-asked alone l = record { column-within = case .column-within; row-within = case .row-within; alone-length = l }
+
+  -- (any words of the picture's length serve)
+  case-alone : (alone : List ℤ) → length alone ≡ recordWords → verdictOf (macroblockTests n base (pos column) (pos row) alone) ≡ Accepted
+  case-alone alone l =
+      let size = recordWords * fullCount (axesOf n) in
+      let words = replicate size (pos 0) in
+      alone-accepted n words base column row (case .column-within) (case .row-within) (case-passed words (length-replicate size (pos 0))) alone l
+
+pub demand3 : Demand3Entire
+demand3 = record {
+  singly = singly;
+  singly-given = λ n column row base case words l. (_, _, gives-made n column row words base (case-alone n column row base case words l));
+  picture = picture;
+  picture-given = λ n column row base case words l alone k. (_, _, picture-gives n column row words alone base (case-passed n column row base case words l) (case-asked n column row base case alone k));
+}

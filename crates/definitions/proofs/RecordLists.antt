@@ -18,7 +18,7 @@ use Rattle.definitions.proofs.Choices.{no}
 use Rattle.definitions.proofs.Verdicts.{first-passed}
 
 -- ---- the tests of some records are passed exactly when each is well formed
-not-false : (b : Bool) → not b ≡ false → b ≡ true
+pub not-false : (b : Bool) → not b ≡ false → b ≡ true
 not-false true e = refl
 not-false false e = sym e
 

@@ -9,31 +9,30 @@ use lib.IntN.{ℤ, pos}
 use lib.ListN.{length, take}
 use Rattle.definitions.specs.declared.Axes.{Axes}
 use Rattle.definitions.specs.declared.Numbers.{Numbers}
-use Rattle.definitions.specs.declared.Class.{Class}
+use Rattle.definitions.specs.declared.Counts.{Counts}
+use Rattle.definitions.specs.declared.Verdict.the-variants.{Accepted}
 use Rattle.definitions.specs.declared.Class.the-variants.{Corner}
 use Rattle.definitions.specs.declared.Named.{Named}
 use Rattle.definitions.specs.declared.Split.{Split}
 use Rattle.definitions.specs.declared.Answer.{Answer}
 use Rattle.definitions.specs.declared.Answer.the-variants.{Outside, Intra, Inherited}
-use Rattle.definitions.specs.declared.MacroblockReply.{MacroblockReply}
 use Rattle.definitions.specs.declared.MacroblockReply.the-variants.{Answered}
-use Rattle.definitions.specs.declared.PictureReply.{PictureReply}
 use Rattle.definitions.specs.declared.PictureReply.the-variants.{Counted}
 use Rattle.definitions.specs.Tests.{pick}
 use Rattle.definitions.specs.Geometry.{axesOf, baseSize, fullSize, macroblocks, inside}
 use Rattle.definitions.specs.Splits.{Covers, pieces, oneEach, count, splits}
-use Rattle.definitions.specs.Record.{recordAt, motionOf, typeNumber, wellFormed}
+use Rattle.definitions.specs.Record.{recordWords, recordAt, motionOf, typeNumber, wellFormed}
 use Rattle.definitions.specs.Inheriting.{intraSet, inheritedMotions, motionAt}
 use Rattle.definitions.specs.Answer.{namedAt, answerClass, answerColumn, answerRow, columnsNamed, rowsNamed, addressesNamed, subTypes, unusedMotion}
-use Rattle.definitions.specs.Refusals.{baseCount}
-use Rattle.definitions.specs.Calls.{Outcome, macroblockCall, pictureCall}
+use Rattle.definitions.specs.Refusals.{geometryVerdict, baseCount}
+use Rattle.definitions.specs.Calls.{macroblockCall, fullCount, pictureCall}
 
 -- what document 01 names for a macroblock: outside class Corner, column and row 0
 abbrev pub namedByPaper : Axes → ℕ → ℕ → Named
 namedByPaper g column row = pick (inside g column row) (namedAt g column row) (record { class = Corner; column = 0; row = 0 })
 
 -- The answer and the written record of the macroblock at a column and row, on a base. Other says which bases are compared with it, and Gives that on
--- a base a call hands over an answer and a written record. Motions and split are those read back from the written words.
+-- a base a call hands over an answer and a written record. Motions are those read back from the written words, and their first five say the split.
 pub record Demand3 (g : Axes) (column row : ℕ) (base : List ℤ) (answer : Answer) (written : List ℤ) (Other : List ℤ → Type 0) (Gives : List ℤ → Answer → List ℤ → Type 0) : Type 0 where
   -- The answer's class and first base column and row are document 01's,
   pub class : answerClass answer ≡ namedByPaper g column row .class
@@ -75,14 +74,38 @@ Demand3Singly n column row words base answer written =
 
 -- Made with the whole picture: the other records are any well-formed ones, the answer is the one-macroblock call's on the same base, and the written
 -- record is the one at the macroblock's address. (alone: 77 words lent to the one-macroblock call, whatever they hold.)
-abbrev pub WellFormedWords : Axes → List ℤ → List ℤ → Type 0
-WellFormedWords g base other = (length other ≡ length base) × ((a : ℕ) → a < baseCount g → wellFormed (recordAt other a) ≡ true)
+abbrev pub AllFormed : Axes → List ℤ → Type 0
+AllFormed g base = (a : ℕ) → a < baseCount g → wellFormed (recordAt base a) ≡ true
 
-abbrev pub PictureGives : Numbers → ℕ → ℕ → List ℤ → List ℤ → List ℤ → Answer → List ℤ → Type 0
-PictureGives n column row words alone base answer written =
-    (macroblockCall n base (pos column) (pos row) alone .reply ≡ Answered answer)
-    × (recordAt (pictureCall n base words .words) (row * macroblocks (fullSize (axesOf n .horizontal)) + column) ≡ written)
+abbrev pub FormedWords : Axes → List ℤ → List ℤ → Type 0
+FormedWords g base other = (length other ≡ length base) × AllFormed g other
+
+pub record PictureGives (n : Numbers) (column row : ℕ) (words alone base : List ℤ) (answer : Answer) (written : List ℤ) : Type 0 where
+  pub counts : Counts
+  pub accepted : pictureCall n base words .reply ≡ Counted counts
+  pub answered : macroblockCall n base (pos column) (pos row) alone .reply ≡ Answered answer
+  pub at-address : recordAt (pictureCall n base words .words) (row * macroblocks (fullSize (axesOf n .horizontal)) + column) ≡ written
 
 abbrev pub Demand3Picture : Numbers → ℕ → ℕ → List ℤ → List ℤ → List ℤ → Answer → List ℤ → Type 0
 Demand3Picture n column row words alone base answer written =
-    Demand3 (axesOf n) column row base answer written (WellFormedWords (axesOf n) base) (PictureGives n column row words alone)
+    Demand3 (axesOf n) column row base answer written (FormedWords (axesOf n) base) (PictureGives n column row words alone)
+
+-- Every accepted geometry, every base picture of well-formed records, and every macroblock
+pub record Case (n : Numbers) (column row : ℕ) (base : List ℤ) : Type 0 where
+  pub geometry : geometryVerdict n ≡ Accepted
+  pub base-length : length base ≡ recordWords * baseCount (axesOf n)
+  pub formed : AllFormed (axesOf n) base
+  pub column-within : column < macroblocks (fullSize (axesOf n .horizontal))
+  pub row-within : row < macroblocks (fullSize (axesOf n .vertical))
+
+-- Demand 3, entire: in each such case, with the words that the calls ask for, both calls hand something over, and all that they hand over, there or
+-- anywhere, is as demanded. (Singly that is so wherever the call answers, whatever the records hold that it does not name.)
+pub record Demand3Entire : Type 0 where
+  pub singly : (n : Numbers) (column row : ℕ) (words base : List ℤ) (answer : Answer) (written : List ℤ)
+      → SinglyGives n column row words base answer written → Demand3Singly n column row words base answer written
+  pub singly-given : (n : Numbers) (column row : ℕ) (base : List ℤ) → Case n column row base → (words : List ℤ) → length words ≡ recordWords
+      → (answer : Answer) × (written : List ℤ) × SinglyGives n column row words base answer written
+  pub picture : (n : Numbers) (column row : ℕ) (words alone base : List ℤ) (answer : Answer) (written : List ℤ)
+      → PictureGives n column row words alone base answer written → Demand3Picture n column row words alone base answer written
+  pub picture-given : (n : Numbers) (column row : ℕ) (base : List ℤ) → Case n column row base → (words : List ℤ) → length words ≡ recordWords * fullCount (axesOf n)
+      → (alone : List ℤ) → length alone ≡ recordWords → (answer : Answer) × (written : List ℤ) × PictureGives n column row words alone base answer written
