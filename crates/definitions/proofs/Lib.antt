@@ -8,3 +8,4 @@ pub mod Pieces
 pub mod Shapes
 pub mod Fewest
 pub mod Steps
+pub mod Records
