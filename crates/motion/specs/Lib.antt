@@ -1,0 +1,2 @@
+-- What the functions that scale a motion ask of it.
+pub mod Range

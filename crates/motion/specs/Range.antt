@@ -1,0 +1,12 @@
+-- The range of vector words that rule 5 of "A motion record" allows.
+use Prim.Native.Nat.{_-_}
+use mathlib.Core.Path.{_≡_}
+use mathlib.Core.Bool.{true}
+use lib.IntN.{pos}
+use Rattle.definitions.specs.declared.Prediction.{Prediction}
+use Rattle.definitions.specs.Tests.{minus, between}
+use Rattle.definitions.specs.Record.{vectorLimit}
+
+pub record InRange (p : Prediction) : Type 0 where
+  pub x : between (minus vectorLimit) (pos (vectorLimit - 1)) (p .x) ≡ true
+  pub y : between (minus vectorLimit) (pos (vectorLimit - 1)) (p .y) ≡ true
