@@ -1,5 +1,5 @@
 -- Laws of the record's layout: a record's words in the list of records, reading back what is laid out, and the split that a record says. Assumes nothing.
-use Prim.Native.Nat.{ℕ, zero, suc, _+_, _*_, _/_, _%_, _<_, _≤_}
+use Prim.Native.Nat.{ℕ, _+_, _*_, _/_, _%_, _<_, _≤_}
 use mathlib.Core.Path.{_≡_, refl, ap, _∙_, subst}
 use mathlib.Core.List.{List, [], _∷_}
 use native.Mathlib.Nat.{div-add-mod}
@@ -7,14 +7,12 @@ use native.Mathlib.Omega.{arith}
 use lib.IntN.{ℤ, pos}
 use lib.ListN.{length, getD, take, drop, length-take, length-drop}
 use lib.Seq.{getD-take, getD-drop}
-use Rattle.definitions.specs.declared.Prediction.{Prediction}
 use Rattle.definitions.specs.declared.Motion.{Motion}
 use Rattle.definitions.specs.declared.SubSplit.{SubSplit}
 use Rattle.definitions.specs.declared.SubSplit.the-variants.{S8x8, S8x4, S4x8, S4x4}
-use Rattle.definitions.specs.declared.SubSplits.{SubSplits}
 use Rattle.definitions.specs.declared.Split.{Split}
 use Rattle.definitions.specs.declared.Split.the-variants.{S16x16, S16x8, S8x16, S8x8 as Quarters}
-use Rattle.definitions.specs.Tests.{pick, upTo, eqZ}
+use Rattle.definitions.specs.Tests.{pick, upTo}
 use Rattle.definitions.specs.Splits.{quadrantOf, placeOf, rasterOf}
 use Rattle.definitions.specs.Record.{recordAt, wordOf, typeOf, subTypeOf, referenceOf, vectorXOf, vectorYOf, motionOf, typeNumber, subTypeNumber, subSplitOf, splitSaid, laidOut}
 use Rattle.definitions.specs.Answer.{subTypes}
@@ -24,7 +22,7 @@ use Rattle.definitions.proofs.Choices.{each}
 -- what holds at 0 to 15 holds at each index below 16
 pub each16 :
     (P : ℕ → Type 0) →
-      P 0 → P 1 → P 2 → P 3 → P 4 → P 5 → P 6 → P 7 → P 8 → P 9 → P 10 → P 11 → P 12 → P 13 → P 14 → P 15 → (b : ℕ) → b < 16 → P b
+    P 0 → P 1 → P 2 → P 3 → P 4 → P 5 → P 6 → P 7 → P 8 → P 9 → P 10 → P 11 → P 12 → P 13 → P 14 → P 15 → (b : ℕ) → b < 16 → P b
 each16 P p0 p1 p2 p3 p4 p5 p6 p7 p8 p9 p10 p11 p12 p13 p14 p15 b h =
     subst P (div-add-mod b 4)
     (each (λ i. (j : ℕ) → j < 4 → P (4 * i + j))
@@ -112,10 +110,10 @@ module _ (type : ℕ) (sub : ℕ → ℕ) (m : ℕ → Motion) where
   -- a block whose quadrant's first block has its references
   pub laid-motion :
       (b : ℕ) →
-        b < 16 →
-        m (rasterOf (quadrantOf b) 0) .list0 .reference ≡ m b .list0 .reference →
-        m (rasterOf (quadrantOf b) 0) .list1 .reference ≡ m b .list1 .reference →
-        motionOf (laidOut type sub m) b ≡ m b
+      b < 16 →
+      m (rasterOf (quadrantOf b) 0) .list0 .reference ≡ m b .list0 .reference →
+      m (rasterOf (quadrantOf b) 0) .list1 .reference ≡ m b .list1 .reference →
+      motionOf (laidOut type sub m) b ≡ m b
   laid-motion b h e f =
       let refs = laid-references (quadrantOf b) (omega arith) in
       motion-is (laidOut type sub m) b (m b) (refs .0 ∙ e, refs .1 ∙ f) (laid-vectors b h)
@@ -137,5 +135,5 @@ said r S16x8 t subs = rw t
 said r S8x16 t subs = rw t
 said r (Quarters s) t subs =
     let at : (q : ℕ) (x : SubSplit) → q < 4 → getD (subTypes (Quarters s)) q 0 ≡ subTypeNumber x → subSplitOf (subTypeOf r q) ≡ x =
-            λ q x h e. ap subSplitOf (subs q h ∙ ap pos e) ∙ sub-said x in
+    λ q x h e. ap subSplitOf (subs q h ∙ ap pos e) ∙ sub-said x in
     rw t (λ i. Quarters (record { a = at 0 (s .a) (omega arith) refl i; b = at 1 (s .b) (omega arith) refl i; c = at 2 (s .c) (omega arith) refl i; d = at 3 (s .d) (omega arith) refl i }))

@@ -7,6 +7,8 @@ use native.Mathlib.Nat.{add-zero}
 use native.Mathlib.Omega.{arith}
 use lib.IntN.{ℤ, pos}
 use lib.ListN.{getD}
+use mir.Syntax.{w16}
+use mir.Val.{SFits, ofZ}
 use Rattle.definitions.specs.declared.Motion.{Motion}
 use Rattle.definitions.specs.declared.SubSplit.{SubSplit}
 use Rattle.definitions.specs.declared.SubSplit.the-variants.{S8x8, S8x4, S4x8, S4x4}
@@ -14,11 +16,12 @@ use Rattle.definitions.specs.declared.SubSplits.{SubSplits}
 use Rattle.definitions.specs.declared.Split.{Split}
 use Rattle.definitions.specs.declared.Split.the-variants.{S16x16, S16x8, S8x16, S8x8 as Quarters}
 use Rattle.definitions.specs.Tests.{pick, eqZ, allBelow, allOf}
-use Rattle.definitions.specs.Splits.{sameMotion, quadrantOf, placeOf, rasterOf, subPieces, pieces, alike, oneEach}
+use Rattle.definitions.specs.Splits.{sameMotion, quadrantOf, placeOf, rasterOf, subPieces, alike, oneEach}
 use Rattle.definitions.specs.Record.{typeOf, subTypeOf, isIntra, motionOf, subSplitOf, splitSaid, rule6}
 use Rattle.definitions.proofs.Choices.{yes, no, each, below-true, below-intro, below-same}
 use Rattle.definitions.proofs.Motions.{motion-same}
 use Rattle.definitions.proofs.Records.{raster-quadrant, raster-place, raster-below, raster-is}
+use Rattle.records.proofs.Words.{word-is, word-is-not}
 use Rattle.records.proofs.Ranges.{below-both}
 use Rattle.records.specs.Checking.{subLeader, subSplitAt, leaderIn, leaderOf}
 
@@ -83,8 +86,8 @@ module _ (m : ℕ → Motion) where
 
   quadrant-led :
       (t : SubSplits) (q : ℕ) →
-        q < 4 →
-        allBelow 4 (λ k. led (leaderIn (Quarters t)) (rasterOf q k)) ≡ allOf (alike m) (subPieces (first q) (subSplitAt t q))
+      q < 4 →
+      allBelow 4 (λ k. led (leaderIn (Quarters t)) (rasterOf q k)) ≡ allOf (alike m) (subPieces (first q) (subSplitAt t q))
   quadrant-led t q hq =
       below-same 4 (λ k. led (leaderIn (Quarters t)) (rasterOf q k)) (λ k. sameMotion (m (rasterOf q k)) (m (rasterOf q (placeLeader (subSplitAt t q) k))))
       (λ k hk.
@@ -127,33 +130,62 @@ module _ (r : List ℤ) where
   unfolding rule6 leaderOf
   follows-all = sym (by-type (isIntra r))
 
-  -- by type and sub-type
-  pub leader-intra : (b : ℕ) → isIntra r ≡ true → leaderOf r b ≡ b
+-- ---- The tests of the type and of the sub-type
+module _ (z : ℤ) (fits : SFits w16 z) where
+  is : (n : ℕ) → n < 5 → ofZ w16 z ≡ n → eqZ z (pos n) ≡ true
+  is n h e = word-is z (pos n) fits (record { sfits = omega arith }) e
+
+  is-not : (n : ℕ) → n < 5 → (ofZ w16 z ≡ n → ⊥) → eqZ z (pos n) ≡ false
+  is-not n h e = word-is-not z (pos n) fits (record { sfits = omega arith }) e
+
+  pub sub-8x8 : ofZ w16 z ≡ 0 → subSplitOf z ≡ S8x8
+  sub-8x8 e = yes _ _ (is 0 (omega arith) e)
+
+  module _ (n0 : ofZ w16 z ≡ 0 → ⊥) where
+    pub sub-8x4 : ofZ w16 z ≡ 1 → subSplitOf z ≡ S8x4
+    sub-8x4 e = no _ _ (is-not 0 (omega arith) n0) ∙ yes _ _ (is 1 (omega arith) e)
+
+    pub sub-4x8 : (ofZ w16 z ≡ 1 → ⊥) → ofZ w16 z ≡ 2 → subSplitOf z ≡ S4x8
+    sub-4x8 n1 e = no _ _ (is-not 0 (omega arith) n0) ∙ (no _ _ (is-not 1 (omega arith) n1) ∙ yes _ _ (is 2 (omega arith) e))
+
+    pub sub-4x4 : (ofZ w16 z ≡ 1 → ⊥) → (ofZ w16 z ≡ 2 → ⊥) → subSplitOf z ≡ S4x4
+    sub-4x4 n1 n2 = no _ _ (is-not 0 (omega arith) n0) ∙ (no _ _ (is-not 1 (omega arith) n1) ∙ no _ _ (is-not 2 (omega arith) n2))
+
+module _ (r : List ℤ) (fits : SFits w16 (typeOf r)) (b : ℕ) where
+  abbrev type : ℕ
+  type = ofZ w16 (typeOf r)
+
+  pub leader-intra : type ≡ 0 → leaderOf r b ≡ b
   unfolding leaderOf
-  leader-intra b e = yes _ _ e
+  leader-intra e = yes _ _ (is (typeOf r) fits 0 (omega arith) e)
 
   abbrev said : SubSplits
   said = record { a = subSplitOf (subTypeOf r 0); b = subSplitOf (subTypeOf r 1); c = subSplitOf (subTypeOf r 2); d = subSplitOf (subTypeOf r 3) }
 
-  module _ (not-intra : isIntra r ≡ false) where
-    leader-said : (b : ℕ) (s : Split) → splitSaid r ≡ s → leaderOf r b ≡ leaderIn s b
+  module _ (n0 : type ≡ 0 → ⊥) where
+    said-leader : (s : Split) → splitSaid r ≡ s → leaderOf r b ≡ leaderIn s b
     unfolding leaderOf
-    leader-said b s e = no _ _ not-intra ∙ ap (λ (x : Split). leaderIn x b) e
+    said-leader s e = no _ _ (is-not (typeOf r) fits 0 (omega arith) n0) ∙ ap (λ (x : Split). leaderIn x b) e
 
-    pub leader-16x16 : (b : ℕ) → eqZ (typeOf r) (pos 1) ≡ true → leaderOf r b ≡ 0
+    pub leader-16x16 : type ≡ 1 → leaderOf r b ≡ 0
     unfolding splitSaid
-    leader-16x16 b e = leader-said b S16x16 (yes _ _ e)
+    leader-16x16 e = said-leader S16x16 (yes _ _ (is (typeOf r) fits 1 (omega arith) e))
 
-    pub leader-16x8 : (b : ℕ) → eqZ (typeOf r) (pos 1) ≡ false → eqZ (typeOf r) (pos 2) ≡ true → leaderOf r b ≡ b / 8 * 8
-    unfolding splitSaid
-    leader-16x8 b n1 e = leader-said b S16x8 (no _ _ n1 ∙ yes _ _ e)
+    module _ (n1 : type ≡ 1 → ⊥) where
+      pub leader-16x8 : type ≡ 2 → leaderOf r b ≡ b / 8 * 8
+      unfolding splitSaid
+      leader-16x8 e = said-leader S16x8 (no _ _ (is-not (typeOf r) fits 1 (omega arith) n1) ∙ yes _ _ (is (typeOf r) fits 2 (omega arith) e))
 
-    pub leader-8x16 : (b : ℕ) → eqZ (typeOf r) (pos 1) ≡ false → eqZ (typeOf r) (pos 2) ≡ false → eqZ (typeOf r) (pos 3) ≡ true → leaderOf r b ≡ b % 4 / 2 * 2
-    unfolding splitSaid
-    leader-8x16 b n1 n2 e = leader-said b S8x16 (no _ _ n1 ∙ (no _ _ n2 ∙ yes _ _ e))
+      module _ (n2 : type ≡ 2 → ⊥) where
+        past : {s : Split} → pick (eqZ (typeOf r) (pos 3)) S8x16 (Quarters said) ≡ s → splitSaid r ≡ s
+        unfolding splitSaid
+        past e = no _ _ (is-not (typeOf r) fits 1 (omega arith) n1) ∙ (no _ _ (is-not (typeOf r) fits 2 (omega arith) n2) ∙ e)
 
-    pub leader-8x8 : (b : ℕ) → b < 16 → eqZ (typeOf r) (pos 1) ≡ false → eqZ (typeOf r) (pos 2) ≡ false → eqZ (typeOf r) (pos 3) ≡ false → leaderOf r b ≡ subLeader (subSplitOf (subTypeOf r (quadrantOf b))) b
-    unfolding splitSaid
-    leader-8x8 b h n1 n2 n3 =
-        leader-said b (Quarters said) (no _ _ n1 ∙ (no _ _ n2 ∙ no _ _ n3))
-        ∙ ap (λ (s : SubSplit). subLeader s b) (each (λ q. subSplitAt said q ≡ subSplitOf (subTypeOf r q)) refl refl refl refl (quadrantOf b) (omega arith))
+        pub leader-8x16 : type ≡ 3 → leaderOf r b ≡ b % 4 / 2 * 2
+        leader-8x16 e = said-leader S8x16 (past (yes _ _ (is (typeOf r) fits 3 (omega arith) e)))
+
+        pub leader-8x8 : (type ≡ 3 → ⊥) → b < 16 → leaderOf r b ≡ subLeader (subSplitOf (subTypeOf r (quadrantOf b))) b
+        leader-8x8 n3 h =
+            said-leader (Quarters said) (past (no _ _ (is-not (typeOf r) fits 3 (omega arith) n3)))
+            ∙ ap (λ (s : SubSplit). subLeader s b)
+            (each (λ q. subSplitAt said q ≡ subSplitOf (subTypeOf r q)) refl refl refl refl (quadrantOf b) (omega arith))

@@ -1,19 +1,19 @@
 -- Rules 2 to 5 as ranges of words. Assumes nothing.
 use Prim.Native.Nat.{ℕ, zero, suc, _+_, _*_}
 use mathlib.Core.Path.{_≡_, refl, sym, ap, _∙_}
-use mathlib.Core.Bool.{Bool, true, false, not, _&&_, _||_, and-assoc, and-comm, and-true, and-false, Bool·not-not}
+use mathlib.Core.Bool.{Bool, true, false, not, _&&_, and-assoc, and-comm, and-true, and-false, Bool·not-not}
 use mathlib.Core.List.{List}
-use native.Mathlib.Nat.{le-antisymm, le-refl, add-zero}
+use native.Mathlib.Nat.{le-antisymm, add-zero}
 use native.Mathlib.Omega.{arith}
 use lib.Dec.{leb, ltb, eqb}
 use lib.IntN.{ℤ, pos, negsuc}
 use lib.Signed.{leZ, ltZ}
-use borrow.Author.Tests.{ltb-true, ltb-false, leb-true, leb-false, lt-leb, le-leb, eqb-true, eq-eqb, ne-eqb}
+use borrow.Author.Tests.{ltb-true, ltb-false, leb-true, leb-false, lt-leb, le-leb, eq-eqb, ne-eqb}
 use Rattle.definitions.specs.declared.Prediction.{Prediction}
-use Rattle.definitions.specs.Tests.{pick, minus, eqZ, between, allBelow}
+use Rattle.definitions.specs.Tests.{minus, eqZ, between, allBelow}
 use Rattle.definitions.specs.Record.{wordOf, typeOf, isIntra, referenceOf, predictionOf, used, vectorWord, rule1, rule2, rule3, rule4, rule5}
 use Rattle.definitions.specs.Splits.{quadrantOf}
-use Rattle.definitions.proofs.Choices.{and-intro, eqZ-true, eqZ-refl, yes, no, below-same}
+use Rattle.definitions.proofs.Choices.{and-intro, eqZ-true, yes, no, below-same}
 use Rattle.records.specs.declared.Range.{Range}
 use Rattle.records.specs.Checking.{within, allWithin, quadrantUsed, listRight, vectorsRight}
 
@@ -54,9 +54,9 @@ one-number (negsuc a) (negsuc b) = and-comm (leb b a) (leb a b) ∙ same-nat a b
 narrowed : (low high z : ℤ) → between low high (pos 0) ≡ true → (between low high z && eqZ z (pos 0)) ≡ between (pos 0) (pos 0) z
 narrowed low high z holds = rw (one-number (pos 0) z) (by (eqZ z (pos 0)) refl)
   where
-  by : (t : Bool) → eqZ z (pos 0) ≡ t → (between low high z && t) ≡ t
-  by true e = and-true (between low high z) ∙ (ap (between low high) (eqZ-true z (pos 0) e) ∙ holds)
-  by false e = and-false (between low high z)
+    by : (t : Bool) → eqZ z (pos 0) ≡ t → (between low high z && t) ≡ t
+    by true e = and-true (between low high z) ∙ (ap (between low high) (eqZ-true z (pos 0) e) ∙ holds)
+    by false e = and-false (between low high z)
 
 -- ---- Rules 2 to 4
 abbrev pub only : ℤ → Range

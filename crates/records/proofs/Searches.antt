@@ -21,6 +21,6 @@ search-end f n k le ge passed = let e : k ≡ n = omega arith in rw e at passed
 pub search-fault : (f : ℕ → Bool) (n k : ℕ) → k < n → f k ≡ false → allBelow n f ≡ false
 search-fault f n k lt here = fault (allBelow n f) refl
   where
-  fault : (t : Bool) → allBelow n f ≡ t → t ≡ false
-  fault true e = sym (below-true n f e k lt) ∙ here
-  fault false e = refl
+    fault : (t : Bool) → allBelow n f ≡ t → t ≡ false
+    fault true e = sym (below-true n f e k lt) ∙ here
+    fault false e = refl

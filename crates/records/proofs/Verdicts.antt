@@ -2,12 +2,12 @@
 use Prim.Native.Nat.{ℕ, _+_, _<_, _≤_}
 use mathlib.Core.Path.{_≡_, refl, sym, ap, _∙_}
 use mathlib.Core.Bool.{Bool, true, false, not}
-use mathlib.Core.List.{List, [], _∷_}
+use mathlib.Core.List.{List}
 use lib.Dec.{eqb}
 use lib.IntN.{ℤ}
 use borrow.Author.Tests.{eq-eqb, ne-eqb}
 use Rattle.definitions.specs.declared.Verdict.{Verdict}
-use Rattle.definitions.specs.declared.Verdict.the-variants.{Accepted, Refused}
+use Rattle.definitions.specs.declared.Verdict.the-variants.{Refused}
 use Rattle.definitions.specs.Tests.{pick}
 use Rattle.definitions.specs.Record.{recordAt, rule1, rule2, rule3, rule4, rule5, rule6, firstBroken}
 use Rattle.definitions.specs.Refusals.{verdictOf, recordTests}

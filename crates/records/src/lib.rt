@@ -14,6 +14,7 @@ use definitions::Verdict;
 use motion::same_motion;
 
 const RECORD_WORDS: usize = 77;
+
 const UNUSED: i16 = -1;
 
 // low..high, both included
@@ -23,17 +24,23 @@ struct Range {
 }
 
 const TYPES: Range = Range { low: 0, high: 4 };
+
 const SUB_TYPES: Range = Range { low: 0, high: 3 };
+
 const REFERENCES: Range = Range { low: -1, high: 31 };
+
 const VECTORS: Range = Range {
     low: -8192,
     high: 8191,
 };
+
 const ONLY_UNUSED: Range = Range { low: -1, high: -1 };
+
 const ONLY_ZERO: Range = Range { low: 0, high: 0 };
 
 // The blocks as four quadrants of four: the first block of each quadrant, and the places in one.
 const FIRST_BLOCKS: [usize; 4] = [0, 2, 8, 10];
+
 const PLACES: [usize; 4] = [0, 1, 4, 5];
 
 // ---- Reading

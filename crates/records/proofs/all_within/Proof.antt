@@ -1,18 +1,16 @@
+-- `all_within` meets its contract: the words passed are in the range. Assumes nothing.
+use Prim.Native.Nat.{_+_, _-_, _≤_}
+use mathlib.Core.Path.{_≡_, sym}
+use mathlib.Core.Bool.{true}
+use borrow.Author.Needs.{needs}
+use Rattle.definitions.specs.Tests.{allBelow}
+use Rattle.definitions.specs.Record.{wordOf}
 use Rattle.records.proofs.Ranges.{too-low, too-high, is-within}
 use Rattle.records.proofs.Words.{word-less}
 use Rattle.records.specs.Checking.{within, allWithin}
-use Prim.Native.Nat.{ℕ, _+_, _-_, _≤_, _<_}
-use mathlib.Core.Path.{_≡_, refl, sym, _∙_, ap}
-use mathlib.Core.Bool.{Bool, true, false}
-use native.Mathlib.Omega.{arith}
-use borrow.Author.Needs.{needs}
-use Rattle.definitions.specs.Tests.{between, allBelow}
-use Rattle.definitions.specs.Record.{wordOf}
 use Rattle.records.proofs.Searches.{search-none, search-more, search-end, search-fault}
 use Rattle.records.proofs.all_within.Statement.{statement}
 use Rattle.records.proofs.all_within.Tie as tie
-use Rattle.records.proofs.all_within.Reads as reads
-use Rattle.records.proofs.all_within.Lts as lts
 
 abbrev Inv-loop : tie.InvT-loop
 Inv-loop words first count range k₀ k = (k ≤ count) × (allBelow k (λ k. within range (wordOf words (first + k))) ≡ true)
@@ -20,23 +18,18 @@ Inv-loop words first count range k₀ k = (k ≤ count) × (allBelow k (λ k. wi
 abbrev μ-loop : tie.MeasureT-loop
 μ-loop words first count range k₀ k = count - k
 
--- src/lib.rt:92:5
 loop-holds : tie.Need-loop-holds Inv-loop μ-loop
 loop-holds c = (search needs, search-none (λ k. within (c .args .range) (wordOf (c .args .words .now) (c .args .first + k))))
 
--- src/lib.rt:93:26
 add-word : tie.Need-add-word Inv-loop μ-loop
 add-word c = search needs
 
--- src/lib.rt:93:20
 mul-word : tie.Need-mul-word Inv-loop μ-loop
 mul-word c = search needs
 
--- src/lib.rt:93:20
 shared-slice-copy-out-word : tie.Need-shared-slice-copy-out-word Inv-loop μ-loop
 shared-slice-copy-out-word c = search needs
 
--- src/lib.rt:95:13
 returns : tie.Need-returns Inv-loop μ-loop
 unfolding allWithin
 returns c =
@@ -46,7 +39,6 @@ returns c =
     sym (search-fault (λ k. within (a .range) (wordOf (a .words .now) (a .first + k))) (a .count) k (c .before .before .before .before .loop-test .taken)
     (too-low (a .range) word (word-less word (a .range .low) (search needs) (search needs) (c .if1 .taken))))
 
--- src/lib.rt:98:13
 returns-2 : tie.Need-returns-2 Inv-loop μ-loop
 unfolding allWithin
 returns-2 c =
@@ -56,25 +48,22 @@ returns-2 c =
     sym (search-fault (λ k. within (a .range) (wordOf (a .words .now) (a .first + k))) (a .count) k (c .before .before .before .before .before .before .before .loop-test .taken)
     (too-high (a .range) word (word-less (a .range .high) word (search needs) (search needs) (c .if2 .taken))))
 
--- src/lib.rt:100:9
 add-k : tie.Need-add-k Inv-loop μ-loop
 add-k c = search needs
 
--- src/lib.rt:92:5
 loop-less : tie.Need-loop-less Inv-loop μ-loop
 loop-less c = search needs
 
--- src/lib.rt:92:5
 loop-again : tie.Need-loop-again Inv-loop μ-loop
 loop-again c =
     let a = c .before .before .before .before .before .before .before .before .before .args in
     let l = c .before .before .before .before .before .before .before .before .loop in
-    let word = wordOf (a .words .now) (a .first + l .k) in
-    (search needs,
-    search-more (λ k. within (a .range) (wordOf (a .words .now) (a .first + k))) (l .k) (l .inv .1)
-    (is-within (a .range) word (word-less word (a .range .low) (search needs) (search needs) (c .before .before .before .if1 .left)) (word-less (a .range .high) word (search needs) (search needs) (c .if2 .left))))
+    let word = wordOf (a .words .now) (a .first + l .k) in (
+      search needs,
+      search-more (λ k. within (a .range) (wordOf (a .words .now) (a .first + k))) (l .k) (l .inv .1)
+          (is-within (a .range) word (word-less word (a .range .low) (search needs) (search needs) (c .before .before .before .if1 .left)) (word-less (a .range .high) word (search needs) (search needs) (c .if2 .left))),
+    )
 
--- src/lib.rt:87:1
 returns-3 : tie.Need-returns-3 Inv-loop μ-loop
 unfolding allWithin
 returns-3 c =

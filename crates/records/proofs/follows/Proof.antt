@@ -1,34 +1,24 @@
+-- `follows` meets its contract: the motions of a block and of its leader are compared. Assumes nothing.
+use Prim.Native.Nat.{ℕ}
+use mathlib.Core.Path.{_∙_, ap}
+use borrow.Author.Needs.{needs}
 use Rattle.definitions.specs.Record.{motionOf}
 use Rattle.definitions.specs.Splits.{sameMotion}
-use Rattle.definitions.specs.declared.Motion.{Motion}
-use Prim.Native.Nat.{ℕ}
-use mathlib.Core.Path.{sym, _∙_, ap}
-use borrow.Author.Needs.{needs}
 use Rattle.records.proofs.follows.Statement.{statement}
 use Rattle.records.proofs.follows.Tie as tie
-use Rattle.records.proofs.follows.Reads as reads
-use Rattle.records.proofs.follows.Lts as lts
-use Rattle.records.proofs.leader.Reads as leader-reads
-use Rattle.records.proofs.motion_in.Reads as motion-in-reads
-use Rattle.records.proofs.same_motion.Reads as same-motion-reads
 
--- src/lib.rt:245:9
 motion-in-requires : tie.Need-motion-in-requires
 motion-in-requires c κs = search needs
 
--- src/lib.rt:246:30
 leader-requires : tie.Need-leader-requires
 leader-requires c κs = search needs
 
--- src/lib.rt:246:9
 motion-in-requires-2 : tie.Need-motion-in-requires-2
 motion-in-requires-2 c κs = search needs
 
--- src/lib.rt:247:5
 same-motion-requires : tie.Need-same-motion-requires
 same-motion-requires c κs = search needs
 
--- src/lib.rt:241:1
 returns : tie.Need-returns
 returns c =
     let words = c .before .before .before .before .args .words .now in

@@ -1,20 +1,15 @@
-use Rattle.definitions.specs.Record.{motionOf}
+-- `motion_in` meets its contract: both lists. Assumes nothing.
 use borrow.Author.Needs.{needs}
+use Rattle.definitions.specs.Record.{motionOf}
 use Rattle.records.proofs.motion_in.Statement.{statement}
 use Rattle.records.proofs.motion_in.Tie as tie
-use Rattle.records.proofs.motion_in.Reads as reads
-use Rattle.records.proofs.motion_in.Lts as lts
-use Rattle.records.proofs.prediction_in.Reads as prediction-in-reads
 
--- src/lib.rt:51:9
 prediction-in-requires : tie.Need-prediction-in-requires
 prediction-in-requires c κs = search needs
 
--- src/lib.rt:52:9
 prediction-in-requires-2 : tie.Need-prediction-in-requires-2
 prediction-in-requires-2 c κs = search needs
 
--- src/lib.rt:47:1
 returns : tie.Need-returns
 unfolding motionOf
 returns c =

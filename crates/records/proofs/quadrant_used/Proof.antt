@@ -1,57 +1,42 @@
-use Rattle.records.proofs.Ranges.{used-first, used-second}
-use Rattle.definitions.specs.Record.{wordOf}
-use Rattle.definitions.specs.Tests.{minus}
-use lib.IntN.{pos}
+-- `quadrant_used` meets its contract: one of a quadrant's two references is not −1. Assumes nothing.
+use Prim.Native.Nat.{_+_, _*_}
 use mathlib.Core.Bool.{not}
 use mathlib.Core.Path.{sym, _∙_, ap}
-use Rattle.definitions.proofs.Motions.{word-same}
-use Rattle.records.proofs.Words.{word-is, word-is-not}
-use lib.ListN.{getD}
-use lib.IntN.{pos, negsuc}
-use mathlib.Core.Bool.{Bool, not, _||_}
-use Prim.Native.Nat.{_+_, _*_}
-use mathlib.Core.Path.{refl, sym, _∙_, ap}
 use borrow.Author.Needs.{needs}
+use Rattle.definitions.specs.Record.{wordOf}
+use Rattle.definitions.specs.Tests.{minus}
+use Rattle.definitions.proofs.Motions.{word-same}
+use Rattle.records.proofs.Ranges.{used-first, used-second}
+use Rattle.records.proofs.Words.{word-is, word-is-not}
 use Rattle.records.proofs.quadrant_used.Statement.{statement}
 use Rattle.records.proofs.quadrant_used.Tie as tie
-use Rattle.records.proofs.quadrant_used.Reads as reads
-use Rattle.records.proofs.quadrant_used.Lts as lts
 
--- src/lib.rt:106:21
 mul-first : tie.Need-mul-first
 mul-first c = search needs
 
--- src/lib.rt:106:17
 add-first : tie.Need-add-first
 add-first c = search needs
 
--- src/lib.rt:107:8
 mul-if1 : tie.Need-mul-if1
 mul-if1 c = search needs
 
--- src/lib.rt:107:8
 shared-slice-copy-out-if1 : tie.Need-shared-slice-copy-out-if1
 shared-slice-copy-out-if1 c = search needs
 
--- src/lib.rt:108:9
 returns : tie.Need-returns
 returns c =
     let a = c .before .before .args in
     sym (used-first (a .words .now) (a .q) (word-is-not (wordOf (a .words .now) (5 + 2 * a .q)) (minus 1) (search needs) (search needs) (c .if1 .taken)))
 
--- src/lib.rt:110:11
 add-result : tie.Need-add-result
 add-result c = search needs
 
--- src/lib.rt:110:5
 mul-result : tie.Need-mul-result
 mul-result c = search needs
 
--- src/lib.rt:110:5
 shared-slice-copy-out-result : tie.Need-shared-slice-copy-out-result
 shared-slice-copy-out-result c = search needs
 
--- src/lib.rt:102:1
 returns-2 : tie.Need-returns-2
 returns-2 c =
     let a = c .before .before .before .args in

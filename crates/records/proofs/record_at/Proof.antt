@@ -1,41 +1,33 @@
-use Rattle.definitions.proofs.Records.{record-part, record-length}
+-- `record_at` meets its contract: the words of a record are the part of the list that holds them. Assumes nothing.
 use Prim.Native.Nat.{_+_, _*_, _-_}
+use mathlib.Core.List.{List}
+use mathlib.Core.Path.{_∙_, ap}
+use native.Mathlib.Omega.{arith}
 use lib.ListN.{length}
 use lib.IntN.{ℤ}
-use mathlib.Core.List.{List}
-use native.Mathlib.Omega.{arith}
-use mathlib.Core.Path.{_∙_, ap}
 use borrow.Author.Needs.{needs}
+use Rattle.definitions.proofs.Records.{record-part, record-length}
 use Rattle.records.proofs.record_at.Statement.{statement}
 use Rattle.records.proofs.record_at.Tie as tie
-use Rattle.records.proofs.record_at.Reads as reads
-use Rattle.records.proofs.record_at.Lts as lts
 
--- src/lib.rt:28:16
 mul-from : tie.Need-mul-from
 mul-from c = search needs
 
--- src/lib.rt:29:14
 add-to : tie.Need-add-to
 add-to c = search needs
 
--- src/lib.rt:30:5
 mul-result : tie.Need-mul-result
 mul-result c = search needs
 
--- src/lib.rt:30:5
 sub-result : tie.Need-sub-result
 sub-result c = search needs
 
--- src/lib.rt:30:5
 part-result-start : tie.Need-part-result-start
 part-result-start c = search needs
 
--- src/lib.rt:30:5
 part-result-end : tie.Need-part-result-end
 part-result-end c = search needs
 
--- src/lib.rt:24:1
 returns : tie.Need-returns
 returns c =
     let a = c .before .args in

@@ -1,34 +1,27 @@
+-- `sub_types_right` meets its contract: rule 2 is one range, which the type picks. Assumes nothing.
+use mathlib.Core.Path.{sym, _∙_}
+use lib.IntN.{pos}
+use borrow.Author.Needs.{needs}
+use Rattle.definitions.specs.Record.{typeOf}
 use Rattle.records.proofs.Ranges.{sub-types-any, sub-types-zero}
 use Rattle.records.proofs.Words.{word-is, word-is-not}
-use Rattle.definitions.specs.Record.{typeOf}
-use lib.IntN.{pos}
-use mathlib.Core.Path.{sym, _∙_}
-use borrow.Author.Needs.{needs}
 use Rattle.records.proofs.sub_types_right.Statement.{statement}
 use Rattle.records.proofs.sub_types_right.Tie as tie
-use Rattle.records.proofs.sub_types_right.Reads as reads
-use Rattle.records.proofs.sub_types_right.Lts as lts
-use Rattle.records.proofs.all_within.Reads as all-within-reads
 
--- src/lib.rt:109:8
 shared-slice-copy-out-if1 : tie.Need-shared-slice-copy-out-if1
 shared-slice-copy-out-if1 c = search needs
 
--- src/lib.rt:110:9
 all-within-requires : tie.Need-all-within-requires
 all-within-requires c κs = search needs
 
--- src/lib.rt:110:9
 returns : tie.Need-returns
 returns c =
     let words = c .before .before .before .args .words .now in
     c .all-within .ensures ∙ sym (sub-types-any words (word-is (typeOf words) (pos 4) (search needs) (search needs) (c .before .if1 .taken)))
 
--- src/lib.rt:112:5
 all-within-requires-2 : tie.Need-all-within-requires-2
 all-within-requires-2 c κs = search needs
 
--- src/lib.rt:105:1
 returns-2 : tie.Need-returns-2
 returns-2 c =
     let words = c .before .before .before .args .words .now in

@@ -1,35 +1,27 @@
+-- `use_right` meets its contract: rule 4, by the type. Assumes nothing.
+use mathlib.Core.Path.{sym, _∙_}
+use lib.IntN.{pos}
+use borrow.Author.Needs.{needs}
+use Rattle.definitions.specs.Record.{typeOf}
 use Rattle.records.proofs.Ranges.{use-none, use-each}
 use Rattle.records.proofs.Words.{word-is, word-is-not}
-use Rattle.definitions.specs.Record.{typeOf}
-use lib.IntN.{pos}
-use mathlib.Core.Path.{sym, _∙_}
-use borrow.Author.Needs.{needs}
 use Rattle.records.proofs.use_right.Statement.{statement}
 use Rattle.records.proofs.use_right.Tie as tie
-use Rattle.records.proofs.use_right.Reads as reads
-use Rattle.records.proofs.use_right.Lts as lts
-use Rattle.records.proofs.all_within.Reads as all-within-reads
-use Rattle.records.proofs.quadrants_used.Reads as quadrants-used-reads
 
--- src/lib.rt:145:8
 shared-slice-copy-out-if1 : tie.Need-shared-slice-copy-out-if1
 shared-slice-copy-out-if1 c = search needs
 
--- src/lib.rt:146:9
 all-within-requires : tie.Need-all-within-requires
 all-within-requires c κs = search needs
 
--- src/lib.rt:146:9
 returns : tie.Need-returns
 returns c =
     let words = c .before .before .before .args .words .now in
     c .all-within .ensures ∙ sym (use-none words (word-is (typeOf words) (pos 0) (search needs) (search needs) (c .before .if1 .taken)))
 
--- src/lib.rt:148:5
 quadrants-used-requires : tie.Need-quadrants-used-requires
 quadrants-used-requires c κs = search needs
 
--- src/lib.rt:141:1
 returns-2 : tie.Need-returns-2
 returns-2 c =
     let words = c .before .before .before .args .words .now in
