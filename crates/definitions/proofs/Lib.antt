@@ -12,6 +12,7 @@ pub mod Shapes
 pub mod Fewest
 pub mod Steps
 pub mod Scaling
+pub mod Records
 pub mod Verdicts
 pub mod Answers
 pub mod Sameness

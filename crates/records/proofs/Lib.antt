@@ -1,0 +1,7 @@
+-- Laws of this crate's proofs; other crates cite Addresses.
+pub mod Addresses
+mod Words
+mod Searches
+mod Ranges
+mod Leaders
+mod Verdicts

@@ -1,0 +1,26 @@
+-- A search for the first index at which a test fails, a turn at a time. Assumes nothing.
+use Prim.Native.Nat.{ℕ, _+_, _<_, _≤_}
+use mathlib.Core.Path.{_≡_, refl, sym, _∙_}
+use mathlib.Core.Bool.{Bool, true, false}
+use native.Mathlib.Numerals.{add-one}
+use native.Mathlib.Omega.{arith}
+use Rattle.definitions.specs.Tests.{allBelow}
+use Rattle.definitions.proofs.Choices.{and-intro, below-true}
+
+pub search-none : (f : ℕ → Bool) → allBelow 0 f ≡ true
+unfolding allBelow
+search-none f = refl
+
+pub search-more : (f : ℕ → Bool) (k : ℕ) → allBelow k f ≡ true → f k ≡ true → allBelow (k + 1) f ≡ true
+unfolding allBelow
+search-more f k passed here = rw add-one (and-intro passed here)
+
+pub search-end : (f : ℕ → Bool) (n k : ℕ) → k ≤ n → n ≤ k → allBelow k f ≡ true → allBelow n f ≡ true
+search-end f n k le ge passed = let e : k ≡ n = omega arith in rw e at passed
+
+pub search-fault : (f : ℕ → Bool) (n k : ℕ) → k < n → f k ≡ false → allBelow n f ≡ false
+search-fault f n k lt here = fault (allBelow n f) refl
+  where
+    fault : (t : Bool) → allBelow n f ≡ t → t ≡ false
+    fault true e = sym (below-true n f e k lt) ∙ here
+    fault false e = refl

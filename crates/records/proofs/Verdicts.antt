@@ -1,0 +1,73 @@
+-- The first broken rule by its parts, and the verdict on records, an address at a time. Assumes nothing.
+use Prim.Native.Nat.{ℕ, _+_, _<_, _≤_}
+use mathlib.Core.Path.{_≡_, refl, sym, ap, _∙_}
+use mathlib.Core.Bool.{Bool, true, false, not}
+use mathlib.Core.List.{List}
+use lib.Dec.{eqb}
+use lib.IntN.{ℤ}
+use borrow.Author.Tests.{eq-eqb, ne-eqb}
+use Rattle.definitions.specs.declared.Verdict.{Verdict}
+use Rattle.definitions.specs.declared.Verdict.the-variants.{Refused}
+use Rattle.definitions.specs.Tests.{pick}
+use Rattle.definitions.specs.Record.{recordAt, rule1, rule2, rule3, rule4, rule5, rule6, firstBroken}
+use Rattle.definitions.specs.Refusals.{verdictOf, recordTests}
+use Rattle.definitions.proofs.Choices.{yes, no}
+use Rattle.records.specs.Checking.{headBroken, foundAt, addresses}
+use Rattle.records.proofs.Addresses.{addresses-more, addresses-end}
+
+-- ---- The first broken rule
+head-first : (a b c d : Bool) (rest : ℕ) →
+    pick a 1 (pick b 2 (pick c 3 (pick d 4 rest)))
+    ≡ pick (eqb (pick a 1 (pick b 2 (pick c 3 (pick d 4 0)))) 0) rest (pick a 1 (pick b 2 (pick c 3 (pick d 4 0))))
+unfolding pick
+head-first true b c d rest = refl
+head-first false true c d rest = refl
+head-first false false true d rest = refl
+head-first false false false true rest = refl
+head-first false false false false rest = refl
+
+module _ (r : List ℤ) where
+  abbrev tailBroken : ℕ
+  tailBroken = pick (not (rule5 r)) 5 (pick (not (rule6 r)) 6 0)
+
+  by-head : firstBroken r ≡ pick (eqb (headBroken r) 0) tailBroken (headBroken r)
+  unfolding firstBroken headBroken
+  by-head = head-first (not (rule1 r)) (not (rule2 r)) (not (rule3 r)) (not (rule4 r)) tailBroken
+
+  pub broken-head : (n : ℕ) → headBroken r ≡ n → (n ≡ 0 → ⊥) → firstBroken r ≡ n
+  broken-head n e broken = by-head ∙ (no _ _ (ne-eqb (headBroken r) 0 (λ h. broken (sym e ∙ h))) ∙ e)
+
+  module _ (head : headBroken r ≡ 0) where
+    by-tail : firstBroken r ≡ tailBroken
+    by-tail = by-head ∙ yes _ _ (eq-eqb (headBroken r) 0 head)
+
+    pub broken-5 : rule5 r ≡ false → firstBroken r ≡ 5
+    broken-5 e = by-tail ∙ yes _ _ (ap not e)
+
+    pub broken-6 : rule5 r ≡ true → rule6 r ≡ false → firstBroken r ≡ 6
+    broken-6 e5 e6 = by-tail ∙ (no _ _ (ap not e5) ∙ yes _ _ (ap not e6))
+
+    pub broken-none : rule5 r ≡ true → rule6 r ≡ true → firstBroken r ≡ 0
+    broken-none e5 e6 = by-tail ∙ (no _ _ (ap not e5) ∙ no _ _ (ap not e6))
+
+-- ---- The verdict on the records from an address on
+module _ (base : List ℤ) (a to : ℕ) where
+  abbrev pub verdict : Verdict
+  verdict = verdictOf (recordTests base (addresses a to))
+
+  pub verdict-end : to ≤ a → foundAt a 0 ≡ verdict
+  unfolding recordTests foundAt
+  verdict-end h = yes _ _ refl ∙ sym (rw (addresses-end a to h))
+
+  module _ (h : a < to) (r : List ℤ) (here : r ≡ recordAt base a) where
+    pub verdict-more : firstBroken r ≡ 0 → verdict ≡ verdictOf (recordTests base (addresses (a + 1) to))
+    unfolding recordTests
+    verdict-more e = rw (addresses-more a to h, ← here) (no _ _ (ap (λ (n : ℕ). not (eqb n 0)) e))
+
+    pub verdict-here : (n : ℕ) → firstBroken r ≡ n → (n ≡ 0 → ⊥) → foundAt a n ≡ verdict
+    unfolding recordTests foundAt
+    verdict-here n e broken =
+        no _ _ (ne-eqb n 0 broken)
+        ∙ sym (rw (addresses-more a to h, ← here)
+        (yes _ _ (ap (λ (k : ℕ). not (eqb k 0)) e ∙ ap not (ne-eqb n 0 broken))
+        ∙ ap (λ (k : ℕ). Refused (record { number = 8; place = a; rule = k })) e))

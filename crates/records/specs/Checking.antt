@@ -1,0 +1,69 @@
+-- The parts of "Well formed" that the inner functions of the check answer for, and the addresses that a check runs over.
+use Prim.Native.Nat.{ℕ, _+_, _*_, _-_, _/_, _%_}
+use mathlib.Core.Bool.{Bool, not, _&&_, _||_}
+use mathlib.Core.List.{List, [], _∷_}
+use lib.Dec.{eqb}
+use lib.IntN.{ℤ}
+use lib.ListN.{getD}
+use Rattle.definitions.specs.declared.SubSplit.{SubSplit}
+use Rattle.definitions.specs.declared.SubSplit.the-variants.{S8x8, S8x4, S4x8, S4x4}
+use Rattle.definitions.specs.declared.SubSplits.{SubSplits}
+use Rattle.definitions.specs.declared.Split.{Split}
+use Rattle.definitions.specs.declared.Split.the-variants.{S16x16, S16x8, S8x16, S8x8 as Quarters}
+use Rattle.definitions.specs.declared.Verdict.{Verdict}
+use Rattle.definitions.specs.declared.Verdict.the-variants.{Accepted, Refused}
+use Rattle.definitions.specs.Tests.{pick, between, allBelow, upTo}
+use Rattle.definitions.specs.Splits.{quadrantOf, placeOf, rasterOf}
+use Rattle.records.specs.declared.Range.{Range}
+use Rattle.definitions.specs.Record.{wordOf, referenceOf, vectorXOf, vectorYOf, isIntra, used, splitSaid, vectorWord, rule1, rule2, rule3, rule4}
+
+-- count words from the first on are in the range
+abbrev pub within : Range → ℤ → Bool
+within range z = between (range .low) (range .high) z
+
+unfoldable pub allWithin : List ℤ → ℕ → ℕ → Range → Bool
+allWithin r first count range = allBelow count (λ k. within range (wordOf r (first + k)))
+
+-- the first of rules 1 to 4 that is broken, or 0
+unfoldable pub headBroken : List ℤ → ℕ
+headBroken r = pick (not (rule1 r)) 1 (pick (not (rule2 r)) 2 (pick (not (rule3 r)) 3 (pick (not (rule4 r)) 4 0)))
+
+-- rule 4 of a quadrant: it has a used list
+abbrev pub quadrantUsed : List ℤ → ℕ → Bool
+quadrantUsed r q = used (referenceOf r q 0) || used (referenceOf r q 1)
+
+-- rule 5 of a block in one list, and of a block
+abbrev pub listRight : List ℤ → ℕ → ℕ → Bool
+listRight r b l =
+    vectorWord (used (referenceOf r (quadrantOf b) l)) (vectorXOf r b l) && vectorWord (used (referenceOf r (quadrantOf b) l)) (vectorYOf r b l)
+
+unfoldable pub vectorsRight : List ℤ → ℕ → Bool
+vectorsRight r b = allBelow 2 (listRight r b)
+
+-- rule 6: the first block of the piece that block b stands in
+abbrev pub subLeader : SubSplit → ℕ → ℕ
+subLeader S8x8 b = rasterOf (quadrantOf b) 0
+subLeader S8x4 b = rasterOf (quadrantOf b) (placeOf b / 2 * 2)
+subLeader S4x8 b = rasterOf (quadrantOf b) (placeOf b % 2)
+subLeader S4x4 b = b
+
+abbrev pub subSplitAt : SubSplits → ℕ → SubSplit
+subSplitAt t q = getD (t .a ∷ t .b ∷ t .c ∷ t .d ∷ []) q S8x8
+
+abbrev pub leaderIn : Split → ℕ → ℕ
+leaderIn S16x16 b = 0
+leaderIn S16x8 b = b / 8 * 8
+leaderIn S8x16 b = b % 4 / 2 * 2
+leaderIn (Quarters t) b = subLeader (subSplitAt t (quadrantOf b)) b
+
+-- of an intra record, which has no pieces, the block itself
+unfoldable pub leaderOf : List ℤ → ℕ → ℕ
+leaderOf r b = pick (isIntra r) b (leaderIn (splitSaid r) b)
+
+-- what a search says that ended at an address with a broken rule, or with none (0)
+unfoldable pub foundAt : ℕ → ℕ → Verdict
+foundAt a rule = pick (eqb rule 0) Accepted (Refused (record { number = 8; place = a; rule = rule }))
+
+-- from .. to−1
+abbrev pub addresses : ℕ → ℕ → List ℕ
+addresses from to = upTo (to - from) (λ k. from + k)

@@ -1,0 +1,312 @@
+// Motion records: reading one of a list of records, and the check that they are well formed.
+ghost use mathlib.Core.Path.{_≡_};
+ghost use Prim.Native.Nat.{_+_, _*_, _≤_, _<_};
+ghost use lib.ListN.{length};
+ghost use Rattle.definitions.specs.Tests.{allBelow};
+ghost use Rattle.definitions.specs.Splits.{quadrantOf, rasterOf, sameMotion};
+ghost use Rattle.definitions.specs.Record.{recordAt, isIntra, predictionOf, motionOf, subTypeOf, subSplitOf, rule2, rule4};
+ghost use Rattle.definitions.specs.Refusals.{verdictOf, recordTests};
+ghost use Rattle.records.specs.Checking.{allWithin, quadrantUsed, listRight, vectorsRight, subLeader, leaderOf, headBroken, foundAt, addresses};
+use definitions::Motion;
+use definitions::Prediction;
+use definitions::Refusal;
+use definitions::Verdict;
+use motion::same_motion;
+
+const RECORD_WORDS: usize = 77;
+
+const UNUSED: i16 = -1;
+
+// low..high, both included
+struct Range {
+    low: i16,
+    high: i16,
+}
+
+const TYPES: Range = Range { low: 0, high: 4 };
+
+const SUB_TYPES: Range = Range { low: 0, high: 3 };
+
+const REFERENCES: Range = Range { low: -1, high: 31 };
+
+const VECTORS: Range = Range {
+    low: -8192,
+    high: 8191,
+};
+
+const ONLY_UNUSED: Range = Range { low: -1, high: -1 };
+
+const ONLY_ZERO: Range = Range { low: 0, high: 0 };
+
+// The blocks as four quadrants of four: the first block of each quadrant, and the places in one.
+const FIRST_BLOCKS: [usize; 4] = [0, 2, 8, 10];
+
+const PLACES: [usize; 4] = [0, 1, 4, 5];
+
+// ---- Reading
+// The words of the record at address a.
+fn record_at(base: &[i16], a: usize) -> &[i16]
+    requires { ⌜ ((a + 1) * 77 ≤ length (now base)) × (a < 65536) ⌝ }
+    ensures { λ r. ⌜ (now r ≡ recordAt (now (base .entry)) a) × (length (now r) ≡ 77) ⌝ }
+{
+    let from = RECORD_WORDS * a;
+    let to = from + RECORD_WORDS;
+    &base[from..to]
+}
+
+fn prediction_in(words: &[i16], b: usize, l: usize) -> Prediction
+    requires { ⌜ (length (now words) ≡ 77) × (b < 16) × (l < 2) ⌝ }
+    ensures { λ p. ⌜ p ≡ predictionOf (now (words .entry)) b l ⌝ }
+{
+    let quadrant = 2 * (b / 8) + b % 4 / 2;
+    let reference = 5 + 2 * quadrant + l;
+    let vector = 13 + 4 * b + 2 * l;
+    Prediction {
+        reference: words[reference],
+        x: words[vector],
+        y: words[vector + 1],
+    }
+}
+
+fn motion_in(words: &[i16], b: usize) -> Motion
+    requires { ⌜ (length (now words) ≡ 77) × (b < 16) ⌝ }
+    ensures { λ m. ⌜ m ≡ motionOf (now (words .entry)) b ⌝ }
+{
+    let list0 = prediction_in(words, b, 0);
+    let list1 = prediction_in(words, b, 1);
+    Motion { list0, list1 }
+}
+
+pub fn is_intra(base: &[i16], a: usize) -> bool
+    requires { ⌜ ((a + 1) * 77 ≤ length (now base)) × (a < 65536) ⌝ }
+    ensures { λ t. ⌜ t ≡ isIntra (recordAt (now (base .entry)) a) ⌝ }
+{
+    let words = record_at(base, a);
+    words[0] == 0
+}
+
+pub fn motion_of(base: &[i16], a: usize, b: usize) -> Motion
+    requires { ⌜ ((a + 1) * 77 ≤ length (now base)) × (a < 65536) × (b < 16) ⌝ }
+    ensures { λ m. ⌜ m ≡ motionOf (recordAt (now (base .entry)) a) b ⌝ }
+{
+    motion_in(record_at(base, a), b)
+}
+
+// ---- Rules 1 to 4: words 0 to 12
+// Count words from the first on are in the range.
+fn all_within(words: &[i16], first: usize, count: usize, range: Range) -> bool
+    requires { ⌜ (first + count ≤ length (now words)) × (length (now words) ≡ 77) ⌝ }
+    ensures { λ t. ⌜ t ≡ allWithin (now (words .entry)) first count range ⌝ }
+{
+    let mut k: usize = 0;
+    while k < count {
+        let word = words[first + k];
+        if word < range.low {
+            return false;
+        }
+        if word > range.high {
+            return false;
+        }
+        k += 1;
+    }
+    true
+}
+
+fn sub_types_right(words: &[i16]) -> bool
+    requires { ⌜ length (now words) ≡ 77 ⌝ }
+    ensures { λ t. ⌜ t ≡ rule2 (now (words .entry)) ⌝ }
+{
+    if words[0] == 4 {
+        return all_within(words, 1, 4, SUB_TYPES);
+    }
+    all_within(words, 1, 4, ONLY_ZERO)
+}
+
+// Quadrant q has a used list.
+fn quadrant_used(words: &[i16], q: usize) -> bool
+    requires { ⌜ (length (now words) ≡ 77) × (q < 4) ⌝ }
+    ensures { λ t. ⌜ t ≡ quadrantUsed (now (words .entry)) q ⌝ }
+{
+    let first = 5 + 2 * q;
+    if words[first] != UNUSED {
+        return true;
+    }
+    words[first + 1] != UNUSED
+}
+
+fn quadrants_used(words: &[i16]) -> bool
+    requires { ⌜ length (now words) ≡ 77 ⌝ }
+    ensures { λ t. ⌜ t ≡ allBelow 4 (quadrantUsed (now (words .entry))) ⌝ }
+{
+    let mut q: usize = 0;
+    while q < 4 {
+        if !quadrant_used(words, q) {
+            return false;
+        }
+        q += 1;
+    }
+    true
+}
+
+fn use_right(words: &[i16]) -> bool
+    requires { ⌜ length (now words) ≡ 77 ⌝ }
+    ensures { λ t. ⌜ t ≡ rule4 (now (words .entry)) ⌝ }
+{
+    if words[0] == 0 {
+        return all_within(words, 5, 8, ONLY_UNUSED);
+    }
+    quadrants_used(words)
+}
+
+// The first of rules 1 to 4 that is broken, or 0.
+fn head_rule(words: &[i16]) -> u32
+    requires { ⌜ length (now words) ≡ 77 ⌝ }
+    ensures { λ rule. ⌜ rule ≡ headBroken (now (words .entry)) ⌝ }
+{
+    if !all_within(words, 0, 1, TYPES) {
+        return 1;
+    }
+    if !sub_types_right(words) {
+        return 2;
+    }
+    if !all_within(words, 5, 8, REFERENCES) {
+        return 3;
+    }
+    if !use_right(words) {
+        return 4;
+    }
+    0
+}
+
+// ---- Rule 5: the vector words of a block
+fn list_right(words: &[i16], b: usize, l: usize) -> bool
+    requires { ⌜ (length (now words) ≡ 77) × (b < 16) × (l < 2) ⌝ }
+    ensures { λ t. ⌜ t ≡ listRight (now (words .entry)) b l ⌝ }
+{
+    let p = prediction_in(words, b, l);
+    let vector = 13 + 4 * b + 2 * l;
+    if p.reference == UNUSED {
+        return all_within(words, vector, 2, ONLY_ZERO);
+    }
+    all_within(words, vector, 2, VECTORS)
+}
+
+fn vectors_right(words: &[i16], b: usize) -> bool
+    requires { ⌜ (length (now words) ≡ 77) × (b < 16) ⌝ }
+    ensures { λ t. ⌜ t ≡ vectorsRight (now (words .entry)) b ⌝ }
+{
+    if list_right(words, b, 0) {
+        return list_right(words, b, 1);
+    }
+    false
+}
+
+// ---- Rule 6: one motion in each piece
+// The block at place k of quadrant q.
+fn raster(q: usize, k: usize) -> usize
+    requires { ⌜ (q < 4) × (k < 4) ⌝ }
+    ensures { λ b. ⌜ (b ≡ rasterOf q k) × (b < 16) ⌝ }
+{
+    FIRST_BLOCKS[q] + PLACES[k]
+}
+
+// In an 8×8 split, the first block of the sub-partition that block b stands in.
+fn sub_leader(words: &[i16], b: usize) -> usize
+    requires { ⌜ (length (now words) ≡ 77) × (b < 16) ⌝ }
+    ensures { λ d. ⌜ (d ≡ subLeader (subSplitOf (subTypeOf (now (words .entry)) (quadrantOf b))) b) × (d < 16) ⌝ }
+{
+    let q = 2 * (b / 8) + b % 4 / 2;
+    let k = 2 * (b / 4 % 2) + b % 2;
+    let sub = words[1 + q];
+    if sub == 0 {
+        return raster(q, 0);
+    }
+    if sub == 1 {
+        return raster(q, k / 2 * 2);
+    }
+    if sub == 2 {
+        return raster(q, k % 2);
+    }
+    b
+}
+
+// The first block of the piece that block b stands in; of an intra record, which has no pieces, b itself.
+fn leader(words: &[i16], b: usize) -> usize
+    requires { ⌜ (length (now words) ≡ 77) × (b < 16) ⌝ }
+    ensures { λ d. ⌜ (d ≡ leaderOf (now (words .entry)) b) × (d < 16) ⌝ }
+{
+    let kind = words[0];
+    if kind == 0 {
+        return b;
+    }
+    if kind == 1 {
+        return 0;
+    }
+    if kind == 2 {
+        return b / 8 * 8;
+    }
+    if kind == 3 {
+        return b % 4 / 2 * 2;
+    }
+    sub_leader(words, b)
+}
+
+// Block b has the motion of its leader.
+fn follows(words: &[i16], b: usize) -> bool
+    requires { ⌜ (length (now words) ≡ 77) × (b < 16) ⌝ }
+    ensures { λ t. ⌜ t ≡ sameMotion (motionOf (now (words .entry)) b) (motionOf (now (words .entry)) (leaderOf (now (words .entry)) b)) ⌝ }
+{
+    let m = motion_in(words, b);
+    let n = motion_in(words, leader(words, b));
+    same_motion(m, n)
+}
+
+// ---- The check
+// What a search says that ended at an address with a broken rule, or with none.
+fn found(a: usize, rule: u32) -> Verdict
+    requires { ⌜ a ≤ 65536 ⌝ }
+    ensures { λ v. ⌜ v ≡ foundAt a rule ⌝ }
+{
+    if rule == 0 {
+        return Verdict::Accepted;
+    }
+    Verdict::Refused(Refusal {
+        number: 8,
+        place: a as u32,
+        rule,
+    })
+}
+
+// Records from..to-1 are well formed, or refusal 8 at the lowest that is not, with its first broken rule.
+pub fn check(base: &[i16], from: usize, to: usize) -> Verdict
+    requires { ⌜ (to * 77 ≤ length (now base)) × (from ≤ to) × (to ≤ 65536) ⌝ }
+    ensures { λ v. ⌜ v ≡ verdictOf (recordTests (now (base .entry)) (addresses from to)) ⌝ }
+{
+    let mut a = from;
+    let mut rule: u32 = 0;
+    'records: while a < to {
+        let words = record_at(base, a);
+        rule = head_rule(words);
+        if rule != 0 {
+            break 'records;
+        }
+        let mut b: usize = 0;
+        while b < 16 {
+            if !vectors_right(words, b) {
+                rule = 5;
+                break 'records;
+            }
+            b += 1;
+        }
+        b = 0;
+        while b < 16 {
+            if !follows(words, b) {
+                rule = 6;
+                break 'records;
+            }
+            b += 1;
+        }
+        a += 1;
+    }
+    found(a, rule)
+}
