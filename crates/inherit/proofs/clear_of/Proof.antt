@@ -5,7 +5,7 @@ use native.Mathlib.Nat.{add-zero}
 use native.Mathlib.Omega.{arith}
 use Rattle.definitions.specs.Inheriting.{marked, clearOf}
 use Rattle.definitions.proofs.Choices.{four-same}
-use Rattle.inherit.proofs.Quadrants.{corner-below}
+use Rattle.inherit.proofs.Corners.{corner-below}
 use borrow.Author.Needs.{needs}
 use Rattle.inherit.proofs.clear_of.Statement.{statement}
 use Rattle.inherit.proofs.clear_of.Tie as tie

@@ -6,17 +6,17 @@ use borrow.Author.Needs.{needs}
 use Rattle.inherit.proofs.resolve.Statement.{statement}
 use Rattle.inherit.proofs.resolve.Tie as tie
 
-quadrant-requires : tie.Need-quadrant-requires
-quadrant-requires c κs = search needs
+merged-quadrant-requires : tie.Need-merged-quadrant-requires
+merged-quadrant-requires c κs = search needs
 
-quadrant-requires-2 : tie.Need-quadrant-requires-2
-quadrant-requires-2 c κs = search needs
+merged-quadrant-requires-2 : tie.Need-merged-quadrant-requires-2
+merged-quadrant-requires-2 c κs = search needs
 
-quadrant-requires-3 : tie.Need-quadrant-requires-3
-quadrant-requires-3 c κs = search needs
+merged-quadrant-requires-3 : tie.Need-merged-quadrant-requires-3
+merged-quadrant-requires-3 c κs = search needs
 
-quadrant-requires-4 : tie.Need-quadrant-requires-4
-quadrant-requires-4 c κs = search needs
+merged-quadrant-requires-4 : tie.Need-merged-quadrant-requires-4
+merged-quadrant-requires-4 c κs = search needs
 
 live-of-requires : tie.Need-live-of-requires
 live-of-requires c κs = search needs
@@ -28,18 +28,18 @@ returns : tie.Need-returns
 unfolding resolved
 returns c =
     let live = c .before .live-of .ensures in
-    let quadrants = four-same (c .before .before .before .before .before .quadrant .ensures) (c .before .before .before .before .quadrant2 .ensures)
-    (c .before .before .before .quadrant3 .ensures) (c .before .before .quadrant4 .ensures) in
+    let quadrants = four-same (c .before .before .before .before .before .merged-quadrant .ensures) (c .before .before .before .before .merged-quadrant2 .ensures)
+    (c .before .before .before .merged-quadrant3 .ensures) (c .before .before .merged-quadrant4 .ensures) in
     c .copy .ensures ∙ (λ i. copied (live i) (quadrants i))
 
 pub resolve-spec : {M : Type 1} → statement M
 resolve-spec =
     tie.close
     (tie.spec
-    quadrant-requires
-    quadrant-requires-2
-    quadrant-requires-3
-    quadrant-requires-4
+    merged-quadrant-requires
+    merged-quadrant-requires-2
+    merged-quadrant-requires-3
+    merged-quadrant-requires-4
     live-of-requires
     copy-requires
     returns)

@@ -1,12 +1,12 @@
--- `inherit::quadrant` meets its contract. Assumes nothing.
+-- `inherit::merged_quadrant` meets its contract. Assumes nothing.
 use lib.ListN.{getD}
 use mathlib.Core.Bool.{Bool}
 use mathlib.Core.List.{List, []}
 use mathlib.Core.Path.{_∙_, ap}
 use Rattle.definitions.specs.Inheriting.{filled, merged}
 use borrow.Author.Needs.{needs}
-use Rattle.inherit.proofs.quadrant.Statement.{statement}
-use Rattle.inherit.proofs.quadrant.Tie as tie
+use Rattle.inherit.proofs.merged_quadrant.Statement.{statement}
+use Rattle.inherit.proofs.merged_quadrant.Tie as tie
 
 clear-of-requires : tie.Need-clear-of-requires
 clear-of-requires c κs = search needs
@@ -28,7 +28,7 @@ returns c =
     let a = c .before .before .before .before .args in
     c .merge .ensures ∙ ap merged (c .before .fill .ensures ∙ ap (λ (x : List Bool). filled x (getD (a .t2) (a .q) [])) (c .before .before .before .clear-of .ensures))
 
-pub quadrant-spec : {M : Type 1} → statement M
-quadrant-spec =
+pub merged-quadrant-spec : {M : Type 1} → statement M
+merged-quadrant-spec =
     tie.close
     (tie.spec clear-of-requires mul-n array-copy-out-n fill-requires merge-requires returns)

@@ -1,9 +1,8 @@
--- What the functions on a quadrant put together is what the definitions say. Assumes nothing.
-use Prim.Native.Nat.{ℕ, _≤_, _<_}
+-- What the functions on a list put together is a merged list, and of both lists a merged quadrant. Assumes nothing.
+use Prim.Native.Nat.{ℕ}
 use mathlib.Core.Path.{_≡_, sym, _∙_, ap}
 use mathlib.Core.Bool.{Bool, true, false}
 use mathlib.Core.List.{List, [], _∷_}
-use native.Mathlib.Omega.{arith}
 use lib.IntN.{ℤ}
 use lib.ListN.{getD}
 use Rattle.definitions.specs.declared.Prediction.{Prediction}
@@ -11,20 +10,18 @@ use Rattle.definitions.specs.declared.Motion.{Motion}
 use Rattle.definitions.specs.Tests.{four}
 use Rattle.definitions.specs.Record.{used}
 use Rattle.definitions.specs.Inheriting.{nothing, noMotion, source, lowest, having, withReference, unused, mergedList, merged}
-use Rattle.definitions.proofs.Choices.{yes, no, each}
-
--- the first block of a quadrant
-pub corner-below : (q : ℕ) → q < 4 → getD (0 ∷ 2 ∷ 8 ∷ 10 ∷ []) q 0 ≤ 10
-corner-below = each (λ q. getD (0 ∷ 2 ∷ 8 ∷ 10 ∷ []) q 0 ≤ 10) (omega arith) (omega arith) (omega arith) (omega arith)
+use Rattle.definitions.proofs.Choices.{yes, no, four-same}
 
 -- a list with r used, and with none used
-abbrev taken : List Prediction → List Bool → ℤ → List Prediction
-taken p had r = four (λ k. withReference r (getD p (source had k) nothing))
+abbrev takenAt : List Prediction → List Bool → ℤ → ℕ → Prediction
+takenAt p had r k = withReference r (getD p (source had k) nothing)
 
-pub merged-used : (p : List Prediction) (had : List Bool) (r : ℤ) → r ≡ lowest p → used r ≡ true → had ≡ having p r → taken p had r ≡ mergedList p
+pub merged-used : (p : List Prediction) (had : List Bool) (r : ℤ) → r ≡ lowest p → used r ≡ true → had ≡ having p r → {a b c d : Prediction}
+    → a ≡ takenAt p had r 0 → b ≡ takenAt p had r 1 → c ≡ takenAt p had r 2 → d ≡ takenAt p had r 3 → (a ∷ b ∷ c ∷ d ∷ []) ≡ mergedList p
 unfolding mergedList
-merged-used p had r e u h =
-    ap (λ (b : List Bool). taken p b r) h ∙ (ap (λ (s : ℤ). taken p (having p s) s) e ∙ sym (yes _ _ (ap used (sym e) ∙ u)))
+merged-used p had r e u h ea eb ec ed =
+    let same : had ≡ having p (lowest p) = h ∙ ap (having p) e in
+    four-same ea eb ec ed ∙ ((λ i. four (takenAt p (same i) (e i))) ∙ sym (yes _ _ (ap used (sym e) ∙ u)))
 
 pub merged-unused : (p : List Prediction) (r : ℤ) → r ≡ lowest p → used r ≡ false → four (λ k. unused) ≡ mergedList p
 unfolding mergedList

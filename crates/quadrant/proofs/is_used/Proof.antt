@@ -1,11 +1,11 @@
--- `inherit::is_used` meets its contract. Assumes nothing.
+-- `quadrant::is_used` meets its contract. Assumes nothing.
 use mathlib.Core.Bool.{not}
 use mathlib.Core.Path.{ap}
 use Rattle.definitions.specs.Tests.{minus}
 use Rattle.definitions.proofs.Motions.{word-same}
 use borrow.Author.Needs.{needs}
-use Rattle.inherit.proofs.is_used.Statement.{statement}
-use Rattle.inherit.proofs.is_used.Tie as tie
+use Rattle.quadrant.proofs.is_used.Statement.{statement}
+use Rattle.quadrant.proofs.is_used.Tie as tie
 
 returns : tie.Need-returns
 returns c = ap not (word-same (c .before .before .args .p .reference) (minus 1) (search needs) (search needs))

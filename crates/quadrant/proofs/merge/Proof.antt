@@ -1,10 +1,10 @@
--- `inherit::merge` meets its contract. Assumes nothing.
+-- `quadrant::merge` meets its contract. Assumes nothing.
 use mathlib.Core.Path.{_∙_}
 use Rattle.definitions.proofs.Choices.{four-same}
-use Rattle.inherit.proofs.Quadrants.{merged-both}
+use Rattle.quadrant.proofs.Merging.{merged-both}
 use borrow.Author.Needs.{needs}
-use Rattle.inherit.proofs.merge.Statement.{statement}
-use Rattle.inherit.proofs.merge.Tie as tie
+use Rattle.quadrant.proofs.merge.Statement.{statement}
+use Rattle.quadrant.proofs.merge.Tie as tie
 
 first-lists-requires : tie.Need-first-lists-requires
 first-lists-requires c κs = search needs

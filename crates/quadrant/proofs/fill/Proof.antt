@@ -1,13 +1,13 @@
--- `inherit::fill` meets its contract. Assumes nothing.
+-- `quadrant::fill` meets its contract. Assumes nothing.
 use Prim.Native.Nat.{ℕ}
 use lib.ListN.{getD}
-use mathlib.Core.Path.{_≡_, ap}
+use mathlib.Core.Path.{ap}
 use Rattle.definitions.specs.declared.Motion.{Motion}
 use Rattle.definitions.specs.Inheriting.{noMotion, filled}
 use Rattle.definitions.proofs.Choices.{four-same}
 use borrow.Author.Needs.{needs}
-use Rattle.inherit.proofs.fill.Statement.{statement}
-use Rattle.inherit.proofs.fill.Tie as tie
+use Rattle.quadrant.proofs.fill.Statement.{statement}
+use Rattle.quadrant.proofs.fill.Tie as tie
 
 source-of-requires : tie.Need-source-of-requires
 source-of-requires c κs = search needs

@@ -1,9 +1,9 @@
--- `inherit::lowest_of` meets its contract. Assumes nothing.
+-- `quadrant::lowest_of` meets its contract. Assumes nothing.
 use mathlib.Core.Path.{_∙_}
 use Rattle.definitions.specs.Inheriting.{lower, lowest}
 use borrow.Author.Needs.{needs}
-use Rattle.inherit.proofs.lowest_of.Statement.{statement}
-use Rattle.inherit.proofs.lowest_of.Tie as tie
+use Rattle.quadrant.proofs.lowest_of.Statement.{statement}
+use Rattle.quadrant.proofs.lowest_of.Tie as tie
 
 array-copy-out-lower-of : tie.Need-array-copy-out-lower-of
 array-copy-out-lower-of c = search needs

@@ -1,10 +1,10 @@
--- `inherit::lower_of` meets its contract. Assumes nothing.
+-- `quadrant::lower_of` meets its contract. Assumes nothing.
 use mathlib.Core.Path.{sym, _∙_}
 use Rattle.definitions.specs.Inheriting.{lower}
 use Rattle.definitions.proofs.Choices.{yes, no}
 use borrow.Author.Needs.{needs}
-use Rattle.inherit.proofs.lower_of.Statement.{statement}
-use Rattle.inherit.proofs.lower_of.Tie as tie
+use Rattle.quadrant.proofs.lower_of.Statement.{statement}
+use Rattle.quadrant.proofs.lower_of.Tie as tie
 
 is-used-requires : tie.Need-is-used-requires
 is-used-requires c κs = search needs

@@ -1,11 +1,11 @@
--- `inherit::merged_at` meets its contract. Assumes nothing.
+-- `quadrant::merged_at` meets its contract. Assumes nothing.
 use Prim.Native.Nat.{ℕ}
 use lib.ListN.{getD}
 use mathlib.Core.Path.{_∙_, ap}
 use Rattle.definitions.specs.Inheriting.{nothing, withReference}
 use borrow.Author.Needs.{needs}
-use Rattle.inherit.proofs.merged_at.Statement.{statement}
-use Rattle.inherit.proofs.merged_at.Tie as tie
+use Rattle.quadrant.proofs.merged_at.Statement.{statement}
+use Rattle.quadrant.proofs.merged_at.Tie as tie
 
 source-of-requires : tie.Need-source-of-requires
 source-of-requires c κs = search needs

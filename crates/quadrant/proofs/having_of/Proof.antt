@@ -1,9 +1,9 @@
--- `inherit::having_of` meets its contract. Assumes nothing.
+-- `quadrant::having_of` meets its contract. Assumes nothing.
 use Rattle.definitions.specs.Inheriting.{having}
 use Rattle.definitions.proofs.Choices.{four-same}
 use borrow.Author.Needs.{needs}
-use Rattle.inherit.proofs.having_of.Statement.{statement}
-use Rattle.inherit.proofs.having_of.Tie as tie
+use Rattle.quadrant.proofs.having_of.Statement.{statement}
+use Rattle.quadrant.proofs.having_of.Tie as tie
 
 array-copy-out-same-reference : tie.Need-array-copy-out-same-reference
 array-copy-out-same-reference c = search needs

@@ -1,12 +1,12 @@
--- `inherit::source_of` meets its contract. Assumes nothing.
+-- `quadrant::source_of` meets its contract. Assumes nothing.
 use mathlib.Core.Path.{sym, _∙_}
 use native.Mathlib.Omega.{arith}
 use Rattle.definitions.specs.Inheriting.{source}
 use Rattle.definitions.proofs.Choices.{yes, no}
 use Rattle.definitions.proofs.Steps.{horizontal-below, vertical-below, diagonal-below}
 use borrow.Author.Needs.{needs}
-use Rattle.inherit.proofs.source_of.Statement.{statement}
-use Rattle.inherit.proofs.source_of.Tie as tie
+use Rattle.quadrant.proofs.source_of.Statement.{statement}
+use Rattle.quadrant.proofs.source_of.Tie as tie
 
 mul-h : tie.Need-mul-h
 mul-h c = search needs

@@ -1,10 +1,10 @@
--- `inherit::merge_list` meets its contract. Assumes nothing.
+-- `quadrant::merge_list` meets its contract. Assumes nothing.
 use mathlib.Core.Path.{sym, _∙_}
 use Rattle.definitions.proofs.Choices.{four-same}
-use Rattle.inherit.proofs.Quadrants.{merged-used, merged-unused}
+use Rattle.quadrant.proofs.Merging.{merged-used, merged-unused}
 use borrow.Author.Needs.{needs}
-use Rattle.inherit.proofs.merge_list.Statement.{statement}
-use Rattle.inherit.proofs.merge_list.Tie as tie
+use Rattle.quadrant.proofs.merge_list.Statement.{statement}
+use Rattle.quadrant.proofs.merge_list.Tie as tie
 
 lowest-of-requires : tie.Need-lowest-of-requires
 lowest-of-requires c κs = search needs
@@ -31,9 +31,9 @@ returns : tie.Need-returns
 returns c =
     let had = c .before .before .before .before in
     let first = had .before .before .before in
-    four-same (c .before .before .before .merged-at .ensures) (c .before .before .merged-at2 .ensures) (c .before .merged-at3 .ensures) (c .merged-at4 .ensures)
-    ∙ merged-used (first .before .args .p) (had .having-of .result) (first .lowest-of .result .reference) (first .lowest-of .ensures)
+    merged-used (first .before .args .p) (had .having-of .result) (first .lowest-of .result .reference) (first .lowest-of .ensures)
     (sym (had .before .before .is-used .ensures) ∙ had .before .if1 .taken) (had .having-of .ensures)
+    (c .before .before .before .merged-at .ensures) (c .before .before .merged-at2 .ensures) (c .before .merged-at3 .ensures) (c .merged-at4 .ensures)
 
 unused-list-requires : tie.Need-unused-list-requires
 unused-list-requires c κs = search needs
