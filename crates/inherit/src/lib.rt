@@ -1,0 +1,115 @@
+// Steps 1 to 3 of "Inheriting", on sixteen motions as four quadrants of four blocks; and the count of the intra set.
+ghost use Prim.Native.Nat.{_<_};
+ghost use Rattle.definitions.specs.Inheriting.{clearOf, copied, copiedFrom, filled, liveOf, marked, merged, mostlyIntra, resolved, someOf};
+ghost use lib.ListN.{getD};
+ghost use mathlib.Core.List.{[]};
+ghost use mathlib.Core.Path.{_≡_};
+use definitions::Motion;
+
+// ---- The intra set: bit i stands for block i in raster order.
+// From this count on the answer is intra.
+const MOSTLY: u32 = 9;
+
+pub fn mostly_intra(set: u16) -> bool
+    ensures { λ r. ⌜ r ≡ mostlyIntra set ⌝ }
+{
+    u16::count_ones(set) >= MOSTLY
+}
+
+fn is_marked(set: u16, i: u32) -> bool
+    requires { ⌜ i < 16 ⌝ }
+    ensures { λ r. ⌜ r ≡ marked set i ⌝ }
+{
+    (set >> i) & 1 == 1
+}
+
+// The first block of each quadrant.
+const CORNER: [u32; 4] = [0, 2, 8, 10];
+
+// The blocks of quadrant q that read no intra macroblock.
+fn clear_of(set: u16, q: usize) -> [bool; 4]
+    requires { ⌜ q < 4 ⌝ }
+    ensures { λ r. ⌜ r ≡ clearOf set q ⌝ }
+{
+    let i = CORNER[q];
+    [
+        !is_marked(set, i),
+        !is_marked(set, i + 1),
+        !is_marked(set, i + 4),
+        !is_marked(set, i + 5),
+    ]
+}
+
+// ---- Step 3: a quadrant all intra copies another. Live are those that are not all intra.
+fn some_of(b: [bool; 4]) -> bool
+    ensures { λ r. ⌜ r ≡ someOf b ⌝ }
+{
+    if b[0] {
+        return true;
+    }
+    if b[1] {
+        return true;
+    }
+    if b[2] {
+        return true;
+    }
+    b[3]
+}
+
+fn live_of(set: u16) -> [bool; 4]
+    ensures { λ r. ⌜ r ≡ liveOf set ⌝ }
+{
+    [
+        some_of(clear_of(set, 0)),
+        some_of(clear_of(set, 1)),
+        some_of(clear_of(set, 2)),
+        some_of(clear_of(set, 3)),
+    ]
+}
+
+fn copied_from(live: [bool; 4], q: usize) -> usize
+    requires { ⌜ q < 4 ⌝ }
+    ensures { λ r. ⌜ (r ≡ copiedFrom live q) × (r < 4) ⌝ }
+{
+    let h = quadrant::HORIZONTAL[q];
+    let v = quadrant::VERTICAL[q];
+    if live[q] {
+        return q;
+    }
+    if live[h] {
+        return h;
+    }
+    v
+}
+
+fn copy(live: [bool; 4], m: [[Motion; 4]; 4]) -> [[Motion; 4]; 4]
+    ensures { λ r. ⌜ r ≡ copied live m ⌝ }
+{
+    let a = m[copied_from(live, 0)];
+    let b = m[copied_from(live, 1)];
+    let c = m[copied_from(live, 2)];
+    let d = m[copied_from(live, 3)];
+    [a, b, c, d]
+}
+
+// ---- Steps 1 to 3, in order.
+// Steps 1 and 2 of quadrant q.
+fn merged_quadrant(set: u16, m: [[Motion; 4]; 4], q: usize) -> [Motion; 4]
+    requires { ⌜ q < 4 ⌝ }
+    ensures { λ r. ⌜ r ≡ merged (filled (clearOf set q) (getD m q [])) ⌝ }
+{
+    let clear = clear_of(set, q);
+    let n = m[q];
+    quadrant::merge(quadrant::fill(clear, n))
+}
+
+pub fn resolve(set: u16, m: [[Motion; 4]; 4]) -> [[Motion; 4]; 4]
+    ensures { λ r. ⌜ r ≡ resolved set m ⌝ }
+{
+    let a = merged_quadrant(set, m, 0);
+    let b = merged_quadrant(set, m, 1);
+    let c = merged_quadrant(set, m, 2);
+    let d = merged_quadrant(set, m, 3);
+    let live = live_of(set);
+    copy(live, [a, b, c, d])
+}
