@@ -39,7 +39,7 @@ apart P m n f g =
     subst (λ (z : ℤ). P (natAbs z)) (sym (pos-minus m n)) (sub-cases (λ z. P (natAbs z)) m n (λ l. let e : n - m ≡ suc (n - suc m) = omega arith in subst P e (f l)) g)
 
 -- ---- the size of a scaled word
-abbrev sizeOf : ℕ → ℕ → ℕ → ℕ
+abbrev pub sizeOf : ℕ → ℕ → ℕ → ℕ
 sizeOf b s n = natAbs (scaledWord b s (pos n))
 
 module _ (b s n : ℕ) (z : Sized b s) where
@@ -68,7 +68,7 @@ module _ (b s n : ℕ) (z : Sized b s) where
       let e : errorOf b s (pos n) (negsuc m) ≡ b * suc m + s * n = ap natAbs (sym (negℤ-+ℤ (pos (b * suc m)) (pos (s * n)))) ∙ size-neg (pos (b * suc m + s * n)) in
       absurd (omega (arith, rw e at (h .near)))
 
-  size-high : sizeOf b s n ≤ 2 * n
+  pub size-high : sizeOf b s n ≤ 2 * n
   size-high =
       let hb : 0 < b = omega arith in
       let l : sizeOf b s n < 2 * n + 1 = div-lt-iff-lt-mul hb .1 (omega (arith, mul-le-mul-left n (z .scaled-high))) in

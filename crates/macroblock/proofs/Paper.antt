@@ -13,7 +13,8 @@ use Rattle.definitions.specs.Inheriting.{intraSet, gathered, inheritedMotions}
 use Rattle.definitions.specs.Answer.{namedAt, answerOf, writtenFor, madeOf}
 use Rattle.definitions.proofs.Choices.{yes, no, and-intro}
 use Rattle.definitions.proofs.Answers.{made-outside}
-use Rattle.macroblock.specs.Made.{setBy, motionBy, gatheredBy, motionsBy, answerBy, madeBy, readOf, placedBy}
+use Rattle.macroblock.specs.Made.{motionsBy, answerBy, madeBy, readOf, placedBy}
+use Rattle.gather.specs.Reads.{setBy, motionBy, gatheredBy}
 
 module _ (g : Axes) (column row : ℕ) (base : List ℤ) where
   abbrev hor : AxisStep

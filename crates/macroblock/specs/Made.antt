@@ -1,10 +1,8 @@
 -- What is made of a macroblock inside, as a function of what its axes give and of the base: document 01's, with the axes' part worked out once.
-use Prim.Native.Nat.{ℕ, _+_, _*_, _/_, _%_, _≤_, _<_}
-use mathlib.Core.Path.{_≡_}
+use Prim.Native.Nat.{ℕ}
 use mathlib.Core.Bool.{true, false, _&&_}
 use mathlib.Core.List.{List, [], _∷_}
 use lib.IntN.{ℤ, pos}
-use lib.ListN.{length, getD}
 use Rattle.definitions.specs.declared.Axis.{Axis}
 use Rattle.definitions.specs.declared.Axes.{Axes}
 use Rattle.definitions.specs.declared.AxisStep.{AxisStep}
@@ -15,30 +13,10 @@ use Rattle.definitions.specs.declared.Answer.the-variants.{Outside, Intra, Inhe
 use Rattle.macroblock.specs.declared.AxisRead.{AxisRead}
 use Rattle.definitions.specs.Tests.{pick, four}
 use Rattle.definitions.specs.Geometry.{baseSize, classOf, macroblocks, insideAxis, sampleOf}
-use Rattle.definitions.specs.BlockMap.{columnOf, placeIn, stepOf}
-use Rattle.definitions.specs.Splits.{rasterOf}
-use Rattle.definitions.specs.Record.{recordWords, recordAt, isIntra, motionOf, wellFormed}
-use Rattle.definitions.specs.Inheriting.{setOf, mostlyIntra, at, resolved, scaledMotion, chosen}
+use Rattle.definitions.specs.BlockMap.{stepOf}
+use Rattle.definitions.specs.Inheriting.{mostlyIntra, at, resolved, scaledMotion, chosen}
 use Rattle.definitions.specs.Answer.{Made, writtenFor}
-
--- The coordinates that the blocks read along the two axes, and how many macroblocks wide the base is: the address and the block that block i reads
-abbrev pub addressBy : ℕ → List ℕ → List ℕ → ℕ → ℕ
-addressBy width across down i = columnOf (getD down (i / 4) 0) * width + columnOf (getD across (i % 4) 0)
-
-abbrev pub blockBy : List ℕ → List ℕ → ℕ → ℕ
-blockBy across down i = 4 * placeIn (getD down (i / 4) 0) + placeIn (getD across (i % 4) 0)
-
-abbrev pub readBy : ℕ → List ℕ → List ℕ → List ℤ → ℕ → List ℤ
-readBy width across down base i = recordAt base (addressBy width across down i)
-
-unfoldable pub setBy : ℕ → List ℕ → List ℕ → List ℤ → ℕ
-setBy width across down base = setOf 16 (λ i. isIntra (readBy width across down base i))
-
-unfoldable pub motionBy : ℕ → List ℕ → List ℕ → List ℤ → ℕ → Motion
-motionBy width across down base i = motionOf (readBy width across down base i) (blockBy across down i)
-
-unfoldable pub gatheredBy : ℕ → List ℕ → List ℕ → List ℤ → List (List Motion)
-gatheredBy width across down base = four (λ q. four (λ k. motionBy width across down base (rasterOf q k)))
+use Rattle.gather.specs.Reads.{setBy, gatheredBy}
 
 abbrev pub namedBy : AxisStep → AxisStep → Named
 namedBy h v = record { class = classOf (h .two) (v .two); column = h .first; row = v .first }
@@ -54,12 +32,6 @@ answerBy g h v base =
 
 unfoldable pub madeBy : Axes → AxisStep → AxisStep → List ℤ → Made
 madeBy g h v base = record { answer = answerBy g h v base; written = writtenFor (answerBy g h v base) (motionsBy g h v base) }
-
--- the records that the blocks read lie in the base and are well formed
-pub record Readable (width : ℕ) (across down : List ℕ) (base : List ℤ) : Type 0 where
-  pub low : (i : ℕ) → i < 16 → addressBy width across down i < 65536
-  pub fits : (i : ℕ) → i < 16 → (addressBy width across down i + 1) * recordWords ≤ length base
-  pub formed : (i : ℕ) → i < 16 → wellFormed (readBy width across down base i) ≡ true
 
 -- An axis at macroblock x: whether it is inside there, and then its step
 abbrev pub noStep : AxisStep

@@ -1,12 +1,9 @@
 -- `motion::scale_size` meets its contract. Assumes nothing.
 use Prim.Native.Nat.{_≤_}
-use lib.Dec.{leb→le}
-use lib.IntN.{pos}
-use lib.Signed.{≤ℤ-refl}
 use mathlib.Core.Path.{refl}
 use native.Mathlib.Nat.{mul-le-mul}
 use native.Mathlib.Omega.{arith}
-use Rattle.definitions.proofs.Rounding.{scaled-high}
+use Rattle.definitions.proofs.Rounding.{size-high}
 use borrow.Author.Needs.{needs}
 use Rattle.motion.proofs.scale_size.Statement.{statement}
 use Rattle.motion.proofs.scale_size.Tie as tie
@@ -23,7 +20,7 @@ div-result c = search needs
 returns : tie.Need-returns
 returns c =
     let a = c .args in
-    (refl, leb→le _ _ (scaled-high (a .b) (a .s) (pos (a .n)) (a .n) (c .pre .1) (≤ℤ-refl (pos (a .n))) .le))
+    (refl, size-high (a .b) (a .s) (a .n) (c .pre .1))
 
 pub scale-size-spec : {M : Type 1} → statement M
 scale-size-spec = tie.close (tie.spec mul-result add-result div-result returns)

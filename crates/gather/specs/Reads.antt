@@ -1,0 +1,38 @@
+-- What the blocks of a macroblock read, by the coordinates that its two axes give (across and down) and the base's width in macroblocks.
+use Prim.Native.Nat.{ℕ, _+_, _*_, _/_, _%_, _≤_, _<_}
+use mathlib.Core.Path.{_≡_}
+use mathlib.Core.Bool.{true}
+use mathlib.Core.List.{List}
+use lib.IntN.{ℤ}
+use lib.ListN.{length, getD}
+use Rattle.definitions.specs.declared.Motion.{Motion}
+use Rattle.definitions.specs.Tests.{four}
+use Rattle.definitions.specs.BlockMap.{columnOf, placeIn}
+use Rattle.definitions.specs.Splits.{rasterOf}
+use Rattle.definitions.specs.Record.{recordWords, recordAt, isIntra, motionOf, wellFormed}
+use Rattle.definitions.specs.Inheriting.{setOf}
+
+-- the address and the block that block i reads
+abbrev pub addressBy : ℕ → List ℕ → List ℕ → ℕ → ℕ
+addressBy width across down i = columnOf (getD down (i / 4) 0) * width + columnOf (getD across (i % 4) 0)
+
+abbrev pub blockBy : List ℕ → List ℕ → ℕ → ℕ
+blockBy across down i = 4 * placeIn (getD down (i / 4) 0) + placeIn (getD across (i % 4) 0)
+
+abbrev pub readBy : ℕ → List ℕ → List ℕ → List ℤ → ℕ → List ℤ
+readBy width across down base i = recordAt base (addressBy width across down i)
+
+unfoldable pub setBy : ℕ → List ℕ → List ℕ → List ℤ → ℕ
+setBy width across down base = setOf 16 (λ i. isIntra (readBy width across down base i))
+
+unfoldable pub motionBy : ℕ → List ℕ → List ℕ → List ℤ → ℕ → Motion
+motionBy width across down base i = motionOf (readBy width across down base i) (blockBy across down i)
+
+unfoldable pub gatheredBy : ℕ → List ℕ → List ℕ → List ℤ → List (List Motion)
+gatheredBy width across down base = four (λ q. four (λ k. motionBy width across down base (rasterOf q k)))
+
+-- the records that the blocks read lie in the base and are well formed
+pub record Readable (width : ℕ) (across down : List ℕ) (base : List ℤ) : Type 0 where
+  pub low : (i : ℕ) → i < 16 → addressBy width across down i < 65536
+  pub fits : (i : ℕ) → i < 16 → (addressBy width across down i + 1) * recordWords ≤ length base
+  pub formed : (i : ℕ) → i < 16 → wellFormed (readBy width across down base i) ≡ true
