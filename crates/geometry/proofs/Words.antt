@@ -1,7 +1,7 @@
 -- Signed words: quotients, remainders and products that fit, and the tests on them. Assumes nothing.
 use Prim.Native.Nat.{ℕ, zero, suc, _*_, _-_, _/_, _%_, _<_, _^_}
 use mathlib.Core.Path.{_≡_, refl, sym, ap, subst, _∙_}
-use mathlib.Core.Bool.{true, false, false≢true}
+use mathlib.Core.Bool.{Bool, true, false, _&&_, false≢true}
 use native.Mathlib.Nat.{div-le-self, mod-lt, mul-le-mul}
 use native.Mathlib.Omega.{arith}
 use lib.Dec.{T, eqb, leb}
@@ -36,6 +36,10 @@ rem-zero (negsuc a) n l h =
 
 pub cast-fits : (z : ℤ) → SFits w32 z → T (nonNeg z) → T (nonNeg (toZ w32 (ofZ w32 z))) × Fits w32 (natAbs (toZ w32 (ofZ w32 z)))
 cast-fits z f t = rw (toZ-ofZ f) (t, fits-natAbs tt f)
+
+-- a test of two words, each read back from its bits
+pub both : (f : ℤ → Bool) (x y : ℤ) {r s : Bool} → SFits w32 x → SFits w32 y → r ≡ f (toZ w32 (ofZ w32 x)) → s ≡ f (toZ w32 (ofZ w32 y)) → (r && s) ≡ (f x && f y)
+both f x y h v p q = rw (p, q, toZ-ofZ h, toZ-ofZ v)
 
 -- a few times a base size that refusal 1 accepts
 pub times-fits : (k : ℕ) (b : ℤ) → k < 16 → sizeRight b ≡ true → SFits w32 (pos k *ℤ b)
