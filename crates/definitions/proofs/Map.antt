@@ -14,8 +14,9 @@ use lib.Signed.{ltZ}
 use borrow.Author.Tests.{eqb-true, eqb-false, le-leb, ltb-true}
 use Rattle.definitions.specs.Accepted.{Inside}
 use Rattle.definitions.specs.Tests.{pick, minus, allBelow}
-use Rattle.definitions.specs.Geometry.{kOf, pOf, d1Of, d2Of, roundedOf, even, mOf, nOf, fOf, twoOf, columnsRead, macroblocks}
+use Rattle.definitions.specs.Geometry.{kOf, pOf, d1Of, d2Of, roundedOf, even, mOf, nOf, fOf, twoOf, columnsRead, macroblocks, classOf}
 use Rattle.definitions.specs.BlockMap.{digitsOf, coordinateOf}
+use Rattle.definitions.specs.Answer.{twoColumns, twoRows}
 use Rattle.definitions.proofs.Choices.{pick-cases, and-true, or-true, implies, implied, below-true}
 use Rattle.definitions.proofs.Differences.{sub-pos, sub-cases}
 use Rattle.definitions.proofs.Places.{near, first-edge, last-edge, m-even, n-even, m-odd, n-odd}
@@ -266,3 +267,16 @@ module _ (b s c : ℕ) (a : Inside b s c) where
 
   pub coordinate-below : (i : ℕ) → i < 4 → coordinateOf b s c i < b / 4
   coordinate-below i h = omega (arith, named-below (read-named i h))
+
+-- ---- both axes: the class says on which of them two are read
+pub class-columns : (columns rows : Bool) → twoColumns (classOf columns rows) ≡ columns
+class-columns true true = refl
+class-columns true false = refl
+class-columns false true = refl
+class-columns false false = refl
+
+pub class-rows : (columns rows : Bool) → twoRows (classOf columns rows) ≡ rows
+class-rows true true = refl
+class-rows true false = refl
+class-rows false true = refl
+class-rows false false = refl
