@@ -1,16 +1,16 @@
 -- Bounds of the numbers on the way to an axis step. Assumes nothing.
 use Prim.Native.Nat.{ℕ, suc, _+_, _*_, _-_, _/_, _≤_, _<_, _^_}
-use mathlib.Core.Path.{_≡_, subst, sym}
-use mathlib.Core.Bool.{Bool, true, _&&_}
+use mathlib.Core.Path.{_≡_}
+use mathlib.Core.Bool.{true}
 use native.Mathlib.Nat.{div-lt-iff-lt-mul, mul-le-mul}
 use native.Mathlib.Omega.{arith}
-use lib.IntN.{ℤ, pos, negsuc, natAbs, subℕ, _+ℤ_, _-ℤ_}
+use lib.IntN.{ℤ, pos, negsuc, natAbs, subℕ, _+ℤ_}
 use lib.Signed.{mag, leZ, _≤ℤ_}
 use lib.Dec.{leb→le}
 use mir.Syntax.{w32}
 use mir.Val.{SFits}
 use Rattle.definitions.specs.declared.Axis.{Axis}
-use Rattle.definitions.specs.Accepted.{AcceptedAxis, Inside, Sized}
+use Rattle.definitions.specs.Accepted.{Inside, Sized}
 use Rattle.definitions.specs.Geometry.{pOf, scaledSize, offsetOf, insideAxis}
 use Rattle.definitions.specs.Tests.{minus}
 use Rattle.definitions.proofs.Choices.{and-true}

@@ -1,20 +1,20 @@
 -- Signed words: quotients, remainders and products that fit, and the tests on them. Assumes nothing.
-use Prim.Native.Nat.{ℕ, zero, suc, _+_, _*_, _-_, _/_, _%_, _≤_, _<_, _^_}
+use Prim.Native.Nat.{ℕ, zero, suc, _*_, _-_, _/_, _%_, _<_, _^_}
 use mathlib.Core.Path.{_≡_, refl, sym, ap, subst, _∙_}
-use native.Mathlib.Nat.{div-le-self, mod-lt}
+use mathlib.Core.Bool.{Bool, true, false, _&&_, false≢true}
+use native.Mathlib.Nat.{div-le-self, mod-lt, mul-le-mul}
 use native.Mathlib.Omega.{arith}
-use mathlib.Core.Bool.{true, false, false≢true}
 use lib.Dec.{T, eqb, leb}
 use lib.IntN.{ℤ, pos, negsuc, negℤ, natAbs, subℕ, _-ℤ_, _*ℤ_}
 use lib.Signed.{mag, ltZ, nonNeg, quotZ, remZ}
+use borrow.Author.Tests.{eq-eqb, ne-eqb, leb-true, ltb-true}
+use mir.Syntax.{w32}
+use mir.Val.{Fits, SFits, ofZ, toZ}
+use mir.Facts.{toZ-ofZ, fits-natAbs}
 use Rattle.definitions.specs.Refusals.{sizeRight}
 use Rattle.definitions.specs.Tests.{minus}
 use Rattle.definitions.proofs.Choices.{and-true}
 use Rattle.definitions.proofs.Differences.{sub-neg, sub-cases}
-use mir.Syntax.{w32}
-use mir.Val.{Fits, SFits, ofZ, toZ}
-use mir.Facts.{toZ-ofZ, fits-natAbs}
-use borrow.Author.Tests.{eq-eqb, ne-eqb, leb-true, ltb-true}
 
 -- a negated natural, by cases
 neg-cases : (P : ℤ → Type 0) (n : ℕ) → (n ≡ 0 → P (pos 0)) → (0 < n → P (negsuc (n - 1))) → P (negℤ (pos n))
@@ -37,13 +37,17 @@ rem-zero (negsuc a) n l h =
 pub cast-fits : (z : ℤ) → SFits w32 z → T (nonNeg z) → T (nonNeg (toZ w32 (ofZ w32 z))) × Fits w32 (natAbs (toZ w32 (ofZ w32 z)))
 cast-fits z f t = rw (toZ-ofZ f) (t, fits-natAbs tt f)
 
--- 2B of a base size that refusal 1 accepts
-pub double-fits : (b : ℤ) → sizeRight b ≡ true → SFits w32 (pos 2 *ℤ b)
-double-fits (pos n) e =
+-- a test of two words, each read back from its bits
+pub both : (f : ℤ → Bool) (x y : ℤ) {r s : Bool} → SFits w32 x → SFits w32 y → r ≡ f (toZ w32 (ofZ w32 x)) → s ≡ f (toZ w32 (ofZ w32 y)) → (r && s) ≡ (f x && f y)
+both f x y h v p q = rw (p, q, toZ-ofZ h, toZ-ofZ v)
+
+-- a few times a base size that refusal 1 accepts
+pub times-fits : (k : ℕ) (b : ℤ) → k < 16 → sizeRight b ≡ true → SFits w32 (pos k *ℤ b)
+times-fits k (pos n) h e =
     let bounds = and-true _ (eqb (n % 16) 0) e .0 in
     let high = leb-true n 4096 (and-true (leb 16 n) (leb n 4096) bounds .1) in
-    record { sfits = omega arith }
-double-fits (negsuc n) e = absurd (false≢true e)
+    record { sfits = omega (arith, mul-le-mul h high) }
+times-fits k (negsuc n) h e = absurd (false≢true e)
 
 -- ---- by the sign
 pub is-negative : (z : ℤ) → ltZ z (pos 0) ≡ true → z ≡ negsuc (mag z)

@@ -25,7 +25,7 @@ pub record NoneNegative (n : AxisNumbers) : Type 0 where
   pub scaled : T (nonNeg (n .scaled))
   pub full : T (nonNeg (n .full))
 
--- What holds of each geometry that `new` gives: proofs/Right
+-- What holds of each geometry that `new` gives (checked-valid of proofs/Verdicts)
 pub record Valid (g : Geometry) : Type 0 where
   pub horizontal : AcceptedAxis (g .axes .horizontal)
   pub vertical : AcceptedAxis (g .axes .vertical)

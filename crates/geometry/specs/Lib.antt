@@ -1,3 +1,3 @@
--- The checked geometry as a definition.
+-- The definitions that this crate's contracts add to those of document 01.
 pub mod Checked
 pub mod Step

@@ -1,5 +1,5 @@
 // The geometry of the two layers: numbers that refusals 1 to 4 accept, and what an axis gives for one macroblock.
-pub mod map; // map.rt: the block map's table
+pub mod map; // map.rt: the block map
 pub mod sign; // sign.rt: the size and the sign of a displacement
 pub mod step; // step.rt: an axis, for one macroblock
 
@@ -101,7 +101,7 @@ fn fulls_right(n: Numbers) -> bool
     size_right(n.horizontal.full) & size_right(n.vertical.full)
 }
 
-// Asked of bases that 1 accepts.
+// Asked where 1 accepts the bases, so that 2B fits.
 fn scaleds_right(n: Numbers) -> bool
     requires { ⌜ (sizeRight (n .horizontal .base) && sizeRight (n .vertical .base)) ≡ true ⌝ }
     ensures { λ r. ⌜ r ≡ (scaledRight (n .horizontal .base) (n .horizontal .scaled) && scaledRight (n .vertical .base) (n .vertical .scaled)) ⌝ }
@@ -116,6 +116,7 @@ fn offsets_right(n: Numbers) -> bool
     offset_right(n.horizontal.offset) & offset_right(n.vertical.offset)
 }
 
+// Both tests are made: `&` is the definition's and, with no branch.
 fn between(low: i32, high: i32, x: i32) -> bool
     ensures { λ r. ⌜ r ≡ inRange low high x ⌝ }
 {
@@ -129,7 +130,7 @@ fn size_right(x: i32) -> bool
     between(Geometry::SIZE_MIN, Geometry::SIZE_MAX, x) & (x % Geometry::SIZE_STEP == 0)
 }
 
-// 3, of a base size that 1 accepts.
+// 3, asked where 1 accepts B.
 fn scaled_right(b: i32, s: i32) -> bool
     requires { ⌜ sizeRight b ≡ true ⌝ }
     ensures { λ r. ⌜ r ≡ scaledRight b s ⌝ }

@@ -9,22 +9,24 @@ ghost use mathlib.Core.Path.{_≡_};
 use crate::sign::magnitude;
 use definitions::EnhancementOffset;
 
-// Document 01's rows as decimal numbers, k even and then k odd: a line for each |M| / 4, in it an entry for each |N| / 4.
+// Document 01's rows as decimal numbers, for k even and for k odd: a line for each |M| / 4, in it an entry for each |N| / 4.
 // 0 stands where there is no row.
 const ROWS: [[[u32; 5]; 5]; 2] = [
+    // N is 0, 4, 8, 12, 16.
     [
-        [0, 0, 2345, 3344, 3344],
-        [0, 3456, 3455, 3445, 3444],
-        [0123, 0012, 0011, 0011, 0],
-        [1122, 0112, 0011, 0, 0],
-        [1122, 1112, 0, 0, 0],
+        [0, 0, 2345, 3344, 3344], // M = 0
+        [0, 3456, 3455, 3445, 3444], // M = -4
+        [0123, 0012, 0011, 0011, 0], // M = -8
+        [1122, 0112, 0011, 0, 0], // M = -12
+        [1122, 1112, 0, 0, 0], // M = -16
     ],
+    // N is 0, -4, -8, -12, -16.
     [
-        [0, 0, 2345, 3344, 3344],
-        [0, 1234, 2234, 2334, 3334],
-        [0123, 1233, 2233, 2233, 0],
-        [1122, 1223, 2233, 0, 0],
-        [1122, 1222, 0, 0, 0],
+        [0, 0, 2345, 3344, 3344], // M = 0
+        [0, 1234, 2234, 2334, 3334], // M = 4
+        [0123, 1233, 2233, 2233, 0], // M = 8
+        [1122, 1223, 2233, 0, 0], // M = 12
+        [1122, 1222, 0, 0, 0], // M = 16
     ],
 ];
 
@@ -34,7 +36,7 @@ fn table() -> [[[u32; 5]; 5]; 2]
     ROWS
 }
 
-// The row with this M and N.
+// The row with this M and N: there is one.
 fn row(k: u32, m: EnhancementOffset, n: EnhancementOffset) -> u32
     requires { ⌜ length (digitsOf (even k) (m .0) (n .0)) ≡ 4 ⌝ }
     ensures { λ r. ⌜ decimals r ≡ digitsOf (even k) (m .0) (n .0) ⌝ }
@@ -46,7 +48,7 @@ fn row(k: u32, m: EnhancementOffset, n: EnhancementOffset) -> u32
     t[e][i][j]
 }
 
-// 4F + m for each m of the row with this M and N.
+// The coordinates 4F + m, for each m of the row with this M and N.
 pub fn reads(k: u32, m: EnhancementOffset, n: EnhancementOffset, f: u32) -> [u32; 4]
     requires { ⌜ (length (digitsOf (even k) (m .0) (n .0)) ≡ 4) × (f < 65536) ⌝ }
     ensures { λ r. ⌜ r ≡ four (λ i. 4 * f + getD (digitsOf (even k) (m .0) (n .0)) i 0) ⌝ }

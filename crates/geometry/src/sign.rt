@@ -1,5 +1,5 @@
 // The size and the sign of a displacement.
-ghost use Prim.Native.Nat.{_<_, _≤_};
+ghost use Prim.Native.Nat.{_<_};
 ghost use Rattle.definitions.specs.Tests.{signed};
 ghost use lib.IntN.{natAbs};
 ghost use mathlib.Core.Path.{_≡_};

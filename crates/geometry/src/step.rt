@@ -29,6 +29,7 @@ pub fn is_inside(a: Axis, p: EnhancementSample) -> bool
     (o <= x) & (x + 16 <= o + a.scaled.0 as i32)
 }
 
+// All that the axis gives for the macroblock at P.
 pub fn axis_step(a: Axis, p: EnhancementSample) -> AxisStep
     requires { ⌜ Placed a (p .0) × (insideAxis a (p .0) ≡ true) ⌝ }
     ensures { λ r. ⌜ r ≡ stepOf a (p .0) ⌝ }
@@ -49,7 +50,7 @@ pub fn axis_step(a: Axis, p: EnhancementSample) -> AxisStep
     }
 }
 
-// c = P − o + 8.
+// c = P − o + 8: the macroblock's centre, from the window's edge.
 fn centre(a: Axis, p: EnhancementSample) -> EnhancementSample
     requires { ⌜ Placed a (p .0) × (insideAxis a (p .0) ≡ true) ⌝ }
     ensures { λ r. ⌜ r .0 ≡ cOf a (p .0) ⌝ }
@@ -91,7 +92,7 @@ fn rounded_distance(
     rounded(distance(grid_place(b, s, j), c))
 }
 
-// Z = (c·B + B/2) / S.
+// Z = (c·B + B/2) / S: c on the base scale.
 fn base_place(b: BaseSample, s: EnhancementSample, c: EnhancementSample) -> BaseSample
     requires { ⌜ Inside (b .0) (s .0) (c .0) ⌝ }
     ensures { λ r. ⌜ r .0 ≡ zOf (b .0) (s .0) (c .0) ⌝ }
@@ -99,7 +100,7 @@ fn base_place(b: BaseSample, s: EnhancementSample, c: EnhancementSample) -> Base
     BaseSample((c.0 * b.0 + b.0 / 2) / s.0)
 }
 
-// p(j) = (8·j·S + B/2) / B.
+// p(j) = (8·j·S + B/2) / B: where base sample 8j lies on the enhancement scale.
 fn grid_place(b: BaseSample, s: EnhancementSample, j: u32) -> EnhancementSample
     requires { ⌜ Sized (b .0) (s .0) × (j ≤ 512) ⌝ }
     ensures { λ r. ⌜ r .0 ≡ pOf (b .0) (s .0) j ⌝ }
@@ -122,14 +123,14 @@ fn rounded(d: EnhancementOffset) -> EnhancementOffset
     with_sign_of(d, 4 * ((magnitude(d) + 2) / 4))
 }
 
-// M of D1 and D2, N of D2 and D1.
+// By D1 and D2 it gives M, by D2 and D1 it gives N.
 fn by_parity(k: u32, x: EnhancementOffset, y: EnhancementOffset) -> EnhancementOffset
     ensures { λ r. ⌜ r .0 ≡ pick (even k) (x .0) (y .0) ⌝ }
 {
     if k % 2 == 0 { x } else { y }
 }
 
-// F.
+// F: k/2 − 1 if k is even and M > −8, else k/2.
 fn first(k: u32, m: EnhancementOffset) -> u32
     requires { ⌜ ((even k && ltZ (minus 8) (m .0)) ≡ true → 2 ≤ k) ⌝ }
     ensures { λ r. ⌜ r ≡ pick (even k && ltZ (minus 8) (m .0)) (k / 2 - 1) (k / 2) ⌝ }
@@ -141,10 +142,11 @@ fn first(k: u32, m: EnhancementOffset) -> u32
     }
 }
 
-// |M| ≥ 8: one column (row) is read. Otherwise two.
+// Two columns (rows) are read. |M| ≥ 8: one.
 fn reads_two(m: EnhancementOffset) -> bool
     requires { ⌜ natAbs (m .0) < 65536 ⌝ }
     ensures { λ r. ⌜ r ≡ not (leb 8 (natAbs (m .0))) ⌝ }
 {
-    !(magnitude(m) >= 8)
+    let one = magnitude(m) >= 8;
+    !one
 }

@@ -1,6 +1,6 @@
 -- `geometry::axis_of` meets its contract. Assumes nothing.
-use Rattle.geometry.proofs.Words.{cast-fits}
 use borrow.Author.Needs.{needs}
+use Rattle.geometry.proofs.Words.{cast-fits}
 use Rattle.geometry.proofs.axis_of.Statement.{statement}
 use Rattle.geometry.proofs.axis_of.Tie as tie
 

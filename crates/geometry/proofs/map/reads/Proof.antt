@@ -1,9 +1,9 @@
 -- `geometry::map::reads` meets its contract. Assumes nothing.
-use mathlib.Core.Path.{ap}
-use borrow.Author.Needs.{needs}
 use Prim.Native.Nat.{ℕ, _+_, _*_}
+use mathlib.Core.Path.{ap}
 use mathlib.Core.List.{List}
 use lib.ListN.{getD}
+use borrow.Author.Needs.{needs}
 use Rattle.definitions.specs.Tests.{four}
 use Rattle.geometry.proofs.map.reads.Statement.{statement}
 use Rattle.geometry.proofs.map.reads.Tie as tie

@@ -1,8 +1,8 @@
 -- `geometry::map::row` meets its contract. Assumes nothing.
 use native.Mathlib.Omega.{arith}
-use borrow.Author.Needs.{needs}
 use native.Mathlib.Nat.{lt-of-le-of-lt}
 use lib.Dec.{lit<}
+use borrow.Author.Needs.{needs}
 use Rattle.geometry.proofs.Rows.{tops}
 use Rattle.geometry.proofs.map.row.Statement.{statement}
 use Rattle.geometry.proofs.map.row.Tie as tie

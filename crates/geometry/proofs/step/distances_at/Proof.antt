@@ -1,9 +1,9 @@
 -- `geometry::step::distances_at` meets its contract. Assumes nothing.
-use mathlib.Core.Path.{ap, _∙_}
 use Prim.Native.Nat.{ℕ, _/_, _+_}
+use mathlib.Core.Path.{ap, _∙_}
 use native.Mathlib.Omega.{arith}
-use borrow.Author.Needs.{needs}
 use lib.IntN.{subℕ}
+use borrow.Author.Needs.{needs}
 use Rattle.definitions.specs.Geometry.{pOf, roundedOf}
 use Rattle.definitions.proofs.Places.{room}
 use Rattle.geometry.proofs.step.distances_at.Statement.{statement}

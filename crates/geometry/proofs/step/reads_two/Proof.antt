@@ -1,6 +1,6 @@
 -- `geometry::step::reads_two` meets its contract. Assumes nothing.
-use mathlib.Core.Path.{ap}
 use Prim.Native.Nat.{ℕ}
+use mathlib.Core.Path.{ap}
 use mathlib.Core.Bool.{not}
 use lib.Dec.{leb}
 use borrow.Author.Needs.{needs}

@@ -1,9 +1,9 @@
 -- `geometry::step::rounded_distance` meets its contract. Assumes nothing.
-use mathlib.Core.Path.{ap, _∙_}
 use Prim.Native.Nat.{ℕ, _<_}
+use mathlib.Core.Path.{ap, _∙_}
 use native.Mathlib.Omega.{arith}
+use lib.IntN.{subℕ}
 use borrow.Author.Needs.{needs}
-use lib.IntN.{ℤ, subℕ}
 use Rattle.definitions.specs.Geometry.{roundedOf}
 use Rattle.definitions.proofs.Places.{near}
 use Rattle.geometry.proofs.Bounds.{difference-small, place-top}
