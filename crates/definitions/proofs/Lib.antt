@@ -11,3 +11,4 @@ pub mod Fewest
 pub mod Steps
 pub mod Scaling
 pub mod Records
+pub mod Parts
