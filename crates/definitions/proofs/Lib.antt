@@ -13,6 +13,7 @@ pub mod Fewest
 pub mod Steps
 pub mod Scaling
 pub mod Records
+pub mod Parts
 pub mod Verdicts
 pub mod Answers
 pub mod Sameness

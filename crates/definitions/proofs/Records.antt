@@ -15,6 +15,7 @@ use Rattle.definitions.specs.declared.Split.the-variants.{S16x16, S16x8,
 use Rattle.definitions.specs.Tests.{pick, upTo}
 use Rattle.definitions.specs.Splits.{quadrantOf, placeOf, rasterOf}
 use Rattle.definitions.specs.Record.{recordAt, wordOf, typeOf, subTypeOf, referenceOf, vectorXOf, vectorYOf, motionOf, typeNumber, subTypeNumber, subSplitOf, splitSaid, laidOut}
+use Rattle.definitions.specs.Inheriting.{at, motionAt}
 use Rattle.definitions.specs.Answer.{subTypes}
 use Rattle.definitions.proofs.Choices.{each}
 
@@ -47,6 +48,9 @@ module _ (q k : ℕ) (hq : q < 4) (hk : k < 4) where
       let a = each (λ i. getD (0 ∷ 2 ∷ 8 ∷ 10 ∷ []) i 0 < 11) (omega arith) (omega arith) (omega arith) (omega arith) q hq in
       let b = each (λ i. getD (0 ∷ 1 ∷ 4 ∷ 5 ∷ []) i 0 < 6) (omega arith) (omega arith) (omega arith) (omega arith) k hk in
       omega arith
+
+  pub raster-motion : (m : List (List Motion)) → motionAt m (rasterOf q k) ≡ at m q k
+  raster-motion m = λ i. at m (raster-quadrant i) (raster-place i)
 
 pub raster-is : (b : ℕ) → b < 16 → rasterOf (quadrantOf b) (placeOf b) ≡ b
 raster-is =
