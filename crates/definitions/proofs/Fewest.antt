@@ -6,7 +6,6 @@ use mathlib.Core.Bool.{Bool, true, false, true≢false, _&&_}
 use mathlib.Core.List.{List, [], _∷_, _++_}
 use native.Mathlib.Nat.{eq-or-lt-of-le, le-of-lt, le-of-suc-le-suc, not-suc-le-zero}
 use native.Mathlib.Omega.{arith}
-use lib.Dec.{ltb}
 use lib.ListN.{length, getD}
 use borrow.Author.Tests.{ltb-true, ltb-false}
 use Rattle.definitions.specs.declared.Motion.{Motion}
@@ -338,9 +337,7 @@ unfolding fewestIn
 fewest-one m [] = sixteen-one m
 fewest-one m (x ∷ xs) =
     let rest = fewest-one m xs in
-    pick-cases (λ t. oneEach m t ≡ true) (oneEach m x) (fewer x (fewestIn xs m)) (fewestIn xs m)
-    (λ o. pick-cases (λ t. oneEach m t ≡ true) (ltb (count (fewestIn xs m)) (count x)) (fewestIn xs m) x (λ _. rest) (λ _. o))
-    (λ _. rest)
+    pick-cases (λ t. oneEach m t ≡ true) _ _ _ (λ o. pick-cases (λ t. oneEach m t ≡ true) _ _ _ (λ _. rest) (λ _. o)) (λ _. rest)
 
 module _ (m : ℕ → Motion) (s : Split) (f : Fewest m s) where
   abbrev IsIt : Split → Type 0
@@ -351,10 +348,10 @@ module _ (m : ℕ → Motion) (s : Split) (f : Fewest m s) where
 
   fewer-left : (t : Split) → oneEach m t ≡ true → IsIt (fewer s t)
   fewer-left t o =
-      pick-cases IsIt (ltb (count t) (count s)) t s (λ l. not-more t o (le-of-lt (ltb-true (count t) (count s) l))) (λ _. refl)
+      pick-cases IsIt _ _ _ (λ l. not-more t o (le-of-lt (ltb-true (count t) (count s) l))) (λ _. refl)
 
   fewer-right : (t : Split) → oneEach m t ≡ true → IsIt (fewer t s)
-  fewer-right t o = pick-cases IsIt (ltb (count s) (count t)) s t (λ _. refl) (λ l. not-more t o (ltb-false (count s) (count t) l))
+  fewer-right t o = pick-cases IsIt _ _ _ (λ _. refl) (λ l. not-more t o (ltb-false (count s) (count t) l))
 
   fewest-is : (l : List Split) (k : ℕ) → k < length l → IsIt (getD l k S16x16) → IsIt (fewestIn l m)
   unfolding fewestIn
@@ -363,7 +360,7 @@ module _ (m : ℕ → Motion) (s : Split) (f : Fewest m s) where
       yes _ _ (ap (oneEach m) e ∙ f .one) ∙ (ap (λ (t : Split). fewer t (fewestIn xs m)) e ∙ fewer-left (fewestIn xs m) (fewest-one m xs))
   fewest-is (x ∷ xs) (suc k) h e =
       let rest = fewest-is xs k (le-of-suc-le-suc h) e in
-      pick-cases IsIt (oneEach m x) (fewer x (fewestIn xs m)) (fewestIn xs m) (λ o. ap (fewer x) rest ∙ fewer-right x o) (λ _. rest)
+      pick-cases IsIt _ _ _ (λ o. ap (fewer x) rest ∙ fewer-right x o) (λ _. rest)
 
 -- ---- step 5
 pub chosen-is : (m : List (List Motion)) → chosen m ≡ splitOf m

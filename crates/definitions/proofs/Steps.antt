@@ -35,10 +35,10 @@ source-below : (g : List Bool) (k : ℕ) → k < 4 → source g k < 4
 unfolding source
 source-below g k h =
     let Below : ℕ → Type 0 = λ j. j < 4 in
-    pick-cases Below (getD g k false) _ _ (λ _. h)
-    (λ _. pick-cases Below (getD g (horizontal k) false) _ _ (λ _. horizontal-below k h)
-    (λ _. pick-cases Below (getD g (vertical k) false) _ _ (λ _. vertical-below k h)
-    (λ _. pick-cases Below (getD g (diagonal k) false) _ _ (λ _. diagonal-below k h) (λ _. h))))
+    pick-cases Below _ _ _ (λ _. h)
+    (λ _. pick-cases Below _ _ _ (λ _. horizontal-below k h)
+    (λ _. pick-cases Below _ _ _ (λ _. vertical-below k h)
+    (λ _. pick-cases Below _ _ _ (λ _. diagonal-below k h) (λ _. h))))
 
 none-good : (g : List Bool) → getD g 0 false ≡ false → getD g 1 false ≡ false → getD g 2 false ≡ false → getD g 3 false ≡ false → someOf g ≡ false
 unfolding someOf
@@ -54,10 +54,10 @@ source-good : (g : List Bool) → someOf g ≡ true → (k : ℕ) → k < 4 → 
 unfolding source
 source-good g e k h =
     let Good : ℕ → Type 0 = λ j. getD g j false ≡ true in
-    pick-cases Good (getD g k false) _ _ (λ t. t)
-    (λ a. pick-cases Good (getD g (horizontal k) false) _ _ (λ t. t)
-    (λ b. pick-cases Good (getD g (vertical k) false) _ _ (λ t. t)
-    (λ c. pick-cases Good (getD g (diagonal k) false) _ _ (λ t. t) (λ d. absurd (true≢false (sym e ∙ none-near g k h a b c d))))))
+    pick-cases Good _ _ _ (λ t. t)
+    (λ a. pick-cases Good _ _ _ (λ t. t)
+    (λ b. pick-cases Good _ _ _ (λ t. t)
+    (λ c. pick-cases Good _ _ _ (λ t. t) (λ d. absurd (true≢false (sym e ∙ none-near g k h a b c d))))))
 
 -- ---- the lowest used reference
 -- x is used, and not above z
@@ -89,24 +89,24 @@ lower-one : (a b : ℤ) → (lower a b ≡ a) ⊎ (lower a b ≡ b)
 unfolding lower
 lower-one a b =
     let One : ℤ → Type 0 = λ z. (z ≡ a) ⊎ (z ≡ b) in
-    pick-cases One (used a) _ _
-    (λ _. pick-cases One (used b) _ _ (λ _. pick-cases One (ltZ b a) _ _ (λ _. inr refl) (λ _. inl refl)) (λ _. inl refl))
+    pick-cases One _ _ _
+    (λ _. pick-cases One _ _ _ (λ _. pick-cases One _ _ _ (λ _. inr refl) (λ _. inl refl)) (λ _. inl refl))
     (λ _. inr refl)
 
 lower-left : (a b : ℤ) → used a ≡ true → Under (lower a b) a
 unfolding lower
 lower-left a b u =
     let P : ℤ → Type 0 = λ z. Under z a in
-    pick-cases P (used a) _ _
-    (λ _. pick-cases P (used b) _ _ (λ v. pick-cases P (ltZ b a) _ _ (λ l. (v, less-le b a l)) (λ _. (u, ≤ℤ-refl a))) (λ _. (u, ≤ℤ-refl a)))
+    pick-cases P _ _ _
+    (λ _. pick-cases P _ _ _ (λ v. pick-cases P _ _ _ (λ l. (v, less-le b a l)) (λ _. (u, ≤ℤ-refl a))) (λ _. (u, ≤ℤ-refl a)))
     (λ n. absurd (true≢false (sym u ∙ n)))
 
 lower-right : (a b : ℤ) → used b ≡ true → Under (lower a b) b
 unfolding lower
 lower-right a b u =
     let P : ℤ → Type 0 = λ z. Under z b in
-    pick-cases P (used a) _ _
-    (λ v. pick-cases P (used b) _ _ (λ _. pick-cases P (ltZ b a) _ _ (λ _. (u, ≤ℤ-refl b)) (λ l. (v, not-less b a l))) (λ n. absurd (true≢false (sym u ∙ n))))
+    pick-cases P _ _ _
+    (λ v. pick-cases P _ _ _ (λ _. pick-cases P _ _ _ (λ _. (u, ≤ℤ-refl b)) (λ l. (v, not-less b a l))) (λ n. absurd (true≢false (sym u ∙ n))))
     (λ _. (u, ≤ℤ-refl b))
 
 -- r is used if any of the four is, and not above any that is used
@@ -271,8 +271,8 @@ pub copied-below : (live : List Bool) (q : ℕ) → q < 4 → copiedFrom live q 
 unfolding copiedFrom
 copied-below live q h =
     let Below : ℕ → Type 0 = λ j. j < 4 in
-    pick-cases Below (getD live q false) _ _ (λ _. h)
-    (λ _. pick-cases Below (getD live (horizontal q) false) _ _ (λ _. horizontal-below q h) (λ _. vertical-below q h))
+    pick-cases Below _ _ _ (λ _. h)
+    (λ _. pick-cases Below _ _ _ (λ _. horizontal-below q h) (λ _. vertical-below q h))
 
 not-dead : (t : Bool) → (t ≡ false → ⊥) → t ≡ true
 not-dead true n = refl
@@ -284,8 +284,8 @@ copied-live : (live : List Bool) (q : ℕ) → (getD live q false ≡ false → 
 unfolding copiedFrom
 copied-live live q n =
     let Live : ℕ → Type 0 = λ j. getD live j false ≡ true in
-    pick-cases Live (getD live q false) _ _ (λ t. t)
-    (λ a. pick-cases Live (getD live (horizontal q) false) _ _ (λ t. t) (λ b. not-dead (getD live (vertical q) false) (n a b)))
+    pick-cases Live _ _ _ (λ t. t)
+    (λ a. pick-cases Live _ _ _ (λ t. t) (λ b. not-dead (getD live (vertical q) false) (n a b)))
 
 -- steps 1 and 2 of quadrant q
 abbrev quadrant : ℕ → List (List Motion) → ℕ → List Motion

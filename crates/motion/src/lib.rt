@@ -1,6 +1,5 @@
 // A block's motion: whether two are the same, and step 4 of "Inheriting", the vectors scaled.
 ghost use Prim.Native.Nat.{ℕ, _*_, _+_, _/_, _<_, _≤_};
-ghost use Rattle.definitions.proofs.Steps.{Both};
 ghost use Rattle.definitions.specs.Accepted.{AcceptedAxis, Sized};
 ghost use Rattle.definitions.specs.Inheriting.{at, noMotion, scaledMotion, scaledPrediction, scaledWord};
 ghost use Rattle.definitions.specs.Record.{vectorLimit};
@@ -86,7 +85,7 @@ fn scale_prediction(g: Axes, p: Prediction) -> Prediction
 }
 
 pub fn scale_motion(g: Axes, m: Motion) -> Motion
-    requires { ⌜ AcceptedAxis (g .horizontal) × AcceptedAxis (g .vertical) × Both InRange m ⌝ }
+    requires { ⌜ AcceptedAxis (g .horizontal) × AcceptedAxis (g .vertical) × (InRange (m .list0) × InRange (m .list1)) ⌝ }
     ensures { λ r. ⌜ r ≡ scaledMotion g m ⌝ }
 {
     let p = m.list0;
@@ -97,7 +96,7 @@ pub fn scale_motion(g: Axes, m: Motion) -> Motion
 }
 
 fn scale_quadrant(g: Axes, m: [Motion; 4]) -> [Motion; 4]
-    requires { ⌜ AcceptedAxis (g .horizontal) × AcceptedAxis (g .vertical) × ((k : ℕ) → k < 4 → Both InRange (getD m k noMotion)) ⌝ }
+    requires { ⌜ AcceptedAxis (g .horizontal) × AcceptedAxis (g .vertical) × ((k : ℕ) → k < 4 → InRange (getD m k noMotion .list0) × InRange (getD m k noMotion .list1)) ⌝ }
     ensures { λ r. ⌜ r ≡ four (λ k. scaledMotion g (getD m k noMotion)) ⌝ }
 {
     let a = scale_motion(g, m[0]);
@@ -109,7 +108,7 @@ fn scale_quadrant(g: Axes, m: [Motion; 4]) -> [Motion; 4]
 
 // The sixteen blocks, as four quadrants of four.
 pub fn scale_all(g: Axes, m: [[Motion; 4]; 4]) -> [[Motion; 4]; 4]
-    requires { ⌜ AcceptedAxis (g .horizontal) × AcceptedAxis (g .vertical) × ((q k : ℕ) → q < 4 → k < 4 → Both InRange (at m q k)) ⌝ }
+    requires { ⌜ AcceptedAxis (g .horizontal) × AcceptedAxis (g .vertical) × ((q k : ℕ) → q < 4 → k < 4 → InRange (at m q k .list0) × InRange (at m q k .list1)) ⌝ }
     ensures { λ r. ⌜ r ≡ four (λ q. four (λ k. scaledMotion g (at m q k))) ⌝ }
 {
     let a = scale_quadrant(g, m[0]);

@@ -1,8 +1,9 @@
 // Steps 1 and 2 of "Inheriting", on one quadrant of four blocks in raster order, 0 1 above 2 3.
 ghost use Prim.Native.Nat.{_<_};
-ghost use Rattle.definitions.specs.Inheriting.{filled, having, lower, lowest, merged, mergedList, noMotion, nothing, source, unused, withReference};
+ghost use Rattle.definitions.specs.Inheriting.{filled, having, merged, mergedList, noMotion, nothing, source, unused, withReference};
 ghost use Rattle.definitions.specs.Record.{used};
 ghost use Rattle.definitions.specs.Tests.{four};
+ghost use Rattle.quadrant.specs.Lowest.{lowerOf, lowestOf};
 ghost use lib.ListN.{getD};
 ghost use lib.Signed.{ltZ};
 ghost use mathlib.Core.Path.{_≡_};
@@ -62,9 +63,8 @@ fn is_lower(p: Prediction, q: Prediction) -> bool
     p.reference < q.reference
 }
 
-// Of the answer only the reference is read.
 fn lower_of(p: Prediction, q: Prediction) -> Prediction
-    ensures { λ r. ⌜ r .reference ≡ lower (p .reference) (q .reference) ⌝ }
+    ensures { λ r. ⌜ r ≡ lowerOf p q ⌝ }
 {
     if is_used(p) {
         if is_used(q) {
@@ -78,7 +78,7 @@ fn lower_of(p: Prediction, q: Prediction) -> Prediction
 }
 
 fn lowest_of(p: [Prediction; 4]) -> Prediction
-    ensures { λ r. ⌜ r .reference ≡ lowest p ⌝ }
+    ensures { λ r. ⌜ r ≡ lowestOf p ⌝ }
 {
     let a = lower_of(p[0], p[1]);
     let b = lower_of(p[2], p[3]);

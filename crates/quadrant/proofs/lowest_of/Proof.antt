@@ -1,7 +1,7 @@
 -- `quadrant::lowest_of` meets its contract. Assumes nothing.
 use mathlib.Core.Path.{_∙_}
-use Rattle.definitions.specs.Inheriting.{lower, lowest}
 use borrow.Author.Needs.{needs}
+use Rattle.quadrant.specs.Lowest.{lowerOf, lowestOf}
 use Rattle.quadrant.proofs.lowest_of.Statement.{statement}
 use Rattle.quadrant.proofs.lowest_of.Tie as tie
 
@@ -27,11 +27,11 @@ lower-of-requires-3 : tie.Need-lower-of-requires-3
 lower-of-requires-3 c κs = search needs
 
 returns : tie.Need-returns
-unfolding lowest
+unfolding lowestOf
 returns c =
     let a = c .before .before .before .before .lower-of .ensures in
     let b = c .before .lower-of2 .ensures in
-    c .lower-of3 .ensures ∙ (λ i. lower (a i) (b i))
+    c .lower-of3 .ensures ∙ (λ i. lowerOf (a i) (b i))
 
 pub lowest-of-spec : {M : Type 1} → statement M
 lowest-of-spec =

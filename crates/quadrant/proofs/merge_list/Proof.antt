@@ -1,6 +1,5 @@
 -- `quadrant::merge_list` meets its contract. Assumes nothing.
 use mathlib.Core.Path.{sym, _∙_}
-use Rattle.definitions.proofs.Choices.{four-same}
 use Rattle.quadrant.proofs.Merging.{merged-used, merged-unused}
 use borrow.Author.Needs.{needs}
 use Rattle.quadrant.proofs.merge_list.Statement.{statement}
@@ -31,19 +30,16 @@ returns : tie.Need-returns
 returns c =
     let had = c .before .before .before .before in
     let first = had .before .before .before in
-    merged-used (first .before .args .p) (had .having-of .result) (first .lowest-of .result .reference) (first .lowest-of .ensures)
-    (sym (had .before .before .is-used .ensures) ∙ had .before .if1 .taken) (had .having-of .ensures)
-    (c .before .before .before .merged-at .ensures) (c .before .before .merged-at2 .ensures) (c .before .merged-at3 .ensures) (c .merged-at4 .ensures)
+    merged-used (first .before .args .p) (had .having-of .result) (first .lowest-of .ensures) (sym (had .before .before .is-used .ensures) ∙ had .before .if1 .taken)
+    (had .having-of .ensures) (c .before .before .before .merged-at .ensures) (c .before .before .merged-at2 .ensures) (c .before .merged-at3 .ensures) (c .merged-at4 .ensures)
 
 unused-list-requires : tie.Need-unused-list-requires
 unused-list-requires c κs = search needs
 
 returns-2 : tie.Need-returns-2
 returns-2 c =
-    let n = c .unused-list .ensures in
     let first = c .before .before .before in
-    four-same n n n n
-    ∙ merged-unused (first .before .args .p) (first .lowest-of .result .reference) (first .lowest-of .ensures) (sym (c .before .before .is-used .ensures) ∙ c .before .if1 .left)
+    merged-unused (first .before .args .p) (first .lowest-of .ensures) (sym (c .before .before .is-used .ensures) ∙ c .before .if1 .left) (c .unused-list .ensures)
 
 pub merge-list-spec : {M : Type 1} → statement M
 merge-list-spec =
