@@ -1,6 +1,7 @@
 -- What is made of a macroblock inside, as a function of what its axes give and of the base: document 01's, with the axes' part worked out once.
 use Prim.Native.Nat.{ℕ}
 use mathlib.Core.Bool.{true, false, _&&_}
+use mathlib.Core.Path.{_≡_}
 use mathlib.Core.List.{List, [], _∷_}
 use lib.IntN.{ℤ, pos}
 use Rattle.definitions.specs.declared.Axis.{Axis}
@@ -16,7 +17,8 @@ use Rattle.definitions.specs.Geometry.{baseSize, classOf, macroblocks, insideAx
 use Rattle.definitions.specs.BlockMap.{stepOf}
 use Rattle.definitions.specs.Inheriting.{mostlyIntra, at, resolved, scaledMotion, chosen}
 use Rattle.definitions.specs.Answer.{Made, writtenFor}
-use Rattle.gather.specs.Reads.{setBy, gatheredBy}
+use Rattle.definitions.specs.Accepted.{AcceptedAxis}
+use Rattle.gather.specs.Reads.{Readable, setBy, gatheredBy}
 
 abbrev pub namedBy : AxisStep → AxisStep → Named
 namedBy h v = record { class = classOf (h .two) (v .two); column = h .first; row = v .first }
@@ -43,3 +45,12 @@ readOf a x = record { inside = insideAxis a (sampleOf x); step = pick (insideAxi
 -- What is made of any macroblock: outside no record is read
 unfoldable pub placedBy : Axes → AxisRead → AxisRead → List ℤ → Made
 placedBy g h v base = pick (h .inside && v .inside) (madeBy g (h .step) (v .step) base) (record { answer = Outside; written = writtenFor Outside [] })
+
+-- What the making of a macroblock asks: axes of an accepted geometry, and records that lie in the base and are well formed
+pub record Ready (g : Axes) (h v : AxisStep) (base : List ℤ) : Type 0 where
+  pub horizontal : AcceptedAxis (g .horizontal)
+  pub vertical : AcceptedAxis (g .vertical)
+  pub readable : Readable (macroblocks (baseSize (g .horizontal))) (h .reads) (v .reads) base
+
+abbrev pub Placeable : Axes → AxisRead → AxisRead → List ℤ → Type 0
+Placeable g h v base = (h .inside && v .inside) ≡ true → Ready g (h .step) (v .step) base

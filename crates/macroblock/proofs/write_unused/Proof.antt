@@ -1,0 +1,18 @@
+-- `macroblock::write_unused` meets its contract. Assumes nothing.
+use Rattle.macroblock.proofs.Making.{unused-laid}
+use mathlib.Core.Path.{_∙_}
+use borrow.Author.Needs.{needs}
+use Rattle.macroblock.proofs.write_unused.Statement.{statement}
+use Rattle.macroblock.proofs.write_unused.Tie as tie
+
+write-record-requires : tie.Need-write-record-requires
+write-record-requires c κs = search needs
+
+same-length : tie.Need-same-length
+same-length c = search needs
+
+returns : tie.Need-returns
+returns c = c .before .write-record .ensures ∙ unused-laid (c .before .before .before .args .kind)
+
+pub write-unused-spec : {M : Type 1} → statement M
+write-unused-spec = tie.close (tie.spec write-record-requires same-length returns)
