@@ -13,10 +13,10 @@ use Rattle.definitions.specs.Tests.{pick, allBelow}
 use Rattle.definitions.specs.Record.{recordAt, rule1, rule2, rule3, rule4, rule5, rule6, firstBroken}
 use Rattle.definitions.specs.Refusals.{verdictOf, recordTests}
 use Rattle.definitions.proofs.Choices.{yes, no}
-use Rattle.records.specs.Checking.{headBroken, vectorsRight, foundAt, addresses}
+use Rattle.records.specs.Checking.{headBroken, vectorsRight, sameAsFirst, foundAt, addresses}
 use Rattle.records.proofs.Searches.{search-end, search-fault}
 use Rattle.records.proofs.Ranges.{vectors-all}
-use Rattle.records.proofs.Leaders.{follows, follows-all}
+use Rattle.records.proofs.FirstBlocks.{same-all}
 use Rattle.records.proofs.Addresses.{addresses-more, addresses-end}
 
 -- ---- The first broken rule
@@ -87,10 +87,10 @@ module _ (base : List ℤ) (a to : ℕ) where
         right5 : rule5 r ≡ true
         right5 = vectors-all r ∙ search-end (vectorsRight r) 16 b5 le5 ge5 passed5
 
-        pub verdict-6 : (b : ℕ) → b < 16 → follows r b ≡ false → foundAt a 6 ≡ verdict
-        verdict-6 b h e = verdict-here 6 (broken-6 r head right5 (follows-all r ∙ search-fault (follows r) 16 b h e)) (λ z. omega arith)
+        pub verdict-6 : (b : ℕ) → b < 16 → sameAsFirst r b ≡ false → foundAt a 6 ≡ verdict
+        verdict-6 b h e = verdict-here 6 (broken-6 r head right5 (same-all r ∙ search-fault (sameAsFirst r) 16 b h e)) (λ z. omega arith)
 
         pub verdict-next :
-            (b6 : ℕ) → b6 ≤ 16 → 16 ≤ b6 → allBelow b6 (follows r) ≡ true → verdict ≡ verdictOf (recordTests base (addresses (a + 1) to))
+            (b6 : ℕ) → b6 ≤ 16 → 16 ≤ b6 → allBelow b6 (sameAsFirst r) ≡ true → verdict ≡ verdictOf (recordTests base (addresses (a + 1) to))
         verdict-next b6 le6 ge6 passed6 =
-            verdict-more (broken-none r head right5 (follows-all r ∙ search-end (follows r) 16 b6 le6 ge6 passed6))
+            verdict-more (broken-none r head right5 (same-all r ∙ search-end (sameAsFirst r) 16 b6 le6 ge6 passed6))

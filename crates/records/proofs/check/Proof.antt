@@ -6,9 +6,8 @@ use mathlib.Core.Bool.{true}
 use borrow.Author.Tests.{not-true, not-false}
 use borrow.Author.Needs.{needs}
 use Rattle.definitions.specs.Tests.{allBelow}
+use Rattle.records.specs.Checking.{foundAt, vectorsRight, sameAsFirst}
 use Rattle.records.proofs.Verdicts.{verdict-end, verdict-head, verdict-5, verdict-6, verdict-next, verdict}
-use Rattle.records.proofs.Leaders.{follows}
-use Rattle.records.specs.Checking.{foundAt, vectorsRight}
 use Rattle.records.proofs.Searches.{search-none, search-more}
 use Rattle.records.proofs.check.Statement.{statement}
 use Rattle.records.proofs.check.Tie as tie
@@ -20,7 +19,7 @@ abbrev μ-loop : tie.MeasureT-loop
 μ-loop base from to a rule₀ words b₀ rule b = 16 - b
 
 abbrev Inv-loop2 : tie.InvT-loop2
-Inv-loop2 base from to a rule₀ words b₀ rule b = (b ≤ 16) × (rule ≡ 0) × (allBelow b (follows words) ≡ true)
+Inv-loop2 base from to a rule₀ words b₀ rule b = (b ≤ 16) × (rule ≡ 0) × (allBelow b (sameAsFirst words) ≡ true)
 
 abbrev μ-loop2 : tie.MeasureT-loop2
 μ-loop2 base from to a rule₀ words b₀ rule b = 16 - b
@@ -62,11 +61,11 @@ loop-again c =
     (search needs, l .inv .1, search-more (vectorsRight words) (l .b) (l .inv .2) (sym (c .before .vectors-right .ensures) ∙ not-false _ (c .if2 .left)))
 
 loop2-holds : tie.Need-loop2-holds Inv-loop μ-loop Inv-loop2 μ-loop2 Inv-records μ-records
-loop2-holds c = (search needs, c .before .loop .inv .1, search-none (follows (c .before .before .before .before .record-at .result .now)))
+loop2-holds c = (search needs, c .before .loop .inv .1, search-none (sameAsFirst (c .before .before .before .before .record-at .result .now)))
 
-follows-requires :
-    tie.Need-follows-requires Inv-loop μ-loop Inv-loop2 μ-loop2 Inv-records μ-records
-follows-requires c κs = search needs
+same-as-first-requires :
+    tie.Need-same-as-first-requires Inv-loop μ-loop Inv-loop2 μ-loop2 Inv-records μ-records
+same-as-first-requires c κs = search needs
 
 add-b-2 : tie.Need-add-b-2 Inv-loop μ-loop Inv-loop2 μ-loop2 Inv-records μ-records
 add-b-2 c = search needs
@@ -78,7 +77,7 @@ loop2-again : tie.Need-loop2-again Inv-loop μ-loop Inv-loop2 μ-loop2 Inv-recor
 loop2-again c =
     let l = c .before .before .before .loop2 in
     let words = c .before .before .before .before .before .before .before .before .record-at .result .now in
-    (search needs, l .inv .1, search-more (follows words) (l .b) (l .inv .2) (sym (c .before .follows .ensures) ∙ not-false _ (c .if3 .left)))
+    (search needs, l .inv .1, search-more (sameAsFirst words) (l .b) (l .inv .2) (sym (c .before .same-as-first .ensures) ∙ not-false _ (c .if3 .left)))
 
 add-a : tie.Need-add-a Inv-loop μ-loop Inv-loop2 μ-loop2 Inv-records μ-records
 add-a c = search needs
@@ -147,7 +146,7 @@ check-spec =
     loop-less
     loop-again
     loop2-holds
-    follows-requires
+    same-as-first-requires
     add-b-2
     loop2-less
     loop2-again
