@@ -1,4 +1,4 @@
--- Laws of the record's layout: a record's words in the list of records, reading back what is laid out, and the split that a record says. Assumes nothing.
+-- Laws of the blocks of a macroblock and of a record's layout: its words in the list of records, reading back what is laid out, the split that it says. Assumes nothing.
 use Prim.Native.Nat.{ℕ, _+_, _*_, _/_, _%_, _<_, _≤_}
 use mathlib.Core.Path.{_≡_, refl, ap, _∙_, subst}
 use mathlib.Core.List.{List, [], _∷_}
@@ -14,7 +14,7 @@ use Rattle.definitions.specs.declared.Split.{Split}
 use Rattle.definitions.specs.declared.Split.the-variants.{S16x16, S16x8, S8x16, S8x8 as Quarters}
 use Rattle.definitions.specs.Tests.{pick, upTo}
 use Rattle.definitions.specs.Splits.{quadrantOf, placeOf, rasterOf}
-use Rattle.definitions.specs.Record.{recordAt, wordOf, typeOf, subTypeOf, referenceOf, vectorXOf, vectorYOf, motionOf, typeNumber, subTypeNumber, subSplitOf, splitSaid, laidOut}
+use Rattle.definitions.specs.Record.{recordWords, recordAt, wordOf, typeOf, subTypeOf, referenceOf, vectorXOf, vectorYOf, motionOf, typeNumber, subTypeNumber, subSplitOf, splitSaid, laidOut}
 use Rattle.definitions.specs.Inheriting.{at, motionAt}
 use Rattle.definitions.specs.Answer.{subTypes}
 use Rattle.definitions.proofs.Choices.{each}
@@ -58,16 +58,16 @@ raster-is =
 
 -- ---- A record of a list of records
 module _ (base : List ℤ) (a : ℕ) where
-  pub record-length : (a + 1) * 77 ≤ length base → length (recordAt base a) ≡ 77
+  pub record-length : (a + 1) * recordWords ≤ length base → length (recordAt base a) ≡ recordWords
   unfolding recordAt
   record-length fits = simp (length-take, length-drop) (omega arith)
 
   -- the part of the list that is lent as record a
-  pub record-part : (n : ℕ) → n ≡ 77 → take n (drop (77 * a) base) ≡ recordAt base a
+  pub record-part : (n : ℕ) → n ≡ recordWords → take n (drop (recordWords * a) base) ≡ recordAt base a
   unfolding recordAt
   record-part n e = rw e
 
-  pub record-word : (w : ℕ) → w < 77 → wordOf (recordAt base a) w ≡ getD base (77 * a + w) (pos 0)
+  pub record-word : (w : ℕ) → w < recordWords → wordOf (recordAt base a) w ≡ getD base (recordWords * a + w) (pos 0)
   unfolding recordAt
   record-word w h = rw (getD-take, getD-drop)
 
@@ -86,7 +86,7 @@ motion-is r b m refs vecs =
     λ i. record { list0 = record { reference = refs .0 i; x = vecs .0 i; y = vecs .1 i }; list1 = record { reference = refs .1 i; x = vecs .2 i; y = vecs .3 i } }
 
 module _ (type : ℕ) (sub : ℕ → ℕ) (m : ℕ → Motion) where
-  pub laid-length : length (laidOut type sub m) ≡ 77
+  pub laid-length : length (laidOut type sub m) ≡ recordWords
   unfolding laidOut upTo
   laid-length = refl
 
@@ -131,13 +131,19 @@ sub-said S4x8 = refl
 sub-said S4x4 = refl
 
 -- a record that begins with a split's numbers says that split
-pub said :
+pub split-said :
     (r : List ℤ) (s : Split) → typeOf r ≡ pos (typeNumber s) → ((q : ℕ) → q < 4 → subTypeOf r q ≡ pos (getD (subTypes s) q 0)) → splitSaid r ≡ s
 unfolding splitSaid pick
-said r S16x16 t subs = rw t
-said r S16x8 t subs = rw t
-said r S8x16 t subs = rw t
-said r (Quarters s) t subs =
-    let at : (q : ℕ) (x : SubSplit) → q < 4 → getD (subTypes (Quarters s)) q 0 ≡ subTypeNumber x → subSplitOf (subTypeOf r q) ≡ x =
+split-said r S16x16 t subs = rw t
+split-said r S16x8 t subs = rw t
+split-said r S8x16 t subs = rw t
+split-said r (Quarters s) t subs =
+    let says : (q : ℕ) (x : SubSplit) → q < 4 → getD (subTypes (Quarters s)) q 0 ≡ subTypeNumber x → subSplitOf (subTypeOf r q) ≡ x =
     λ q x h e. ap subSplitOf (subs q h ∙ ap pos e) ∙ sub-said x in
-    rw t (λ i. Quarters (record { a = at 0 (s .a) (omega arith) refl i; b = at 1 (s .b) (omega arith) refl i; c = at 2 (s .c) (omega arith) refl i; d = at 3 (s .d) (omega arith) refl i }))
+    rw t (λ i. Quarters (record { a = says 0 (s .a) (omega arith) refl i; b = says 1 (s .b) (omega arith) refl i; c = says 2 (s .c) (omega arith) refl i; d = says 3 (s .d) (omega arith) refl i }))
+
+-- and so does one that is laid out with them
+pub laid-split : (s : Split) (m : ℕ → Motion) → splitSaid (laidOut (typeNumber s) (λ q. getD (subTypes s) q 0) m) ≡ s
+laid-split s m =
+    let sub : ℕ → ℕ = λ q. getD (subTypes s) q 0 in
+    split-said (laidOut (typeNumber s) sub m) s (laid-type (typeNumber s) sub m) (laid-sub-type (typeNumber s) sub m)

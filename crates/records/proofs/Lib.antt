@@ -3,5 +3,5 @@ pub mod Addresses
 mod Words
 mod Searches
 mod Ranges
-mod Leaders
+mod FirstBlocks
 mod Verdicts

@@ -1,5 +1,5 @@
 -- Rules 2 to 5 as ranges of words. Assumes nothing.
-use Prim.Native.Nat.{ℕ, zero, suc, _+_, _*_}
+use Prim.Native.Nat.{ℕ, _+_, _-_, _*_}
 use mathlib.Core.Path.{_≡_, refl, sym, ap, _∙_}
 use mathlib.Core.Bool.{Bool, true, false, not, _&&_, and-assoc, and-comm, and-true, and-false, Bool·not-not}
 use mathlib.Core.List.{List}
@@ -11,11 +11,12 @@ use lib.Signed.{leZ, ltZ}
 use borrow.Author.Tests.{ltb-true, ltb-false, leb-true, leb-false, lt-leb, le-leb, eq-eqb, ne-eqb}
 use Rattle.definitions.specs.declared.Prediction.{Prediction}
 use Rattle.definitions.specs.Tests.{minus, eqZ, between, allBelow}
-use Rattle.definitions.specs.Record.{wordOf, typeOf, isIntra, referenceOf, predictionOf, used, vectorWord, rule1, rule2, rule3, rule4, rule5}
+use Rattle.definitions.specs.Record.{vectorLimit, wordOf, typeOf, isIntra, referenceOf, predictionOf, used, vectorWord, rule1, rule2, rule3, rule4, rule5}
 use Rattle.definitions.specs.Splits.{quadrantOf}
 use Rattle.definitions.proofs.Choices.{and-intro, eqZ-true, yes, no, below-same}
 use Rattle.records.specs.declared.Range.{Range}
 use Rattle.records.specs.Checking.{within, allWithin, quadrantUsed, listRight, vectorsRight}
+use Rattle.records.proofs.Searches.{below-both}
 
 -- ---- A range by the machine's two comparisons
 leb-not : (a b : ℕ) (t : Bool) → ltb b a ≡ t → leb a b ≡ not t
@@ -65,19 +66,6 @@ only z = record { low = z; high = z }
 abbrev pub from-to : ℤ → ℤ → Range
 from-to a b = record { low = a; high = b }
 
-and-swap : (a b c d : Bool) → ((a && b) && (c && d)) ≡ ((a && c) && (b && d))
-and-swap true true c d = refl
-and-swap true false c d = sym (and-false c)
-and-swap false b c d = refl
-
-pub below-both : (n : ℕ) (f g h : ℕ → Bool) → ((k : ℕ) → (f k && g k) ≡ h k) → (allBelow n f && allBelow n g) ≡ allBelow n h
-unfolding allBelow
-below-both zero f g h e = refl
-below-both (suc n) f g h e =
-    let p : (allBelow n f && allBelow n g) ≡ allBelow n h = below-both n f g h e in
-    let q : (f n && g n) ≡ h n = e n in
-    and-swap (allBelow n f) (f n) (allBelow n g) (g n) ∙ (λ i. p i && q i)
-
 -- the references of the quadrants are words 5 to 12
 pairs : (f : ℕ → Bool) → allBelow 4 (λ q. allBelow 2 (λ l. f (5 + 2 * q + l))) ≡ allBelow 8 (λ k. f (5 + k))
 unfolding allBelow
@@ -123,10 +111,10 @@ module _ (r : List ℤ) where
 
 -- ---- Rule 5
 abbrev vectorRange : Range
-vectorRange = from-to (minus 8192) (pos 8191)
+vectorRange = from-to (minus vectorLimit) (pos (vectorLimit - 1))
 
 word-zero : (t : Bool) (v : ℤ) → t ≡ false → vectorWord t v ≡ within (only (pos 0)) v
-word-zero t v e = rw e (narrowed (minus 8192) (pos 8191) v refl)
+word-zero t v e = rw e (narrowed (minus vectorLimit) (pos (vectorLimit - 1)) v refl)
 
 word-any : (t : Bool) (v : ℤ) → t ≡ true → vectorWord t v ≡ within vectorRange v
 word-any t v e = rw e (and-true (within vectorRange v))

@@ -1,11 +1,24 @@
--- A search for the first index at which a test fails, a turn at a time. Assumes nothing.
-use Prim.Native.Nat.{ℕ, _+_, _<_, _≤_}
+-- Tests at each index below a number: two at once, and a search for the first index at which one fails, a turn at a time. Assumes nothing.
+use Prim.Native.Nat.{ℕ, zero, suc, _+_, _<_, _≤_}
 use mathlib.Core.Path.{_≡_, refl, sym, _∙_}
-use mathlib.Core.Bool.{Bool, true, false}
+use mathlib.Core.Bool.{Bool, true, false, _&&_, and-false}
 use native.Mathlib.Numerals.{add-one}
 use native.Mathlib.Omega.{arith}
 use Rattle.definitions.specs.Tests.{allBelow}
 use Rattle.definitions.proofs.Choices.{and-intro, below-true}
+
+and-swap : (a b c d : Bool) → ((a && b) && (c && d)) ≡ ((a && c) && (b && d))
+and-swap true true c d = refl
+and-swap true false c d = sym (and-false c)
+and-swap false b c d = refl
+
+pub below-both : (n : ℕ) (f g h : ℕ → Bool) → ((k : ℕ) → (f k && g k) ≡ h k) → (allBelow n f && allBelow n g) ≡ allBelow n h
+unfolding allBelow
+below-both zero f g h e = refl
+below-both (suc n) f g h e =
+    let p : (allBelow n f && allBelow n g) ≡ allBelow n h = below-both n f g h e in
+    let q : (f n && g n) ≡ h n = e n in
+    and-swap (allBelow n f) (f n) (allBelow n g) (g n) ∙ (λ i. p i && q i)
 
 pub search-none : (f : ℕ → Bool) → allBelow 0 f ≡ true
 unfolding allBelow

@@ -3,16 +3,20 @@ use Prim.Native.Nat.{ℕ, _+_, _<_, _≤_}
 use mathlib.Core.Path.{_≡_, refl, sym, ap, _∙_}
 use mathlib.Core.Bool.{Bool, true, false, not}
 use mathlib.Core.List.{List}
+use native.Mathlib.Omega.{arith}
 use lib.Dec.{eqb}
 use lib.IntN.{ℤ}
 use borrow.Author.Tests.{eq-eqb, ne-eqb}
 use Rattle.definitions.specs.declared.Verdict.{Verdict}
 use Rattle.definitions.specs.declared.Verdict.the-variants.{Refused}
-use Rattle.definitions.specs.Tests.{pick}
+use Rattle.definitions.specs.Tests.{pick, allBelow}
 use Rattle.definitions.specs.Record.{recordAt, rule1, rule2, rule3, rule4, rule5, rule6, firstBroken}
 use Rattle.definitions.specs.Refusals.{verdictOf, recordTests}
 use Rattle.definitions.proofs.Choices.{yes, no}
-use Rattle.records.specs.Checking.{headBroken, foundAt, addresses}
+use Rattle.records.specs.Checking.{headBroken, vectorsRight, sameAsFirst, foundAt, addresses}
+use Rattle.records.proofs.Searches.{search-end, search-fault}
+use Rattle.records.proofs.Ranges.{vectors-all}
+use Rattle.records.proofs.FirstBlocks.{same-all}
 use Rattle.records.proofs.Addresses.{addresses-more, addresses-end}
 
 -- ---- The first broken rule
@@ -34,20 +38,20 @@ module _ (r : List ℤ) where
   unfolding firstBroken headBroken
   by-head = head-first (not (rule1 r)) (not (rule2 r)) (not (rule3 r)) (not (rule4 r)) tailBroken
 
-  pub broken-head : (n : ℕ) → headBroken r ≡ n → (n ≡ 0 → ⊥) → firstBroken r ≡ n
+  broken-head : (n : ℕ) → headBroken r ≡ n → (n ≡ 0 → ⊥) → firstBroken r ≡ n
   broken-head n e broken = by-head ∙ (no _ _ (ne-eqb (headBroken r) 0 (λ h. broken (sym e ∙ h))) ∙ e)
 
   module _ (head : headBroken r ≡ 0) where
     by-tail : firstBroken r ≡ tailBroken
     by-tail = by-head ∙ yes _ _ (eq-eqb (headBroken r) 0 head)
 
-    pub broken-5 : rule5 r ≡ false → firstBroken r ≡ 5
+    broken-5 : rule5 r ≡ false → firstBroken r ≡ 5
     broken-5 e = by-tail ∙ yes _ _ (ap not e)
 
-    pub broken-6 : rule5 r ≡ true → rule6 r ≡ false → firstBroken r ≡ 6
+    broken-6 : rule5 r ≡ true → rule6 r ≡ false → firstBroken r ≡ 6
     broken-6 e5 e6 = by-tail ∙ (no _ _ (ap not e5) ∙ yes _ _ (ap not e6))
 
-    pub broken-none : rule5 r ≡ true → rule6 r ≡ true → firstBroken r ≡ 0
+    broken-none : rule5 r ≡ true → rule6 r ≡ true → firstBroken r ≡ 0
     broken-none e5 e6 = by-tail ∙ (no _ _ (ap not e5) ∙ no _ _ (ap not e6))
 
 -- ---- The verdict on the records from an address on
@@ -60,14 +64,33 @@ module _ (base : List ℤ) (a to : ℕ) where
   verdict-end h = yes _ _ refl ∙ sym (rw (addresses-end a to h))
 
   module _ (h : a < to) (r : List ℤ) (here : r ≡ recordAt base a) where
-    pub verdict-more : firstBroken r ≡ 0 → verdict ≡ verdictOf (recordTests base (addresses (a + 1) to))
+    verdict-more : firstBroken r ≡ 0 → verdict ≡ verdictOf (recordTests base (addresses (a + 1) to))
     unfolding recordTests
     verdict-more e = rw (addresses-more a to h, ← here) (no _ _ (ap (λ (n : ℕ). not (eqb n 0)) e))
 
-    pub verdict-here : (n : ℕ) → firstBroken r ≡ n → (n ≡ 0 → ⊥) → foundAt a n ≡ verdict
+    verdict-here : (n : ℕ) → firstBroken r ≡ n → (n ≡ 0 → ⊥) → foundAt a n ≡ verdict
     unfolding recordTests foundAt
     verdict-here n e broken =
         no _ _ (ne-eqb n 0 broken)
         ∙ sym (rw (addresses-more a to h, ← here)
         (yes _ _ (ap (λ (k : ℕ). not (eqb k 0)) e ∙ ap not (ne-eqb n 0 broken))
         ∙ ap (λ (k : ℕ). Refused (record { number = 8; place = a; rule = k })) e))
+
+    pub verdict-head : (n : ℕ) → n ≡ headBroken r → (n ≡ 0 → ⊥) → foundAt a n ≡ verdict
+    verdict-head n e broken = verdict-here n (broken-head r n (sym e) broken) broken
+
+    module _ (head : headBroken r ≡ 0) where
+      pub verdict-5 : (b : ℕ) → b < 16 → vectorsRight r b ≡ false → foundAt a 5 ≡ verdict
+      verdict-5 b h e = verdict-here 5 (broken-5 r head (vectors-all r ∙ search-fault (vectorsRight r) 16 b h e)) (λ z. omega arith)
+
+      module _ (b5 : ℕ) (le5 : b5 ≤ 16) (ge5 : 16 ≤ b5) (passed5 : allBelow b5 (vectorsRight r) ≡ true) where
+        right5 : rule5 r ≡ true
+        right5 = vectors-all r ∙ search-end (vectorsRight r) 16 b5 le5 ge5 passed5
+
+        pub verdict-6 : (b : ℕ) → b < 16 → sameAsFirst r b ≡ false → foundAt a 6 ≡ verdict
+        verdict-6 b h e = verdict-here 6 (broken-6 r head right5 (same-all r ∙ search-fault (sameAsFirst r) 16 b h e)) (λ z. omega arith)
+
+        pub verdict-next :
+            (b6 : ℕ) → b6 ≤ 16 → 16 ≤ b6 → allBelow b6 (sameAsFirst r) ≡ true → verdict ≡ verdictOf (recordTests base (addresses (a + 1) to))
+        verdict-next b6 le6 ge6 passed6 =
+            verdict-more (broken-none r head right5 (same-all r ∙ search-end (sameAsFirst r) 16 b6 le6 ge6 passed6))

@@ -13,11 +13,11 @@ use Rattle.definitions.specs.declared.Split.the-variants.{S16x16, S16x8, S8x16,
 use Rattle.definitions.specs.declared.Verdict.{Verdict}
 use Rattle.definitions.specs.declared.Verdict.the-variants.{Accepted, Refused}
 use Rattle.definitions.specs.Tests.{pick, between, allBelow, upTo}
-use Rattle.definitions.specs.Splits.{quadrantOf, placeOf, rasterOf}
+use Rattle.definitions.specs.Splits.{sameMotion, quadrantOf, placeOf, rasterOf}
+use Rattle.definitions.specs.Record.{wordOf, referenceOf, vectorXOf, vectorYOf, motionOf, isIntra, used, splitSaid, vectorWord, rule1, rule2, rule3, rule4}
 use Rattle.records.specs.declared.Range.{Range}
-use Rattle.definitions.specs.Record.{wordOf, referenceOf, vectorXOf, vectorYOf, isIntra, used, splitSaid, vectorWord, rule1, rule2, rule3, rule4}
 
--- count words from the first on are in the range
+-- a word is in the range; count words from the first on are
 abbrev pub within : Range → ℤ → Bool
 within range z = between (range .low) (range .high) z
 
@@ -41,24 +41,28 @@ unfoldable pub vectorsRight : List ℤ → ℕ → Bool
 vectorsRight r b = allBelow 2 (listRight r b)
 
 -- rule 6: the first block of the piece that block b stands in
-abbrev pub subLeader : SubSplit → ℕ → ℕ
-subLeader S8x8 b = rasterOf (quadrantOf b) 0
-subLeader S8x4 b = rasterOf (quadrantOf b) (placeOf b / 2 * 2)
-subLeader S4x8 b = rasterOf (quadrantOf b) (placeOf b % 2)
-subLeader S4x4 b = b
+abbrev pub subFirstBlock : SubSplit → ℕ → ℕ
+subFirstBlock S8x8 b = rasterOf (quadrantOf b) 0
+subFirstBlock S8x4 b = rasterOf (quadrantOf b) (placeOf b / 2 * 2)
+subFirstBlock S4x8 b = rasterOf (quadrantOf b) (placeOf b % 2)
+subFirstBlock S4x4 b = b
 
 abbrev pub subSplitAt : SubSplits → ℕ → SubSplit
 subSplitAt t q = getD (t .a ∷ t .b ∷ t .c ∷ t .d ∷ []) q S8x8
 
-abbrev pub leaderIn : Split → ℕ → ℕ
-leaderIn S16x16 b = 0
-leaderIn S16x8 b = b / 8 * 8
-leaderIn S8x16 b = b % 4 / 2 * 2
-leaderIn (Quarters t) b = subLeader (subSplitAt t (quadrantOf b)) b
+abbrev pub firstBlockIn : Split → ℕ → ℕ
+firstBlockIn S16x16 b = 0
+firstBlockIn S16x8 b = b / 8 * 8
+firstBlockIn S8x16 b = b % 4 / 2 * 2
+firstBlockIn (Quarters t) b = subFirstBlock (subSplitAt t (quadrantOf b)) b
 
 -- of an intra record, which has no pieces, the block itself
-unfoldable pub leaderOf : List ℤ → ℕ → ℕ
-leaderOf r b = pick (isIntra r) b (leaderIn (splitSaid r) b)
+unfoldable pub firstBlockOf : List ℤ → ℕ → ℕ
+firstBlockOf r b = pick (isIntra r) b (firstBlockIn (splitSaid r) b)
+
+-- block b has the motion of that block
+abbrev pub sameAsFirst : List ℤ → ℕ → Bool
+sameAsFirst r b = sameMotion (motionOf r b) (motionOf r (firstBlockOf r b))
 
 -- what a search says that ended at an address with a broken rule, or with none (0)
 unfoldable pub foundAt : ℕ → ℕ → Verdict

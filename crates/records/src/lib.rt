@@ -3,10 +3,10 @@ ghost use mathlib.Core.Path.{_≡_};
 ghost use Prim.Native.Nat.{_+_, _*_, _≤_, _<_};
 ghost use lib.ListN.{length};
 ghost use Rattle.definitions.specs.Tests.{allBelow};
-ghost use Rattle.definitions.specs.Splits.{quadrantOf, rasterOf, sameMotion};
-ghost use Rattle.definitions.specs.Record.{recordAt, isIntra, predictionOf, motionOf, subTypeOf, subSplitOf, rule2, rule4};
+ghost use Rattle.definitions.specs.Splits.{quadrantOf, rasterOf};
+ghost use Rattle.definitions.specs.Record.{recordWords, recordAt, isIntra, predictionOf, motionOf, subTypeOf, subSplitOf, rule2, rule4};
 ghost use Rattle.definitions.specs.Refusals.{verdictOf, recordTests};
-ghost use Rattle.records.specs.Checking.{allWithin, quadrantUsed, listRight, vectorsRight, subLeader, leaderOf, headBroken, foundAt, addresses};
+ghost use Rattle.records.specs.Checking.{allWithin, quadrantUsed, listRight, vectorsRight, subFirstBlock, firstBlockOf, sameAsFirst, headBroken, foundAt, addresses};
 use definitions::Motion;
 use definitions::Prediction;
 use definitions::Refusal;
@@ -27,14 +27,20 @@ const TYPES: Range = Range { low: 0, high: 4 };
 
 const SUB_TYPES: Range = Range { low: 0, high: 3 };
 
-const REFERENCES: Range = Range { low: -1, high: 31 };
+const REFERENCES: Range = Range {
+    low: UNUSED,
+    high: 31,
+};
 
 const VECTORS: Range = Range {
     low: -8192,
     high: 8191,
 };
 
-const ONLY_UNUSED: Range = Range { low: -1, high: -1 };
+const ONLY_UNUSED: Range = Range {
+    low: UNUSED,
+    high: UNUSED,
+};
 
 const ONLY_ZERO: Range = Range { low: 0, high: 0 };
 
@@ -46,8 +52,8 @@ const PLACES: [usize; 4] = [0, 1, 4, 5];
 // ---- Reading
 // The words of the record at address a.
 fn record_at(base: &[i16], a: usize) -> &[i16]
-    requires { ⌜ ((a + 1) * 77 ≤ length (now base)) × (a < 65536) ⌝ }
-    ensures { λ r. ⌜ (now r ≡ recordAt (now (base .entry)) a) × (length (now r) ≡ 77) ⌝ }
+    requires { ⌜ ((a + 1) * recordWords ≤ length (now base)) × (a < 65536) ⌝ }
+    ensures { λ r. ⌜ (now r ≡ recordAt (now (base .entry)) a) × (length (now r) ≡ recordWords) ⌝ }
 {
     let from = RECORD_WORDS * a;
     let to = from + RECORD_WORDS;
@@ -55,7 +61,7 @@ fn record_at(base: &[i16], a: usize) -> &[i16]
 }
 
 fn prediction_in(words: &[i16], b: usize, l: usize) -> Prediction
-    requires { ⌜ (length (now words) ≡ 77) × (b < 16) × (l < 2) ⌝ }
+    requires { ⌜ (length (now words) ≡ recordWords) × (b < 16) × (l < 2) ⌝ }
     ensures { λ p. ⌜ p ≡ predictionOf (now (words .entry)) b l ⌝ }
 {
     let quadrant = 2 * (b / 8) + b % 4 / 2;
@@ -69,7 +75,7 @@ fn prediction_in(words: &[i16], b: usize, l: usize) -> Prediction
 }
 
 fn motion_in(words: &[i16], b: usize) -> Motion
-    requires { ⌜ (length (now words) ≡ 77) × (b < 16) ⌝ }
+    requires { ⌜ (length (now words) ≡ recordWords) × (b < 16) ⌝ }
     ensures { λ m. ⌜ m ≡ motionOf (now (words .entry)) b ⌝ }
 {
     let list0 = prediction_in(words, b, 0);
@@ -78,7 +84,7 @@ fn motion_in(words: &[i16], b: usize) -> Motion
 }
 
 pub fn is_intra(base: &[i16], a: usize) -> bool
-    requires { ⌜ ((a + 1) * 77 ≤ length (now base)) × (a < 65536) ⌝ }
+    requires { ⌜ ((a + 1) * recordWords ≤ length (now base)) × (a < 65536) ⌝ }
     ensures { λ t. ⌜ t ≡ isIntra (recordAt (now (base .entry)) a) ⌝ }
 {
     let words = record_at(base, a);
@@ -86,7 +92,7 @@ pub fn is_intra(base: &[i16], a: usize) -> bool
 }
 
 pub fn motion_of(base: &[i16], a: usize, b: usize) -> Motion
-    requires { ⌜ ((a + 1) * 77 ≤ length (now base)) × (a < 65536) × (b < 16) ⌝ }
+    requires { ⌜ ((a + 1) * recordWords ≤ length (now base)) × (a < 65536) × (b < 16) ⌝ }
     ensures { λ m. ⌜ m ≡ motionOf (recordAt (now (base .entry)) a) b ⌝ }
 {
     motion_in(record_at(base, a), b)
@@ -95,7 +101,7 @@ pub fn motion_of(base: &[i16], a: usize, b: usize) -> Motion
 // ---- Rules 1 to 4: words 0 to 12
 // Count words from the first on are in the range.
 fn all_within(words: &[i16], first: usize, count: usize, range: Range) -> bool
-    requires { ⌜ (first + count ≤ length (now words)) × (length (now words) ≡ 77) ⌝ }
+    requires { ⌜ (first + count ≤ length (now words)) × (length (now words) ≡ recordWords) ⌝ }
     ensures { λ t. ⌜ t ≡ allWithin (now (words .entry)) first count range ⌝ }
 {
     let mut k: usize = 0;
@@ -113,7 +119,7 @@ fn all_within(words: &[i16], first: usize, count: usize, range: Range) -> bool
 }
 
 fn sub_types_right(words: &[i16]) -> bool
-    requires { ⌜ length (now words) ≡ 77 ⌝ }
+    requires { ⌜ length (now words) ≡ recordWords ⌝ }
     ensures { λ t. ⌜ t ≡ rule2 (now (words .entry)) ⌝ }
 {
     if words[0] == 4 {
@@ -124,7 +130,7 @@ fn sub_types_right(words: &[i16]) -> bool
 
 // Quadrant q has a used list.
 fn quadrant_used(words: &[i16], q: usize) -> bool
-    requires { ⌜ (length (now words) ≡ 77) × (q < 4) ⌝ }
+    requires { ⌜ (length (now words) ≡ recordWords) × (q < 4) ⌝ }
     ensures { λ t. ⌜ t ≡ quadrantUsed (now (words .entry)) q ⌝ }
 {
     let first = 5 + 2 * q;
@@ -135,7 +141,7 @@ fn quadrant_used(words: &[i16], q: usize) -> bool
 }
 
 fn quadrants_used(words: &[i16]) -> bool
-    requires { ⌜ length (now words) ≡ 77 ⌝ }
+    requires { ⌜ length (now words) ≡ recordWords ⌝ }
     ensures { λ t. ⌜ t ≡ allBelow 4 (quadrantUsed (now (words .entry))) ⌝ }
 {
     let mut q: usize = 0;
@@ -148,8 +154,8 @@ fn quadrants_used(words: &[i16]) -> bool
     true
 }
 
-fn use_right(words: &[i16]) -> bool
-    requires { ⌜ length (now words) ≡ 77 ⌝ }
+fn usage_right(words: &[i16]) -> bool
+    requires { ⌜ length (now words) ≡ recordWords ⌝ }
     ensures { λ t. ⌜ t ≡ rule4 (now (words .entry)) ⌝ }
 {
     if words[0] == 0 {
@@ -160,7 +166,7 @@ fn use_right(words: &[i16]) -> bool
 
 // The first of rules 1 to 4 that is broken, or 0.
 fn head_rule(words: &[i16]) -> u32
-    requires { ⌜ length (now words) ≡ 77 ⌝ }
+    requires { ⌜ length (now words) ≡ recordWords ⌝ }
     ensures { λ rule. ⌜ rule ≡ headBroken (now (words .entry)) ⌝ }
 {
     if !all_within(words, 0, 1, TYPES) {
@@ -172,7 +178,7 @@ fn head_rule(words: &[i16]) -> u32
     if !all_within(words, 5, 8, REFERENCES) {
         return 3;
     }
-    if !use_right(words) {
+    if !usage_right(words) {
         return 4;
     }
     0
@@ -180,7 +186,7 @@ fn head_rule(words: &[i16]) -> u32
 
 // ---- Rule 5: the vector words of a block
 fn list_right(words: &[i16], b: usize, l: usize) -> bool
-    requires { ⌜ (length (now words) ≡ 77) × (b < 16) × (l < 2) ⌝ }
+    requires { ⌜ (length (now words) ≡ recordWords) × (b < 16) × (l < 2) ⌝ }
     ensures { λ t. ⌜ t ≡ listRight (now (words .entry)) b l ⌝ }
 {
     let p = prediction_in(words, b, l);
@@ -192,7 +198,7 @@ fn list_right(words: &[i16], b: usize, l: usize) -> bool
 }
 
 fn vectors_right(words: &[i16], b: usize) -> bool
-    requires { ⌜ (length (now words) ≡ 77) × (b < 16) ⌝ }
+    requires { ⌜ (length (now words) ≡ recordWords) × (b < 16) ⌝ }
     ensures { λ t. ⌜ t ≡ vectorsRight (now (words .entry)) b ⌝ }
 {
     if list_right(words, b, 0) {
@@ -211,9 +217,9 @@ fn raster(q: usize, k: usize) -> usize
 }
 
 // In an 8×8 split, the first block of the sub-partition that block b stands in.
-fn sub_leader(words: &[i16], b: usize) -> usize
-    requires { ⌜ (length (now words) ≡ 77) × (b < 16) ⌝ }
-    ensures { λ d. ⌜ (d ≡ subLeader (subSplitOf (subTypeOf (now (words .entry)) (quadrantOf b))) b) × (d < 16) ⌝ }
+fn sub_first_block(words: &[i16], b: usize) -> usize
+    requires { ⌜ (length (now words) ≡ recordWords) × (b < 16) ⌝ }
+    ensures { λ d. ⌜ (d ≡ subFirstBlock (subSplitOf (subTypeOf (now (words .entry)) (quadrantOf b))) b) × (d < 16) ⌝ }
 {
     let q = 2 * (b / 8) + b % 4 / 2;
     let k = 2 * (b / 4 % 2) + b % 2;
@@ -231,9 +237,9 @@ fn sub_leader(words: &[i16], b: usize) -> usize
 }
 
 // The first block of the piece that block b stands in; of an intra record, which has no pieces, b itself.
-fn leader(words: &[i16], b: usize) -> usize
-    requires { ⌜ (length (now words) ≡ 77) × (b < 16) ⌝ }
-    ensures { λ d. ⌜ (d ≡ leaderOf (now (words .entry)) b) × (d < 16) ⌝ }
+fn first_block(words: &[i16], b: usize) -> usize
+    requires { ⌜ (length (now words) ≡ recordWords) × (b < 16) ⌝ }
+    ensures { λ d. ⌜ (d ≡ firstBlockOf (now (words .entry)) b) × (d < 16) ⌝ }
 {
     let kind = words[0];
     if kind == 0 {
@@ -248,16 +254,16 @@ fn leader(words: &[i16], b: usize) -> usize
     if kind == 3 {
         return b % 4 / 2 * 2;
     }
-    sub_leader(words, b)
+    sub_first_block(words, b)
 }
 
-// Block b has the motion of its leader.
-fn follows(words: &[i16], b: usize) -> bool
-    requires { ⌜ (length (now words) ≡ 77) × (b < 16) ⌝ }
-    ensures { λ t. ⌜ t ≡ sameMotion (motionOf (now (words .entry)) b) (motionOf (now (words .entry)) (leaderOf (now (words .entry)) b)) ⌝ }
+// Block b has the motion of its piece's first block.
+fn same_as_first(words: &[i16], b: usize) -> bool
+    requires { ⌜ (length (now words) ≡ recordWords) × (b < 16) ⌝ }
+    ensures { λ t. ⌜ t ≡ sameAsFirst (now (words .entry)) b ⌝ }
 {
     let m = motion_in(words, b);
-    let n = motion_in(words, leader(words, b));
+    let n = motion_in(words, first_block(words, b));
     same_motion(m, n)
 }
 
@@ -279,7 +285,7 @@ fn found(a: usize, rule: u32) -> Verdict
 
 // Records from..to-1 are well formed, or refusal 8 at the lowest that is not, with its first broken rule.
 pub fn check(base: &[i16], from: usize, to: usize) -> Verdict
-    requires { ⌜ (to * 77 ≤ length (now base)) × (from ≤ to) × (to ≤ 65536) ⌝ }
+    requires { ⌜ (to * recordWords ≤ length (now base)) × (from ≤ to) × (to ≤ 65536) ⌝ }
     ensures { λ v. ⌜ v ≡ verdictOf (recordTests (now (base .entry)) (addresses from to)) ⌝ }
 {
     let mut a = from;
@@ -290,6 +296,7 @@ pub fn check(base: &[i16], from: usize, to: usize) -> Verdict
         if rule != 0 {
             break 'records;
         }
+        // rule 5
         let mut b: usize = 0;
         while b < 16 {
             if !vectors_right(words, b) {
@@ -298,9 +305,10 @@ pub fn check(base: &[i16], from: usize, to: usize) -> Verdict
             }
             b += 1;
         }
+        // rule 6
         b = 0;
         while b < 16 {
-            if !follows(words, b) {
+            if !same_as_first(words, b) {
                 rule = 6;
                 break 'records;
             }

@@ -1,4 +1,4 @@
--- A buffer of 77 words whose three parts are lent in turn holds the record. Assumes nothing.
+-- A buffer of a record's words whose three parts are lent in turn holds the record. Assumes nothing.
 use Prim.Native.Nat.{ℕ}
 use mathlib.Core.Path.{_≡_, refl, sym, ap, _∙_}
 use mathlib.Core.List.{List, _∷_, _++_, append-assoc, append-nil}
@@ -9,7 +9,7 @@ use lib.Seq.{take-at, drop-at, drop-drop}
 use Rattle.definitions.specs.declared.Motion.{Motion}
 use Rattle.definitions.specs.Tests.{upTo, forEach}
 use Rattle.definitions.specs.Splits.{rasterOf}
-use Rattle.definitions.specs.Record.{referencesOf, vectorsOf, laidOut}
+use Rattle.definitions.specs.Record.{recordWords, referencesOf, vectorsOf, laidOut}
 
 -- a part of the length n, put where m words stand before it
 abbrev put : ℕ → ℕ → List ℤ → List ℤ → List ℤ
@@ -28,13 +28,13 @@ module _ (kind : ℕ) (sub : ℕ → ℕ) (m : ℕ → Motion) where
   abbrev vectors : List ℤ
   vectors = forEach (upTo 16 (λ b. b)) (λ b. vectorsOf (m b))
 
-  three : (out : List ℤ) → length out ≡ 77 → put 13 64 (put 5 8 (types ++ drop 5 out) references) vectors ≡ laidOut kind sub m
+  three : (out : List ℤ) → length out ≡ recordWords → put 13 64 (put 5 8 (types ++ drop 5 out) references) vectors ≡ laidOut kind sub m
   unfolding laidOut upTo
   three out e =
       ap (λ (o : List ℤ). put 13 64 o vectors) (put-next types (drop 5 out) references 5 8 refl)
       ∙ (put-next (types ++ references) (drop 8 (drop 5 out)) vectors 13 64 refl
-      ∙ rw (drop-drop 8 5 out, drop-drop 64 13 out, drop-of-length-le out {i = 77} (omega arith)) (append-nil (types ++ references ++ vectors)))
+      ∙ rw (drop-drop 8 5 out, drop-drop 64 13 out, drop-of-length-le out {i = recordWords} (omega arith)) (append-nil (types ++ references ++ vectors)))
 
   pub assembled :
-      (out t r v : List ℤ) → length out ≡ 77 → t ≡ types → r ≡ references → v ≡ vectors → put 13 64 (put 5 8 (t ++ drop 5 out) r) v ≡ laidOut kind sub m
+      (out t r v : List ℤ) → length out ≡ recordWords → t ≡ types → r ≡ references → v ≡ vectors → put 13 64 (put 5 8 (t ++ drop 5 out) r) v ≡ laidOut kind sub m
   assembled out t r v e et er ev = rw (et, er, ev) (three out e)

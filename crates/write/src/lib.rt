@@ -5,7 +5,7 @@ ghost use lib.IntN.{pos};
 ghost use lib.ListN.{length, getD};
 ghost use Rattle.definitions.specs.Tests.{upTo, forEach};
 ghost use Rattle.definitions.specs.Splits.{rasterOf};
-ghost use Rattle.definitions.specs.Record.{referencesOf, vectorsOf, laidOut};
+ghost use Rattle.definitions.specs.Record.{recordWords, referencesOf, vectorsOf, laidOut};
 ghost use Rattle.definitions.specs.Inheriting.{motionAt};
 use definitions::Motion;
 
@@ -94,7 +94,7 @@ fn write_vectors(out: &mut [i16], m: [[Motion; 4]; 4])
 
 // A record of a type, of sub-types, and of the motions of its blocks, as four quadrants of four.
 pub fn write_record(out: &mut [i16], kind: u8, sub: [u8; 4], m: [[Motion; 4]; 4])
-    requires { ⌜ length (now out) ≡ 77 ⌝ }
+    requires { ⌜ length (now out) ≡ recordWords ⌝ }
     ensures { λ _. ⌜ now (out .exit) ≡ laidOut kind (λ q. getD sub q 0) (motionAt m) ⌝ }
 {
     write_types(&mut out[0..5], kind, sub);

@@ -5,9 +5,9 @@ use mathlib.Core.Bool.{true}
 use borrow.Author.Needs.{needs}
 use Rattle.definitions.specs.Tests.{allBelow}
 use Rattle.definitions.specs.Record.{wordOf}
+use Rattle.records.specs.Checking.{within, allWithin}
 use Rattle.records.proofs.Ranges.{too-low, too-high, is-within}
 use Rattle.records.proofs.Words.{word-less}
-use Rattle.records.specs.Checking.{within, allWithin}
 use Rattle.records.proofs.Searches.{search-none, search-more, search-end, search-fault}
 use Rattle.records.proofs.all_within.Statement.{statement}
 use Rattle.records.proofs.all_within.Tie as tie

@@ -3,15 +3,12 @@ use Prim.Native.Nat.{_-_, _≤_}
 use mathlib.Core.Logic.{⊎-elim}
 use mathlib.Core.Path.{_≡_, refl, sym, _∙_, ap}
 use mathlib.Core.Bool.{true}
-use native.Mathlib.Omega.{arith}
 use borrow.Author.Tests.{not-true, not-false}
 use borrow.Author.Needs.{needs}
 use Rattle.definitions.specs.Tests.{allBelow}
-use Rattle.records.proofs.Verdicts.{broken-head, broken-5, broken-6, broken-none, verdict-end, verdict-more, verdict-here, verdict}
-use Rattle.records.proofs.Leaders.{follows-all, follows}
-use Rattle.records.proofs.Ranges.{vectors-all}
-use Rattle.records.specs.Checking.{foundAt, vectorsRight}
-use Rattle.records.proofs.Searches.{search-none, search-more, search-end, search-fault}
+use Rattle.records.specs.Checking.{foundAt, vectorsRight, sameAsFirst}
+use Rattle.records.proofs.Verdicts.{verdict-end, verdict-head, verdict-5, verdict-6, verdict-next, verdict}
+use Rattle.records.proofs.Searches.{search-none, search-more}
 use Rattle.records.proofs.check.Statement.{statement}
 use Rattle.records.proofs.check.Tie as tie
 
@@ -22,7 +19,7 @@ abbrev μ-loop : tie.MeasureT-loop
 μ-loop base from to a rule₀ words b₀ rule b = 16 - b
 
 abbrev Inv-loop2 : tie.InvT-loop2
-Inv-loop2 base from to a rule₀ words b₀ rule b = (b ≤ 16) × (rule ≡ 0) × (allBelow b (follows words) ≡ true)
+Inv-loop2 base from to a rule₀ words b₀ rule b = (b ≤ 16) × (rule ≡ 0) × (allBelow b (sameAsFirst words) ≡ true)
 
 abbrev μ-loop2 : tie.MeasureT-loop2
 μ-loop2 base from to a rule₀ words b₀ rule b = 16 - b
@@ -64,11 +61,11 @@ loop-again c =
     (search needs, l .inv .1, search-more (vectorsRight words) (l .b) (l .inv .2) (sym (c .before .vectors-right .ensures) ∙ not-false _ (c .if2 .left)))
 
 loop2-holds : tie.Need-loop2-holds Inv-loop μ-loop Inv-loop2 μ-loop2 Inv-records μ-records
-loop2-holds c = (search needs, c .before .loop .inv .1, search-none (follows (c .before .before .before .before .record-at .result .now)))
+loop2-holds c = (search needs, c .before .loop .inv .1, search-none (sameAsFirst (c .before .before .before .before .record-at .result .now)))
 
-follows-requires :
-    tie.Need-follows-requires Inv-loop μ-loop Inv-loop2 μ-loop2 Inv-records μ-records
-follows-requires c κs = search needs
+same-as-first-requires :
+    tie.Need-same-as-first-requires Inv-loop μ-loop Inv-loop2 μ-loop2 Inv-records μ-records
+same-as-first-requires c κs = search needs
 
 add-b-2 : tie.Need-add-b-2 Inv-loop μ-loop Inv-loop2 μ-loop2 Inv-records μ-records
 add-b-2 c = search needs
@@ -80,7 +77,7 @@ loop2-again : tie.Need-loop2-again Inv-loop μ-loop Inv-loop2 μ-loop2 Inv-recor
 loop2-again c =
     let l = c .before .before .before .loop2 in
     let words = c .before .before .before .before .before .before .before .before .record-at .result .now in
-    (search needs, l .inv .1, search-more (follows words) (l .b) (l .inv .2) (sym (c .before .follows .ensures) ∙ not-false _ (c .if3 .left)))
+    (search needs, l .inv .1, search-more (sameAsFirst words) (l .b) (l .inv .2) (sym (c .before .same-as-first .ensures) ∙ not-false _ (c .if3 .left)))
 
 add-a : tie.Need-add-a Inv-loop μ-loop Inv-loop2 μ-loop2 Inv-records μ-records
 add-a c = search needs
@@ -94,15 +91,12 @@ records-again c =
     let l = c .before .before .before .before .before .before .before .before .records in
     let r = c .before .before .before .before .before .before .record-at in
     let l5 = c .before .before .before .loop in
-    let l6 = c .before .loop2 in
-    let words = r .result .now in
-    let head = sym (c .before .before .before .before .before .head-rule .ensures) ∙ c .before .before .before .before .if1 .left in
-    let right5 = vectors-all words ∙ search-end (vectorsRight words) 16 (l5 .b) (l5 .inv .0) (c .before .before .loop-test .left) (l5 .inv .2) in
-    let right6 = follows-all words ∙ search-end (follows words) 16 (l6 .b) (l6 .inv .0) (c .loop2-test .left) (l6 .inv .2) in (
+    let l6 = c .before .loop2 in (
       search needs,
       l6 .inv .1,
-      sym (verdict-more (a .base .now) (l .a) (a .to) (c .before .before .before .before .before .before .before .records-test .taken) words (r .ensures .0)
-          (broken-none words head right5 right6))
+      sym (verdict-next (a .base .now) (l .a) (a .to) (c .before .before .before .before .before .before .before .records-test .taken) (r .result .now) (r .ensures .0)
+          (sym (c .before .before .before .before .before .head-rule .ensures) ∙ c .before .before .before .before .if1 .left)
+          (l5 .b) (l5 .inv .0) (c .before .before .loop-test .left) (l5 .inv .2) (l6 .b) (l6 .inv .0) (c .loop2-test .left) (l6 .inv .2))
           ∙ l .inv .2,
     )
 
@@ -113,32 +107,24 @@ returns : tie.Need-returns Inv-loop μ-loop Inv-loop2 μ-loop2 Inv-records μ-re
 returns c =
     let a = c .before .before .before .args in
     let l = c .before .before .records in
-    let j = c .before .records-test in
+    let base = a .base .now in
     c .found .ensures
     ∙ (⊎-elim
-    (λ w. ap (foundAt (l .a)) (w .1 ∙ l .inv .1) ∙ verdict-end (a .base .now) (l .a) (a .to) (w .0 .left))
+    (λ w. ap (foundAt (l .a)) (w .1 ∙ l .inv .1) ∙ verdict-end base (l .a) (a .to) (w .0 .left))
     (⊎-elim
     (λ w.
     ap (foundAt (l .a)) (w .4)
-    ∙ verdict-here (a .base .now) (l .a) (a .to) (w .0 .taken) (w .1 .result .now) (w .1 .ensures .0) (w .2 .result)
-    (broken-head (w .1 .result .now) (w .2 .result) (sym (w .2 .ensures)) (w .3 .taken)) (w .3 .taken))
+    ∙ verdict-head base (l .a) (a .to) (w .0 .taken) (w .1 .result .now) (w .1 .ensures .0) (w .2 .result) (w .2 .ensures) (w .3 .taken))
     (⊎-elim
     (λ w.
-    let words = w .1 .result .now in
     ap (foundAt (l .a)) (w .8)
-    ∙ verdict-here (a .base .now) (l .a) (a .to) (w .0 .taken) words (w .1 .ensures .0) 5
-    (broken-5 words (sym (w .2 .ensures) ∙ w .3 .left)
-    (vectors-all words ∙ search-fault (vectorsRight words) 16 (w .4 .b) (w .5 .taken) (sym (w .6 .ensures) ∙ not-true _ (w .7 .taken))))
-    (λ e. omega arith))
+    ∙ verdict-5 base (l .a) (a .to) (w .0 .taken) (w .1 .result .now) (w .1 .ensures .0) (sym (w .2 .ensures) ∙ w .3 .left)
+    (w .4 .b) (w .5 .taken) (sym (w .6 .ensures) ∙ not-true _ (w .7 .taken)))
     (λ w.
-    let words = w .1 .result .now in
     ap (foundAt (l .a)) (w .10)
-    ∙ verdict-here (a .base .now) (l .a) (a .to) (w .0 .taken) words (w .1 .ensures .0) 6
-    (broken-6 words (sym (w .2 .ensures) ∙ w .3 .left)
-    (vectors-all words ∙ search-end (vectorsRight words) 16 (w .4 .b) (w .4 .inv .0) (w .5 .left) (w .4 .inv .2))
-    (follows-all words ∙ search-fault (follows words) 16 (w .6 .b) (w .7 .taken) (sym (w .8 .ensures) ∙ not-true _ (w .9 .taken))))
-    (λ e. omega arith))))
-    (j .came)
+    ∙ verdict-6 base (l .a) (a .to) (w .0 .taken) (w .1 .result .now) (w .1 .ensures .0) (sym (w .2 .ensures) ∙ w .3 .left)
+    (w .4 .b) (w .4 .inv .0) (w .5 .left) (w .4 .inv .2) (w .6 .b) (w .7 .taken) (sym (w .8 .ensures) ∙ not-true _ (w .9 .taken)))))
+    (c .before .records-test .came)
     ∙ l .inv .2)
 
 pub check-spec : {M : Type 1} → statement M
@@ -160,7 +146,7 @@ check-spec =
     loop-less
     loop-again
     loop2-holds
-    follows-requires
+    same-as-first-requires
     add-b-2
     loop2-less
     loop2-again

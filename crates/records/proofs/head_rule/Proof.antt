@@ -3,8 +3,8 @@ use mathlib.Core.Bool.{not}
 use mathlib.Core.Path.{sym, _∙_, ap}
 use borrow.Author.Needs.{needs}
 use Rattle.definitions.proofs.Choices.{yes, no}
-use Rattle.records.proofs.Ranges.{types, references}
 use Rattle.records.specs.Checking.{headBroken}
+use Rattle.records.proofs.Ranges.{types, references}
 use Rattle.records.proofs.head_rule.Statement.{statement}
 use Rattle.records.proofs.head_rule.Tie as tie
 
@@ -36,8 +36,8 @@ returns-3 c =
     ∙ (no _ _ (ap not (sym (c .before .before .before .sub-types-right .ensures)) ∙ c .before .before .if2 .left)
     ∙ yes _ _ (ap not (references words ∙ sym (c .before .all-within2 .ensures)) ∙ c .if3 .taken)))
 
-use-right-requires : tie.Need-use-right-requires
-use-right-requires c κs = search needs
+usage-right-requires : tie.Need-usage-right-requires
+usage-right-requires c κs = search needs
 
 returns-4 : tie.Need-returns-4
 unfolding headBroken
@@ -46,7 +46,7 @@ returns-4 c =
     sym (no _ _ (ap not (types words ∙ sym (c .before .before .before .before .before .before .before .all-within .ensures)) ∙ c .before .before .before .before .before .before .if1 .left)
     ∙ (no _ _ (ap not (sym (c .before .before .before .before .before .sub-types-right .ensures)) ∙ c .before .before .before .before .if2 .left)
     ∙ (no _ _ (ap not (references words ∙ sym (c .before .before .before .all-within2 .ensures)) ∙ c .before .before .if3 .left)
-    ∙ yes _ _ (ap not (sym (c .before .use-right .ensures)) ∙ c .if4 .taken))))
+    ∙ yes _ _ (ap not (sym (c .before .usage-right .ensures)) ∙ c .if4 .taken))))
 
 returns-5 : tie.Need-returns-5
 unfolding headBroken
@@ -55,7 +55,7 @@ returns-5 c =
     sym (no _ _ (ap not (types words ∙ sym (c .before .before .before .before .before .before .before .all-within .ensures)) ∙ c .before .before .before .before .before .before .if1 .left)
     ∙ (no _ _ (ap not (sym (c .before .before .before .before .before .sub-types-right .ensures)) ∙ c .before .before .before .before .if2 .left)
     ∙ (no _ _ (ap not (references words ∙ sym (c .before .before .before .all-within2 .ensures)) ∙ c .before .before .if3 .left)
-    ∙ no _ _ (ap not (sym (c .before .use-right .ensures)) ∙ c .if4 .left))))
+    ∙ no _ _ (ap not (sym (c .before .usage-right .ensures)) ∙ c .if4 .left))))
 
 pub head-rule-spec : {M : Type 1} → statement M
 head-rule-spec =
@@ -67,6 +67,6 @@ head-rule-spec =
     returns-2
     all-within-requires-2
     returns-3
-    use-right-requires
+    usage-right-requires
     returns-4
     returns-5)

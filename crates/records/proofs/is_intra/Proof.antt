@@ -3,8 +3,8 @@ use mathlib.Core.Path.{_∙_, ap}
 use lib.ListN.{getD}
 use lib.IntN.{pos}
 use borrow.Author.Needs.{needs}
-use Rattle.definitions.proofs.Motions.{word-same}
 use Rattle.definitions.specs.Record.{isIntra}
+use Rattle.definitions.proofs.Motions.{word-same}
 use Rattle.records.proofs.is_intra.Statement.{statement}
 use Rattle.records.proofs.is_intra.Tie as tie
 

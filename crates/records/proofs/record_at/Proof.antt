@@ -6,6 +6,7 @@ use native.Mathlib.Omega.{arith}
 use lib.ListN.{length}
 use lib.IntN.{ℤ}
 use borrow.Author.Needs.{needs}
+use Rattle.definitions.specs.Record.{recordWords}
 use Rattle.definitions.proofs.Records.{record-part, record-length}
 use Rattle.records.proofs.record_at.Statement.{statement}
 use Rattle.records.proofs.record_at.Tie as tie
@@ -31,7 +32,7 @@ part-result-end c = search needs
 returns : tie.Need-returns
 returns c =
     let a = c .before .args in
-    let part = record-part (a .base .now) (a .a) (77 * a .a + 77 - 77 * a .a) (omega arith) in
+    let part = record-part (a .base .now) (a .a) (recordWords * a .a + recordWords - recordWords * a .a) (omega arith) in
     (part, ap (λ (r : List ℤ). length r) part ∙ record-length (a .base .now) (a .a) (omega arith))
 
 pub record-at-spec : {M : Type 1} → statement M

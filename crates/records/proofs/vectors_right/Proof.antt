@@ -1,8 +1,8 @@
 -- `vectors_right` meets its contract: rule 5 of a block, both lists. Assumes nothing.
 use mathlib.Core.Path.{sym, _∙_}
 use borrow.Author.Needs.{needs}
-use Rattle.definitions.proofs.Branches.{and-on, and-off}
 use Rattle.definitions.specs.Tests.{allBelow}
+use Rattle.definitions.proofs.Branches.{and-on, and-off}
 use Rattle.records.specs.Checking.{vectorsRight}
 use Rattle.records.proofs.vectors_right.Statement.{statement}
 use Rattle.records.proofs.vectors_right.Tie as tie

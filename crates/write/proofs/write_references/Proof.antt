@@ -5,11 +5,11 @@ use mathlib.Core.List.{_++_}
 use native.Mathlib.Omega.{arith}
 use lib.ListN.{length, drop, length-take, length-drop}
 use borrow.Author.Needs.{needs}
-use Rattle.definitions.proofs.Records.{raster-motion}
 use Rattle.definitions.specs.declared.Motion.{Motion}
 use Rattle.definitions.specs.Splits.{rasterOf}
 use Rattle.definitions.specs.Record.{referencesOf}
 use Rattle.definitions.specs.Inheriting.{motionAt}
+use Rattle.definitions.proofs.Records.{raster-motion}
 use Rattle.definitions.proofs.Parts.{parts, parts-none, parts-all, part-back}
 use Rattle.write.proofs.write_references.Statement.{statement}
 use Rattle.write.proofs.write_references.Tie as tie

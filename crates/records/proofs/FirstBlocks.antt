@@ -21,9 +21,9 @@ use Rattle.definitions.specs.Record.{typeOf, subTypeOf, isIntra, motionOf, subS
 use Rattle.definitions.proofs.Choices.{yes, no, each, below-true, below-intro, below-same}
 use Rattle.definitions.proofs.Motions.{motion-same}
 use Rattle.definitions.proofs.Records.{raster-quadrant, raster-place, raster-below, raster-is}
+use Rattle.records.specs.Checking.{subFirstBlock, subSplitAt, firstBlockIn, firstBlockOf, sameAsFirst}
 use Rattle.records.proofs.Words.{word-is, word-is-not}
-use Rattle.records.proofs.Ranges.{below-both}
-use Rattle.records.specs.Checking.{subLeader, subSplitAt, leaderIn, leaderOf}
+use Rattle.records.proofs.Searches.{below-both}
 
 -- two tests that hold in the same cases
 same-test : (a b : Bool) → (a ≡ true → b ≡ true) → (b ≡ true → a ≡ true) → a ≡ b
@@ -60,39 +60,40 @@ module _ (m : ℕ → Motion) where
   same : (i : ℕ) → sameMotion (m i) (m i) ≡ true
   same i = motion-same (m i) (m i) refl
 
-  abbrev led : (ℕ → ℕ) → ℕ → Bool
-  led leads b = sameMotion (m b) (m (leads b))
+  -- block b has the motion of the block that f names
+  abbrev asAt : (ℕ → ℕ) → ℕ → Bool
+  asAt f b = sameMotion (m b) (m (f b))
 
-  abbrev placeLeader : SubSplit → ℕ → ℕ
-  placeLeader S8x8 k = 0
-  placeLeader S8x4 k = k / 2 * 2
-  placeLeader S4x8 k = k % 2
-  placeLeader S4x4 k = k
+  abbrev firstPlace : SubSplit → ℕ → ℕ
+  firstPlace S8x8 k = 0
+  firstPlace S8x4 k = k / 2 * 2
+  firstPlace S4x8 k = k % 2
+  firstPlace S4x4 k = k
 
   -- the quadrant whose first block is i
   in-quadrant :
-      (i : ℕ) (s : SubSplit) → allBelow 4 (λ k. sameMotion (m (i + place k)) (m (i + place (placeLeader s k)))) ≡ allOf (alike m) (subPieces i s)
+      (i : ℕ) (s : SubSplit) → allBelow 4 (λ k. sameMotion (m (i + place k)) (m (i + place (firstPlace s k)))) ≡ allOf (alike m) (subPieces i s)
   unfolding allBelow allOf alike
   in-quadrant i S8x8 = rw (add-zero i, same i) (simp (and-assoc, and-true))
   in-quadrant i S8x4 = rw (add-zero i, same i, same (i + 4)) (simp (and-assoc, and-true))
   in-quadrant i S4x8 = rw (add-zero i, same i, same (i + 1)) (simp (and-assoc, and-true))
   in-quadrant i S4x4 = rw (add-zero i, same i, same (i + 1), same (i + 4), same (i + 5))
 
-  sub-leader-is : (q k : ℕ) → q < 4 → k < 4 → (s : SubSplit) → subLeader s (rasterOf q k) ≡ rasterOf q (placeLeader s k)
-  sub-leader-is q k hq hk S8x8 = rw (raster-quadrant q k hq hk)
-  sub-leader-is q k hq hk S8x4 = rw (raster-quadrant q k hq hk, raster-place q k hq hk)
-  sub-leader-is q k hq hk S4x8 = rw (raster-quadrant q k hq hk, raster-place q k hq hk)
-  sub-leader-is q k hq hk S4x4 = refl
+  sub-first-is : (q k : ℕ) → q < 4 → k < 4 → (s : SubSplit) → subFirstBlock s (rasterOf q k) ≡ rasterOf q (firstPlace s k)
+  sub-first-is q k hq hk S8x8 = rw (raster-quadrant q k hq hk)
+  sub-first-is q k hq hk S8x4 = rw (raster-quadrant q k hq hk, raster-place q k hq hk)
+  sub-first-is q k hq hk S4x8 = rw (raster-quadrant q k hq hk, raster-place q k hq hk)
+  sub-first-is q k hq hk S4x4 = refl
 
-  quadrant-led :
+  quadrant-as :
       (t : SubSplits) (q : ℕ) →
       q < 4 →
-      allBelow 4 (λ k. led (leaderIn (Quarters t)) (rasterOf q k)) ≡ allOf (alike m) (subPieces (first q) (subSplitAt t q))
-  quadrant-led t q hq =
-      below-same 4 (λ k. led (leaderIn (Quarters t)) (rasterOf q k)) (λ k. sameMotion (m (rasterOf q k)) (m (rasterOf q (placeLeader (subSplitAt t q) k))))
+      allBelow 4 (λ k. asAt (firstBlockIn (Quarters t)) (rasterOf q k)) ≡ allOf (alike m) (subPieces (first q) (subSplitAt t q))
+  quadrant-as t q hq =
+      below-same 4 (λ k. asAt (firstBlockIn (Quarters t)) (rasterOf q k)) (λ k. sameMotion (m (rasterOf q k)) (m (rasterOf q (firstPlace (subSplitAt t q) k))))
       (λ k hk.
       ap (λ (d : ℕ). sameMotion (m (rasterOf q k)) (m d))
-      (ap (λ (i : ℕ). subLeader (subSplitAt t i) (rasterOf q k)) (raster-quadrant q k hq hk) ∙ sub-leader-is q k hq hk (subSplitAt t q)))
+      (ap (λ (i : ℕ). subFirstBlock (subSplitAt t i) (rasterOf q k)) (raster-quadrant q k hq hk) ∙ sub-first-is q k hq hk (subSplitAt t q)))
       ∙ in-quadrant (first q) (subSplitAt t q)
 
   quarters : (t : SubSplits) → allBelow 4 (λ q. allOf (alike m) (subPieces (first q) (subSplitAt t q))) ≡ oneEach m (Quarters t)
@@ -102,33 +103,27 @@ module _ (m : ℕ → Motion) where
   columns : (f : ℕ → Bool) → allBelow 16 f ≡ (allBelow 4 (λ r. f (4 * r) && f (4 * r + 1)) && allBelow 4 (λ r. f (4 * r + 2) && f (4 * r + 3)))
   columns f = by-rows f ∙ sym (below-both 4 (λ r. f (4 * r) && f (4 * r + 1)) (λ r. f (4 * r + 2) && f (4 * r + 3)) _ (λ k. refl))
 
-  pub leaders : (s : Split) → allBelow 16 (led (leaderIn s)) ≡ oneEach m s
+  by-first-blocks : (s : Split) → allBelow 16 (asAt (firstBlockIn s)) ≡ oneEach m s
   unfolding oneEach allOf alike allBelow
-  leaders S16x16 = rw (same 0) (simp (and-assoc, and-true))
-  leaders S16x8 = rw (same 0, same 8) (simp (and-assoc, and-true))
-  leaders S8x16 = columns (led (leaderIn S8x16)) ∙ rw (same 0, same 2) (simp (and-assoc, and-true))
-  leaders (Quarters t) =
-      by-quadrants (led (leaderIn (Quarters t)))
-      ∙ (below-same 4 (λ q. allBelow 4 (λ k. led (leaderIn (Quarters t)) (rasterOf q k))) (λ q. allOf (alike m) (subPieces (first q) (subSplitAt t q)))
-      (quadrant-led t)
+  by-first-blocks S16x16 = rw (same 0) (simp (and-assoc, and-true))
+  by-first-blocks S16x8 = rw (same 0, same 8) (simp (and-assoc, and-true))
+  by-first-blocks S8x16 = columns (asAt (firstBlockIn S8x16)) ∙ rw (same 0, same 2) (simp (and-assoc, and-true))
+  by-first-blocks (Quarters t) =
+      by-quadrants (asAt (firstBlockIn (Quarters t)))
+      ∙ (below-same 4 (λ q. allBelow 4 (λ k. asAt (firstBlockIn (Quarters t)) (rasterOf q k))) (λ q. allOf (alike m) (subPieces (first q) (subSplitAt t q)))
+      (quadrant-as t)
       ∙ quarters t)
 
--- the leaders of a record's blocks
 module _ (r : List ℤ) where
-  abbrev pub follows : ℕ → Bool
-  follows b = sameMotion (motionOf r b) (motionOf r (leaderOf r b))
-
-  abbrev followers : (t : Bool) → Bool
-  followers t = allBelow 16 (λ b. sameMotion (motionOf r b) (motionOf r (pick t b (leaderIn (splitSaid r) b))))
-
-  by-type : (t : Bool) → followers t ≡ (t || oneEach (motionOf r) (splitSaid r))
+  -- t: the record is intra
+  by-type : (t : Bool) → allBelow 16 (asAt (motionOf r) (λ b. pick t b (firstBlockIn (splitSaid r) b))) ≡ (t || oneEach (motionOf r) (splitSaid r))
   unfolding pick
   by-type true = below-intro 16 _ (λ b h. motion-same (motionOf r b) (motionOf r b) refl)
-  by-type false = leaders (motionOf r) (splitSaid r)
+  by-type false = by-first-blocks (motionOf r) (splitSaid r)
 
-  pub follows-all : rule6 r ≡ allBelow 16 follows
-  unfolding rule6 leaderOf
-  follows-all = sym (by-type (isIntra r))
+  pub same-all : rule6 r ≡ allBelow 16 (sameAsFirst r)
+  unfolding rule6 firstBlockOf
+  same-all = sym (by-type (isIntra r))
 
 -- ---- The tests of the type and of the sub-type
 module _ (z : ℤ) (fits : SFits w16 z) where
@@ -155,37 +150,37 @@ module _ (r : List ℤ) (fits : SFits w16 (typeOf r)) (b : ℕ) where
   abbrev type : ℕ
   type = ofZ w16 (typeOf r)
 
-  pub leader-intra : type ≡ 0 → leaderOf r b ≡ b
-  unfolding leaderOf
-  leader-intra e = yes _ _ (is (typeOf r) fits 0 (omega arith) e)
+  pub first-intra : type ≡ 0 → firstBlockOf r b ≡ b
+  unfolding firstBlockOf
+  first-intra e = yes _ _ (is (typeOf r) fits 0 (omega arith) e)
 
   abbrev said : SubSplits
   said = record { a = subSplitOf (subTypeOf r 0); b = subSplitOf (subTypeOf r 1); c = subSplitOf (subTypeOf r 2); d = subSplitOf (subTypeOf r 3) }
 
   module _ (n0 : type ≡ 0 → ⊥) where
-    said-leader : (s : Split) → splitSaid r ≡ s → leaderOf r b ≡ leaderIn s b
-    unfolding leaderOf
-    said-leader s e = no _ _ (is-not (typeOf r) fits 0 (omega arith) n0) ∙ ap (λ (x : Split). leaderIn x b) e
+    said-first : (s : Split) → splitSaid r ≡ s → firstBlockOf r b ≡ firstBlockIn s b
+    unfolding firstBlockOf
+    said-first s e = no _ _ (is-not (typeOf r) fits 0 (omega arith) n0) ∙ ap (λ (x : Split). firstBlockIn x b) e
 
-    pub leader-16x16 : type ≡ 1 → leaderOf r b ≡ 0
+    pub first-16x16 : type ≡ 1 → firstBlockOf r b ≡ 0
     unfolding splitSaid
-    leader-16x16 e = said-leader S16x16 (yes _ _ (is (typeOf r) fits 1 (omega arith) e))
+    first-16x16 e = said-first S16x16 (yes _ _ (is (typeOf r) fits 1 (omega arith) e))
 
     module _ (n1 : type ≡ 1 → ⊥) where
-      pub leader-16x8 : type ≡ 2 → leaderOf r b ≡ b / 8 * 8
+      pub first-16x8 : type ≡ 2 → firstBlockOf r b ≡ b / 8 * 8
       unfolding splitSaid
-      leader-16x8 e = said-leader S16x8 (no _ _ (is-not (typeOf r) fits 1 (omega arith) n1) ∙ yes _ _ (is (typeOf r) fits 2 (omega arith) e))
+      first-16x8 e = said-first S16x8 (no _ _ (is-not (typeOf r) fits 1 (omega arith) n1) ∙ yes _ _ (is (typeOf r) fits 2 (omega arith) e))
 
       module _ (n2 : type ≡ 2 → ⊥) where
         past : {s : Split} → pick (eqZ (typeOf r) (pos 3)) S8x16 (Quarters said) ≡ s → splitSaid r ≡ s
         unfolding splitSaid
         past e = no _ _ (is-not (typeOf r) fits 1 (omega arith) n1) ∙ (no _ _ (is-not (typeOf r) fits 2 (omega arith) n2) ∙ e)
 
-        pub leader-8x16 : type ≡ 3 → leaderOf r b ≡ b % 4 / 2 * 2
-        leader-8x16 e = said-leader S8x16 (past (yes _ _ (is (typeOf r) fits 3 (omega arith) e)))
+        pub first-8x16 : type ≡ 3 → firstBlockOf r b ≡ b % 4 / 2 * 2
+        first-8x16 e = said-first S8x16 (past (yes _ _ (is (typeOf r) fits 3 (omega arith) e)))
 
-        pub leader-8x8 : (type ≡ 3 → ⊥) → b < 16 → leaderOf r b ≡ subLeader (subSplitOf (subTypeOf r (quadrantOf b))) b
-        leader-8x8 n3 h =
-            said-leader (Quarters said) (past (no _ _ (is-not (typeOf r) fits 3 (omega arith) n3)))
-            ∙ ap (λ (s : SubSplit). subLeader s b)
+        pub first-8x8 : (type ≡ 3 → ⊥) → b < 16 → firstBlockOf r b ≡ subFirstBlock (subSplitOf (subTypeOf r (quadrantOf b))) b
+        first-8x8 n3 h =
+            said-first (Quarters said) (past (no _ _ (is-not (typeOf r) fits 3 (omega arith) n3)))
+            ∙ ap (λ (s : SubSplit). subFirstBlock s b)
             (each (λ q. subSplitAt said q ≡ subSplitOf (subTypeOf r q)) refl refl refl refl (quadrantOf b) (omega arith))

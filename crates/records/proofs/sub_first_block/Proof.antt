@@ -1,13 +1,13 @@
--- `sub_leader` meets its contract: the sub-types in turn. Assumes nothing.
+-- `sub_first_block` meets its contract: the sub-types in turn. Assumes nothing.
 use mathlib.Core.Path.{sym, _∙_, ap}
 use borrow.Author.Needs.{needs}
 use Rattle.definitions.specs.Splits.{quadrantOf}
 use Rattle.definitions.specs.Record.{subTypeOf}
 use Rattle.definitions.specs.declared.SubSplit.{SubSplit}
-use Rattle.records.proofs.Leaders.{sub-8x8, sub-8x4, sub-4x8, sub-4x4}
-use Rattle.records.specs.Checking.{subLeader}
-use Rattle.records.proofs.sub_leader.Statement.{statement}
-use Rattle.records.proofs.sub_leader.Tie as tie
+use Rattle.records.specs.Checking.{subFirstBlock}
+use Rattle.records.proofs.FirstBlocks.{sub-8x8, sub-8x4, sub-4x8, sub-4x4}
+use Rattle.records.proofs.sub_first_block.Statement.{statement}
+use Rattle.records.proofs.sub_first_block.Tie as tie
 
 mul-q : tie.Need-mul-q
 mul-q c = search needs
@@ -37,7 +37,7 @@ returns : tie.Need-returns
 returns c =
     let a = c .before .before .before .args in (
       c .raster .ensures .0
-          ∙ ap (λ (s : SubSplit). subLeader s (a .b)) (sym (sub-8x8 (subTypeOf (a .words .now) (quadrantOf (a .b))) (search needs) (c .before .if1 .taken))),
+          ∙ ap (λ (s : SubSplit). subFirstBlock s (a .b)) (sym (sub-8x8 (subTypeOf (a .words .now) (quadrantOf (a .b))) (search needs) (c .before .if1 .taken))),
       c .raster .ensures .1,
     )
 
@@ -51,7 +51,7 @@ returns-2 : tie.Need-returns-2
 returns-2 c =
     let a = c .before .before .before .before .args in (
       c .raster2 .ensures .0
-          ∙ ap (λ (s : SubSplit). subLeader s (a .b))
+          ∙ ap (λ (s : SubSplit). subFirstBlock s (a .b))
           (sym (sub-8x4 (subTypeOf (a .words .now) (quadrantOf (a .b))) (search needs) (c .before .before .if1 .left) (c .before .if2 .taken))),
       c .raster2 .ensures .1,
     )
@@ -63,7 +63,7 @@ returns-3 : tie.Need-returns-3
 returns-3 c =
     let a = c .before .before .before .before .before .args in (
       c .raster3 .ensures .0
-          ∙ ap (λ (s : SubSplit). subLeader s (a .b))
+          ∙ ap (λ (s : SubSplit). subFirstBlock s (a .b))
           (sym (sub-4x8 (subTypeOf (a .words .now) (quadrantOf (a .b))) (search needs) (c .before .before .before .if1 .left) (c .before .before .if2 .left) (c .before .if3 .taken))),
       c .raster3 .ensures .1,
     )
@@ -71,13 +71,13 @@ returns-3 c =
 returns-4 : tie.Need-returns-4
 returns-4 c =
     let a = c .before .before .before .before .args in (
-      ap (λ (s : SubSplit). subLeader s (a .b))
+      ap (λ (s : SubSplit). subFirstBlock s (a .b))
           (sym (sub-4x4 (subTypeOf (a .words .now) (quadrantOf (a .b))) (search needs) (c .before .before .if1 .left) (c .before .if2 .left) (c .if3 .left))),
       search needs,
     )
 
-pub sub-leader-spec : {M : Type 1} → statement M
-sub-leader-spec =
+pub sub-first-block-spec : {M : Type 1} → statement M
+sub-first-block-spec =
     tie.close
     (tie.spec
     mul-q

@@ -1,12 +1,12 @@
--- `use_right` meets its contract: rule 4, by the type. Assumes nothing.
+-- `usage_right` meets its contract: rule 4, by the type. Assumes nothing.
 use mathlib.Core.Path.{sym, _∙_}
 use lib.IntN.{pos}
 use borrow.Author.Needs.{needs}
 use Rattle.definitions.specs.Record.{typeOf}
 use Rattle.records.proofs.Ranges.{use-none, use-each}
 use Rattle.records.proofs.Words.{word-is, word-is-not}
-use Rattle.records.proofs.use_right.Statement.{statement}
-use Rattle.records.proofs.use_right.Tie as tie
+use Rattle.records.proofs.usage_right.Statement.{statement}
+use Rattle.records.proofs.usage_right.Tie as tie
 
 shared-slice-copy-out-if1 : tie.Need-shared-slice-copy-out-if1
 shared-slice-copy-out-if1 c = search needs
@@ -27,8 +27,8 @@ returns-2 c =
     let words = c .before .before .before .args .words .now in
     c .quadrants-used .ensures ∙ sym (use-each words (word-is-not (typeOf words) (pos 0) (search needs) (search needs) (c .before .if1 .left)))
 
-pub use-right-spec : {M : Type 1} → statement M
-use-right-spec =
+pub usage-right-spec : {M : Type 1} → statement M
+usage-right-spec =
     tie.close
     (tie.spec
     shared-slice-copy-out-if1
