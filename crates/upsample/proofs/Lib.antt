@@ -1,0 +1,5 @@
+mod Naming
+mod Sizes
+mod Readiness
+mod Staging
+mod Within
