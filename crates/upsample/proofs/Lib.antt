@@ -1,5 +1,5 @@
-mod Naming
-mod Sizes
-mod Readiness
-mod Staging
-mod Within
+pub mod Naming
+pub mod Sizes
+pub mod Readiness
+pub mod Staging
+pub mod Within

@@ -32,7 +32,7 @@ use Rattle.upsample.specs.Staged.{axesTests, axesCall, placedCall}
 abbrev pub Handed : {Reply : Type 0} → Reply → List ℤ → Outcome Reply → Type 0
 Handed reply words outcome = (reply ≡ outcome .reply) × (words ≡ outcome .words)
 
-handed : {Reply : Type 0} (reply : Reply) (words : List ℤ) (outcome : Outcome Reply) → outcome ≡ record { reply = reply; words = words } → Handed reply words outcome
+pub handed : {Reply : Type 0} (reply : Reply) (words : List ℤ) (outcome : Outcome Reply) → outcome ≡ record { reply = reply; words = words } → Handed reply words outcome
 handed {Reply} reply words outcome e = (sym (ap (λ (o : Outcome Reply). o .reply) e), sym (ap (λ (o : Outcome Reply). o .words) e))
 
 -- ---- refusal 8

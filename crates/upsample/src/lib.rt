@@ -25,7 +25,7 @@ use records::check;
 
 const RECORD_WORDS: usize = 77;
 
-fn refused(number: u32) -> Refusal
+pub fn refused(number: u32) -> Refusal
     ensures { λ r. ⌜ r ≡ refusal number ⌝ }
 {
     Refusal {
@@ -35,7 +35,7 @@ fn refused(number: u32) -> Refusal
     }
 }
 
-fn base_count(g: Axes) -> usize
+pub fn base_count(g: Axes) -> usize
     requires { ⌜ AcceptedAxes g ⌝ }
     ensures { λ r. ⌜ (r ≡ baseCount g) × (r ≤ 65536) ⌝ }
 {
