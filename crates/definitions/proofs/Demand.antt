@@ -114,6 +114,13 @@ module _ (n : Numbers) (column row : ℕ) (accepted : geometryVerdict n ≡ Acce
 answer-not-refusal : {r : Refusal} {answer : Answer} → Declined r ≡ Answered answer → ⊥
 answer-not-refusal e = let z : _≡_ {A = ℕ} 0 1 = cc in omega arith
 
+-- a call that answers is accepted
+pub call-accepted : (n : Numbers) (base : List ℤ) (column row : ℤ) (words : List ℤ) (answer : Answer)
+    → macroblockCall n base column row words .reply ≡ Answered answer → verdictOf (macroblockTests n base column row words) ≡ Accepted
+unfolding macroblockCall
+call-accepted n base column row words answer e =
+    reply-accepted (verdictOf (macroblockTests n base column row words)) Declined words _ (Answered answer) (λ r q. answer-not-refusal q) e
+
 -- where a call is accepted, it gives what is made
 gives-made : (n : Numbers) (column row : ℕ) (words base : List ℤ) → verdictOf (macroblockTests n base (pos column) (pos row) words) ≡ Accepted
     → SinglyGives n column row words base (madeOf (axesOf n) base column row .answer) (madeOf (axesOf n) base column row .written)
@@ -125,10 +132,6 @@ gives-made n column row words base v =
 module _ (n : Numbers) (column row : ℕ) (words base : List ℤ) where
   abbrev single : Verdict
   single = verdictOf (macroblockTests n base (pos column) (pos row) words)
-
-  answered-accepted : (answer : Answer) → macroblockCall n base (pos column) (pos row) words .reply ≡ Answered answer → single ≡ Accepted
-  unfolding macroblockCall
-  answered-accepted answer e = reply-accepted single Declined words _ (Answered answer) (λ r q. answer-not-refusal q) e
 
   geometry-accepted : single ≡ Accepted → geometryVerdict n ≡ Accepted
   unfolding macroblockTests
@@ -158,7 +161,7 @@ singly : (n : Numbers) (column row : ℕ) (words base : List ℤ) (answer : Answ
     → SinglyGives n column row words base answer written → Demand3Singly n column row words base answer written
 singly n column row words base answer written e =
     let g = axesOf n in
-    let v = answered-accepted n column row words base answer (ap (λ (o : Outcome MacroblockReply). o .reply) e) in
+    let v = call-accepted n base (pos column) (pos row) words answer (ap (λ (o : Outcome MacroblockReply). o .reply) e) in
     let made = madeOf g base column row in
     let p = sym (gives-made n column row words base v) ∙ e in
     let a : made .answer ≡ answer = cc (ap (λ (o : Outcome MacroblockReply). o .reply) p) in
@@ -304,7 +307,7 @@ picture n column row words alone base answer written given =
     let g = axesOf n in
     let made = madeOf g base column row in
     let k = passed n words base (counted-accepted n words base (given .counts) (given .accepted)) in
-    let q = asked n column row alone base (answered-accepted n column row alone base answer (given .answered)) in
+    let q = asked n column row alone base (call-accepted n base (pos column) (pos row) alone answer (given .answered)) in
     let own = picture-gives n column row words alone base k q in
     let a : made .answer ≡ answer = cc (sym (own .answered) ∙ given .answered) in
     let w : made .written ≡ written = sym (own .at-address) ∙ given .at-address in

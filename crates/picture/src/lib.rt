@@ -7,6 +7,7 @@ ghost use Rattle.definitions.specs.Calls.{counted, countsOf, fullCount, madeAt,
 ghost use Rattle.definitions.specs.Record.{recordWords};
 ghost use Rattle.definitions.specs.Tests.{forEach, upTo};
 ghost use Rattle.picture.specs.Reads.{AxisReads};
+ghost use Rattle.upsample.specs.Promised.{PicturePromised};
 ghost use Rattle.upsample.specs.Staged.{AcceptedAxes, Formed, axesPicture};
 ghost use lib.ListN.{length};
 ghost use mathlib.Core.Path.{_≡_};
@@ -123,6 +124,7 @@ fn accepted_picture(g: Axes, base: &[i16], out: &mut [i16]) -> PictureReply
 pub fn upsample_picture(n: Numbers, base: &[i16], out: &mut [i16]) -> PictureReply
     ensures reply { λ r. ⌜ r ≡ pictureCall n (now (base .entry)) (now (out .entry)) .reply ⌝ }
     ensures words { λ r. ⌜ now (out .exit) ≡ pictureCall n (now (base .entry)) (now (out .entry)) .words ⌝ }
+    ensures demand3 { λ r. ⌜ PicturePromised n (now (base .entry)) (now (out .entry)) r (now (out .exit)) ⌝ }
 {
     match Geometry::new(n) {
         Checked::Geometry(g) => accepted_picture(g.axes(), base, out),

@@ -7,6 +7,7 @@ ghost use Rattle.definitions.specs.Geometry.{baseSize};
 ghost use Rattle.definitions.specs.Record.{recordWords};
 ghost use Rattle.definitions.specs.Refusals.{addressesRead, baseCount, recordTests, refusal, verdictOf, withinAxis};
 ghost use Rattle.macroblock.specs.Made.{namedBy, readOf};
+ghost use Rattle.upsample.specs.Promised.{SinglyPromised};
 ghost use Rattle.upsample.specs.Staged.{AcceptedAxes, InBase, Placed, axesCall, placedCall, rowAddresses};
 ghost use lib.ListN.{length};
 ghost use mathlib.Core.Path.{_≡_};
@@ -142,6 +143,7 @@ pub fn upsample_macroblock(
 ) -> MacroblockReply
     ensures reply { λ r. ⌜ r ≡ macroblockCall n (now (base .entry)) column row (now (out .entry)) .reply ⌝ }
     ensures words { λ r. ⌜ now (out .exit) ≡ macroblockCall n (now (base .entry)) column row (now (out .entry)) .words ⌝ }
+    ensures demand3 { λ r. ⌜ SinglyPromised n (now (base .entry)) column row (now (out .entry)) r (now (out .exit)) ⌝ }
 {
     match Geometry::new(n) {
         Checked::Geometry(g) => accepted_macroblock(g.axes(), base, column, row, out),

@@ -34,7 +34,7 @@ returns c =
     let p = toZ-ofZ (s .fits .column) in
     let q = toZ-ofZ (s .fits .row) in (
       c .answer-result .ensures ∙ ap macroblockResult (sym (c .before .before .a .given .1) ∙ (u .ensures .0 ∙ (λ i. macroblockCall (n i) (s .args .base .now) (p i) (q i) (s .args .out .now) .reply))),
-      u .ensures .1 ∙ (λ i. macroblockCall (n i) (s .args .base .now) (p i) (q i) (s .args .out .now) .words),
+      u .ensures .1 .0 ∙ (λ i. macroblockCall (n i) (s .args .base .now) (p i) (q i) (s .args .out .now) .words),
     )
 
 same-length-2 : tie.Need-same-length-2
@@ -49,7 +49,7 @@ returns-2 c =
     let p = toZ-ofZ (s .fits .column) in
     let q = toZ-ofZ (s .fits .row) in (
       ap macroblockResult (sym (c .before .r .given .1) ∙ (u .ensures .0 ∙ (λ i. macroblockCall (n i) (s .args .base .now) (p i) (q i) (s .args .out .now) .reply))),
-      u .ensures .1 ∙ (λ i. macroblockCall (n i) (s .args .base .now) (p i) (q i) (s .args .out .now) .words),
+      u .ensures .1 .0 ∙ (λ i. macroblockCall (n i) (s .args .base .now) (p i) (q i) (s .args .out .now) .words),
     )
 
 pub spiewomir-macroblock-spec : {M : Type 1} → statement M

@@ -28,7 +28,7 @@ returns c =
     let s = o .before .before .before .before in
     let n = o .before .before .before .numbers-of .ensures in (
       ap pictureResult (sym (c .before .c .given .1) ∙ (u .ensures .0 ∙ (λ i. pictureCall (n i) (s .args .base .now) (s .args .out .now) .reply))),
-      u .ensures .1 ∙ (λ i. pictureCall (n i) (s .args .base .now) (s .args .out .now) .words),
+      u .ensures .1 .0 ∙ (λ i. pictureCall (n i) (s .args .base .now) (s .args .out .now) .words),
     )
 
 same-length-2 : tie.Need-same-length-2
@@ -41,7 +41,7 @@ returns-2 c =
     let s = o .before .before .before .before in
     let n = o .before .before .before .numbers-of .ensures in (
       ap pictureResult (sym (c .before .r .given .1) ∙ (u .ensures .0 ∙ (λ i. pictureCall (n i) (s .args .base .now) (s .args .out .now) .reply))),
-      u .ensures .1 ∙ (λ i. pictureCall (n i) (s .args .base .now) (s .args .out .now) .words),
+      u .ensures .1 .0 ∙ (λ i. pictureCall (n i) (s .args .base .now) (s .args .out .now) .words),
     )
 
 pub spiewomir-picture-spec : {M : Type 1} → statement M

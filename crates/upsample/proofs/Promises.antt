@@ -1,0 +1,74 @@
+-- What the calls hand over is as demand 3 says: the theorem of definitions, at their replies. Assumes nothing.
+use Prim.Native.Nat.{ℕ, _+_, _*_, _<_}
+use mathlib.Core.Path.{_≡_, refl, sym, ap, subst, _∙_}
+use mathlib.Core.Bool.{Bool, true, false, _&&_}
+use mathlib.Core.List.{List, _∷_, _++_}
+use lib.IntN.{ℤ, pos, natAbs}
+use lib.ListN.{length}
+use lib.Signed.{nonNeg, pos-natAbs}
+use Rattle.definitions.specs.declared.Numbers.{Numbers}
+use Rattle.definitions.specs.declared.Answer.{Answer}
+use Rattle.definitions.specs.declared.Counts.{Counts}
+use Rattle.definitions.specs.declared.Verdict.the-variants.{Accepted}
+use Rattle.definitions.specs.declared.MacroblockReply.{MacroblockReply}
+use Rattle.definitions.specs.declared.MacroblockReply.the-variants.{Answered, Refused as Declined}
+use Rattle.definitions.specs.declared.PictureReply.{PictureReply}
+use Rattle.definitions.specs.declared.PictureReply.the-variants.{Counted, Refused as NotMade}
+use Rattle.definitions.specs.Geometry.{axesOf, fullSize, macroblocks}
+use Rattle.definitions.specs.Record.{recordAt}
+use Rattle.definitions.specs.Refusals.{verdictOf, geometryTests, baseTest, outputTest, placeTest, withinAxis, recordTests, addressesRead}
+use Rattle.definitions.specs.Calls.{Outcome, macroblockTests, macroblockCall, pictureCall}
+use Rattle.definitions.specs.Demand3.{Demand3Singly, Demand3Picture}
+use Rattle.definitions.proofs.Choices.{and-true}
+use Rattle.definitions.proofs.Verdicts.{first-passed, both-passed}
+use Rattle.definitions.proofs.RecordLists.{not-false}
+use Rattle.definitions.proofs.Demand.{demand3, call-accepted}
+use Rattle.upsample.specs.Promised.{SinglyPromised, PicturePromised}
+use Rattle.upsample.proofs.Within.{within-natural}
+
+-- where a call answers, its column and row are those of the picture
+module _ (n : Numbers) (base : List ℤ) (column row : ℤ) (words : List ℤ) (answer : Answer) (e : macroblockCall n base column row words .reply ≡ Answered answer) where
+  within : (withinAxis (fullSize (axesOf n .horizontal)) column ≡ true) × (withinAxis (fullSize (axesOf n .vertical)) row ≡ true)
+  unfolding macroblockTests
+  within =
+      let g = axesOf n in
+      let records = recordTests base (addressesRead g (natAbs column) (natAbs row)) in
+      let v = call-accepted n base column row words answer e in
+      let p = both-passed (geometryTests n) (baseTest g base ∷ outputTest 1 words ∷ placeTest g column row ∷ records) v in
+      let q = first-passed (baseTest g base) (outputTest 1 words ∷ placeTest g column row ∷ records) (p .1) in
+      let r = first-passed (outputTest 1 words) (placeTest g column row ∷ records) (q .1) in
+      let t = first-passed (placeTest g column row) records (r .1) in
+      and-true _ _ (not-false (withinAxis (fullSize (g .horizontal)) column && withinAxis (fullSize (g .vertical)) row) (t .0))
+
+  natural-column : pos (natAbs column) ≡ column
+  natural-column = pos-natAbs column (within-natural (fullSize (axesOf n .horizontal)) column (within .0))
+
+  natural-row : pos (natAbs row) ≡ row
+  natural-row = pos-natAbs row (within-natural (fullSize (axesOf n .vertical)) row (within .1))
+
+singly-promised : (n : Numbers) (base : List ℤ) (column row : ℤ) (words : List ℤ) (reply : MacroblockReply) (out : List ℤ)
+    → reply ≡ macroblockCall n base column row words .reply → out ≡ macroblockCall n base column row words .words → SinglyPromised n base column row words reply out
+singly-promised n base column row words (Answered answer) out r w =
+    let c = natural-column n base column row words answer (sym r) in
+    let d = natural-row n base column row words answer (sym r) in
+    let e : macroblockCall n base (pos (natAbs column)) (pos (natAbs row)) words ≡ macroblockCall n base column row words = λ i. macroblockCall n base (c i) (d i) words in
+    demand3 .singly n (natAbs column) (natAbs row) words base answer out (e ∙ (λ i. record { reply = sym r i; words = sym w i }))
+singly-promised n base column row words (Declined r) out e w = tt
+
+picture-promised : (n : Numbers) (base words : List ℤ) (reply : PictureReply) (out : List ℤ)
+    → reply ≡ pictureCall n base words .reply → out ≡ pictureCall n base words .words → PicturePromised n base words reply out
+picture-promised n base words (Counted counts) out r w = λ column row x y alone answer a.
+    demand3 .picture n column row words alone base answer (recordAt out (row * macroblocks (fullSize (axesOf n .horizontal)) + column))
+    (record { counts = counts; accepted = sym r; answered = a; at-address = ap (λ (o : List ℤ). recordAt o (row * macroblocks (fullSize (axesOf n .horizontal)) + column)) (sym w) })
+picture-promised n base words (NotMade r) out e w = tt
+
+-- a call's reply and words with the promise of them: the contract's three parts
+pub singly-kept : (n : Numbers) (base : List ℤ) (column row : ℤ) (words : List ℤ) (reply : MacroblockReply) (out : List ℤ)
+    → reply ≡ macroblockCall n base column row words .reply → out ≡ macroblockCall n base column row words .words
+    → (reply ≡ macroblockCall n base column row words .reply) × ((out ≡ macroblockCall n base column row words .words) × SinglyPromised n base column row words reply out)
+singly-kept n base column row words reply out r w = (r, (w, singly-promised n base column row words reply out r w))
+
+pub picture-kept : (n : Numbers) (base words : List ℤ) (reply : PictureReply) (out : List ℤ)
+    → reply ≡ pictureCall n base words .reply → out ≡ pictureCall n base words .words
+    → (reply ≡ pictureCall n base words .reply) × ((out ≡ pictureCall n base words .words) × PicturePromised n base words reply out)
+picture-kept n base words reply out r w = (r, (w, picture-promised n base words reply out r w))
