@@ -83,6 +83,7 @@ fn everything(tests: &mut Tests) {
     );
     tests.compare("each of the 259 splits", sweeps::splits);
     tests.compare("every window of bases to 128", sweeps::windows);
+    tests.compare("windows of bases to 4096", sweeps::long_windows);
     tests.compare(
         "every two rows of the block map with every intra pattern",
         sweeps::intra_patterns,

@@ -154,6 +154,39 @@ pub fn windows(calls: &mut Calls) {
     }
 }
 
+/// Random windows of bases to 4096 along either axis.
+pub fn long_windows(calls: &mut Calls) {
+    let records: Vec<Record> = (0..256).map(|n| distinct(4, [3; 4], 1 + 16 * n)).collect();
+    let words = records.concat();
+    let random = &mut Random::new(4);
+    for _ in 0..5_000 {
+        let base = 16 * random.within(1, 256);
+        let scaled = base + 2 * random.within(0, base / 2);
+        let offset = -2 * random.within(0, (scaled - 16) / 2);
+        let lent = Lent::of(&words[..base as usize / 16 * WORDS]);
+        let full = 16 * random.within(1, 256);
+        // A place inside the window, if the picture has it.
+        let inside = random
+            .within(0, (scaled + offset) / 16 - 1)
+            .min(full / 16 - 1)
+            .max(0);
+        let _ = calls.single(
+            &[base, 16, scaled, 16, offset, 0, full, 16],
+            &lent,
+            (inside, 0),
+            WORDS,
+            &[],
+        );
+        let _ = calls.single(
+            &[16, base, 16, scaled, 0, offset, 16, full],
+            &lent,
+            (0, inside),
+            WORDS,
+            &[],
+        );
+    }
+}
+
 /// For every two rows of the block map a picture of one macroblock, with each
 /// of the sixteen ways in which four base macroblocks are intra or not.
 pub fn intra_patterns(calls: &mut Calls) {
