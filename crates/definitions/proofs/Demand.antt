@@ -177,7 +177,7 @@ written-length Outside m = laid-length _ _ _
 written-length (Intra n) m = laid-length _ _ _
 written-length (Inherited n s) m = laid-length _ _ _
 
-made-length : (g : Axes) (base : List ℤ) (address : ℕ) → length (madeAt g base address .written) ≡ recordWords
+pub made-length : (g : Axes) (base : List ℤ) (address : ℕ) → length (madeAt g base address .written) ≡ recordWords
 unfolding madeAt madeOf
 made-length g base address = written-length _ _
 

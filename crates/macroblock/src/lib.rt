@@ -62,7 +62,7 @@ pub fn axis_read(a: Axis, x: u32) -> AxisRead
 }
 
 // ---- The written record
-fn type_number(s: Split) -> u8
+pub fn type_number(s: Split) -> u8
     ensures { λ r. ⌜ r ≡ typeNumber s ⌝ }
 {
     match s {
@@ -84,7 +84,7 @@ fn sub_type_number(s: SubSplit) -> u8
     }
 }
 
-fn sub_types(s: Split) -> [u8; 4]
+pub fn sub_types(s: Split) -> [u8; 4]
     ensures { λ r. ⌜ r ≡ subTypes s ⌝ }
 {
     match s {

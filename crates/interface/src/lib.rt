@@ -1,0 +1,185 @@
+// The C interface: the calls on numbers and slices, with results by value. include/spiewomir.h declares it.
+ghost use Rattle.definitions.specs.Calls.{macroblockCall, pictureCall};
+ghost use Rattle.interface.specs.Interface.{answerResult, answered, classNumber, macroblockResult, numbersOf, pictureResult};
+ghost use mathlib.Core.Path.{_≡_};
+use definitions::Answer;
+use definitions::AxisNumbers;
+use definitions::Class;
+use definitions::MacroblockReply;
+use definitions::Named;
+use definitions::Numbers;
+use definitions::PictureReply;
+use macroblock::sub_types;
+use macroblock::type_number;
+use picture::upsample_picture;
+use upsample::upsample_macroblock;
+
+// Width and height of the base, the scaled base, the window's offset, and the full picture: any numbers.
+#[repr(C)]
+pub struct GeometryNumbers {
+    pub bw: i32,
+    pub bh: i32,
+    pub sw: i32,
+    pub sh: i32,
+    pub x: i32,
+    pub y: i32,
+    pub fw: i32,
+    pub fh: i32,
+}
+
+// A refusal's number, place and rule, or 0, 0, 0 and the answer: its type, sub-types, class (Corner, Vert, Hori, Center), first base column and row.
+#[repr(C)]
+pub struct MacroblockResult {
+    pub refusal: u32,
+    pub place: u32,
+    pub rule: u32,
+    pub kind: u32,
+    pub sub0: u32,
+    pub sub1: u32,
+    pub sub2: u32,
+    pub sub3: u32,
+    pub class: u32,
+    pub column: u32,
+    pub row: u32,
+}
+
+#[repr(C)]
+pub struct PictureResult {
+    pub refusal: u32,
+    pub place: u32,
+    pub rule: u32,
+    pub inherited: u32,
+    pub intra: u32,
+    pub outside: u32,
+}
+
+fn numbers_of(g: GeometryNumbers) -> Numbers
+    ensures { λ r. ⌜ r ≡ numbersOf g ⌝ }
+{
+    Numbers {
+        horizontal: AxisNumbers {
+            base: g.bw,
+            scaled: g.sw,
+            offset: g.x,
+            full: g.fw,
+        },
+        vertical: AxisNumbers {
+            base: g.bh,
+            scaled: g.sh,
+            offset: g.y,
+            full: g.fh,
+        },
+    }
+}
+
+fn class_number(c: Class) -> u32
+    ensures { λ r. ⌜ r ≡ classNumber c ⌝ }
+{
+    match c {
+        Class::Corner => 0,
+        Class::Vert => 1,
+        Class::Hori => 2,
+        Class::Center => 3,
+    }
+}
+
+fn wide(n: u8) -> u32
+    ensures { λ r. ⌜ r ≡ n ⌝ }
+{
+    n as u32
+}
+
+fn named_result(kind: u8, sub: [u8; 4], n: Named) -> MacroblockResult
+    ensures { λ r. ⌜ r ≡ answered kind sub (n .class) (n .column) (n .row) ⌝ }
+{
+    let class = n.class;
+    MacroblockResult {
+        refusal: 0,
+        place: 0,
+        rule: 0,
+        kind: wide(kind),
+        sub0: wide(sub[0]),
+        sub1: wide(sub[1]),
+        sub2: wide(sub[2]),
+        sub3: wide(sub[3]),
+        class: class_number(class),
+        column: n.column,
+        row: n.row,
+    }
+}
+
+fn answer_result(a: Answer) -> MacroblockResult
+    ensures { λ r. ⌜ r ≡ answerResult a ⌝ }
+{
+    match a {
+        Answer::Outside => named_result(
+            5,
+            [0; 4],
+            Named {
+                class: Class::Corner,
+                column: 0,
+                row: 0,
+            },
+        ),
+        Answer::Intra(n) => named_result(0, [0; 4], n),
+        Answer::Inherited(n, s) => named_result(type_number(s), sub_types(s), n),
+    }
+}
+
+#[no_mangle]
+pub extern "C" fn spiewomir_macroblock(
+    g: GeometryNumbers,
+    base: &[i16],
+    column: i32,
+    row: i32,
+    out: &mut [i16],
+) -> MacroblockResult
+    ensures result { λ r. ⌜ r ≡ macroblockResult (macroblockCall (numbersOf g) (now (base .entry)) column row (now (out .entry)) .reply) ⌝ }
+    ensures words { λ r. ⌜ now (out .exit) ≡ macroblockCall (numbersOf g) (now (base .entry)) column row (now (out .entry)) .words ⌝ }
+{
+    match upsample_macroblock(numbers_of(g), base, column, row, out) {
+        MacroblockReply::Answered(a) => answer_result(a),
+        MacroblockReply::Refused(r) => MacroblockResult {
+            refusal: r.number,
+            place: r.place,
+            rule: r.rule,
+            kind: 0,
+            sub0: 0,
+            sub1: 0,
+            sub2: 0,
+            sub3: 0,
+            class: 0,
+            column: 0,
+            row: 0,
+        },
+    }
+}
+
+#[no_mangle]
+pub extern "C" fn spiewomir_picture(
+    g: GeometryNumbers,
+    base: &[i16],
+    out: &mut [i16],
+) -> PictureResult
+    ensures result { λ r. ⌜ r ≡ pictureResult (pictureCall (numbersOf g) (now (base .entry)) (now (out .entry)) .reply) ⌝ }
+    ensures words { λ r. ⌜ now (out .exit) ≡ pictureCall (numbersOf g) (now (base .entry)) (now (out .entry)) .words ⌝ }
+{
+    match upsample_picture(numbers_of(g), base, out) {
+        PictureReply::Counted(c) => PictureResult {
+            refusal: 0,
+            place: 0,
+            rule: 0,
+            inherited: c.inherited,
+            intra: c.intra,
+            outside: c.outside,
+        },
+        PictureReply::Refused(r) => PictureResult {
+            refusal: r.number,
+            place: r.place,
+            rule: r.rule,
+            inherited: 0,
+            intra: 0,
+            outside: 0,
+        },
+    }
+}

@@ -1,0 +1,97 @@
+-- One column, and one macroblock, more. Assumes nothing.
+use Prim.Native.Nat.{ℕ, zero, suc, _+_, _*_, _/_, _%_, _<_, _≤_}
+use mathlib.Core.Path.{_≡_, refl, sym, ap, subst, _∙_}
+use mathlib.Core.Bool.{true}
+use mathlib.Core.List.{List, [], _∷_, _++_, append-nil, List·Memᴰ}
+use mathlib.Core.Logic.{_⊎_, ⊎-elim}
+use native.Mathlib.Nat.{eq-or-lt-of-le, mod-lt, div-lt-iff-lt-mul}
+use native.Mathlib.Numerals.{add-one}
+use native.Mathlib.Omega.{arith}
+use lib.IntN.{ℤ}
+use lib.ListN.{length, getD, set, length-set}
+use lib.Seq.{getD-set-same, getD-set-other}
+use Rattle.definitions.specs.declared.Axis.{Axis}
+use Rattle.definitions.specs.declared.Axes.{Axes}
+use Rattle.definitions.specs.declared.Answer.{Answer}
+use Rattle.definitions.specs.declared.Counts.{Counts}
+use Rattle.definitions.specs.Tests.{upTo, forEach}
+use Rattle.definitions.specs.Geometry.{fullSize, macroblocks}
+use Rattle.definitions.specs.Record.{recordWords, recordAt, wellFormed}
+use Rattle.definitions.specs.Answer.{Made, madeOf}
+use Rattle.definitions.specs.Refusals.{baseCount, addressesRead}
+use Rattle.definitions.specs.Calls.{counted, countsOf, fullCount, madeAt}
+use Rattle.definitions.proofs.Counting.{sumOf, counts-more, counts-sum}
+use Rattle.definitions.proofs.Parts.{parts, parts-more}
+use Rattle.definitions.proofs.RecordLists.{joined-each}
+use Rattle.macroblock.specs.declared.AxisRead.{AxisRead}
+use Rattle.macroblock.specs.Made.{readOf, placedBy, Placeable}
+use Rattle.macroblock.proofs.Paper.{placed-by}
+use Rattle.upsample.specs.Staged.{AcceptedAxes, Formed}
+use Rattle.upsample.proofs.Readiness.{Known, known-of}
+use Rattle.picture.specs.Reads.{noRead, AxisReads}
+
+below-last : (k x : ℕ) → k < x + 1 → (k ≡ x) ⊎ (k < x)
+below-last k x l = let m : k ≤ x = omega arith in eq-or-lt-of-le m
+
+pub read-more : (a : Axis) (x : ℕ) (reads : List AxisRead) (r : AxisRead) → x < 256 → AxisReads a x reads → r ≡ readOf a x → AxisReads a (x + 1) (set reads x r)
+read-more a x reads r h so-far e = record {
+  size = length-set reads x r ∙ so-far .size;
+  each = λ k l. ⊎-elim
+      (λ same. ap (λ (j : ℕ). getD (set reads x r) j noRead) same ∙ (getD-set-same reads x r noRead (omega (arith, so-far .size)) ∙ (e ∙ ap (readOf a) (sym same))))
+      (λ less. getD-set-other reads x k r noRead (λ same. omega arith) ∙ so-far .each k less)
+      (below-last k x l);
+}
+
+-- ---- the macroblock at an address
+pub record Located (g : Axes) (address : ℕ) : Type 0 where
+  pub some : 0 < macroblocks (fullSize (g .horizontal))
+  pub column : address % macroblocks (fullSize (g .horizontal)) < 256
+  pub row : address / macroblocks (fullSize (g .horizontal)) < 256
+
+pub located : (g : Axes) → AcceptedAxes g → (address total : ℕ) → total ≡ fullCount g → address < total → Located g address
+located g a address total e h =
+    let w = macroblocks (fullSize (g .horizontal)) in
+    let wide : w ≤ 256 = omega (arith, a .horizontal .full-high) in
+    let some : 0 < w = omega (arith, a .horizontal .full-low) in
+    let high : macroblocks (fullSize (g .vertical)) ≤ 256 = omega (arith, a .vertical .full-high) in
+    let row : address / w < macroblocks (fullSize (g .vertical)) = div-lt-iff-lt-mul some .1 (omega arith) in
+    record { some = some; column = omega (arith, mod-lt address some); row = omega arith }
+
+module _ (g : Axes) (base : List ℤ) (f : Formed g base) (address : ℕ) where
+  abbrev column : ℕ
+  column = address % macroblocks (fullSize (g .horizontal))
+
+  abbrev row : ℕ
+  row = address / macroblocks (fullSize (g .horizontal))
+
+  module _ (h v : AxisRead) (p : h ≡ readOf (g .horizontal) column) (q : v ≡ readOf (g .vertical) row) where
+    known : Known g base (f .placed) column row h v
+    known = known-of g base (f .placed) column row h v p q
+
+    pub placeable : Placeable g h v base
+    placeable t =
+        known .made-ready t (λ a m. f .formed a (omega (arith, known .named-below t a (subst (List·Memᴰ a) (known .named t) m) .0, f .placed .base-length)))
+
+    pub made-there : placedBy g h v base ≡ madeAt g base address
+    unfolding madeAt
+    made-there = (λ i. placedBy g (p i) (q i) base) ∙ sym (placed-by g column row base)
+
+-- ---- counts and words so far
+module _ (f : ℕ → Made) where
+  pub counts-none : record { inherited = 0; intra = 0; outside = 0 } ≡ countsOf (upTo 0 f)
+  unfolding upTo countsOf
+  counts-none = refl
+
+  pub counts-next : (n : ℕ) (c next : Counts) (answer : Answer) → c ≡ countsOf (upTo n f) → answer ≡ f n .answer → next ≡ counted answer c → next ≡ countsOf (upTo (n + 1) f)
+  counts-next n c next answer so-far a e = e ∙ ((λ i. counted (a i) (so-far i)) ∙ (sym (counts-more n f) ∙ ap (λ (k : ℕ). countsOf (upTo k f)) (sym (add-one n))))
+
+  pub counts-low : (n : ℕ) (c : Counts) → c ≡ countsOf (upTo n f) → sumOf c ≡ n
+  counts-low n c e = ap sumOf e ∙ counts-sum n f
+
+  pub words-of : (n : ℕ) → parts n (λ k. f k .written) ≡ forEach (upTo n f) (λ m. m .written)
+  unfolding upTo
+  words-of zero = refl
+  words-of (suc n) =
+      parts-more n (λ k. f k .written)
+      ∙ (ap (λ (l : List ℤ). l ++ f n .written) (words-of n)
+      ∙ (ap (λ (l : List ℤ). forEach (upTo n f) (λ m. m .written) ++ l) (sym (append-nil (f n .written))) ∙ sym (joined-each (λ m. m .written) (upTo n f) (f n ∷ []))))

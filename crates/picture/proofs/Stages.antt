@@ -1,0 +1,76 @@
+-- The stages of the picture call, each refusal where it applies, are the call of document 01. Assumes nothing.
+use Prim.Native.Nat.{ℕ, _*_, _<_}
+use mathlib.Core.Path.{_≡_, sym, ap, _∙_}
+use mathlib.Core.Bool.{true, false, not}
+use mathlib.Core.List.{List, _∷_}
+use lib.IntN.{ℤ}
+use lib.ListN.{length}
+use borrow.Author.Tests.{eq-eqb, ne-eqb}
+use Rattle.definitions.specs.declared.Axes.{Axes}
+use Rattle.definitions.specs.declared.Numbers.{Numbers}
+use Rattle.definitions.specs.declared.Refusal.{Refusal}
+use Rattle.definitions.specs.declared.Verdict.{Verdict}
+use Rattle.definitions.specs.declared.Verdict.the-variants.{Accepted, Refused}
+use Rattle.definitions.specs.declared.Counts.{Counts}
+use Rattle.definitions.specs.declared.PictureReply.{PictureReply}
+use Rattle.definitions.specs.declared.PictureReply.the-variants.{Counted, Refused as NotMade}
+use Rattle.definitions.specs.Tests.{upTo, forEach}
+use Rattle.definitions.specs.Geometry.{axesOf}
+use Rattle.definitions.specs.Record.{recordWords}
+use Rattle.definitions.specs.Answer.{Made}
+use Rattle.definitions.specs.Refusals.{refusal, verdictOf, geometryTests, geometryVerdict, baseCount, baseTest, outputTest, recordTests, allAddresses}
+use Rattle.definitions.specs.Calls.{Outcome, byVerdict, fullCount, madeAt, countsOf, pictureTests, pictureCall}
+use Rattle.definitions.proofs.Choices.{yes, no}
+use Rattle.definitions.proofs.Verdicts.{then-verdict, refused-first}
+use Rattle.records.specs.Checking.{addresses}
+use Rattle.records.proofs.Addresses.{addresses-all}
+use Rattle.upsample.specs.Staged.{axesPicture}
+use Rattle.upsample.proofs.Staging.{Handed, handed}
+
+module _ (g : Axes) (base words : List ℤ) where
+  abbrev made : List Made
+  made = upTo (fullCount g) (madeAt g base)
+
+  abbrev makes : Outcome PictureReply
+  makes = record { reply = Counted (countsOf made); words = forEach made (λ m. m .written) }
+
+  abbrev call : Outcome PictureReply
+  call = axesPicture g base words
+
+  by-tests : (v : Verdict) → verdictOf (baseTest g base ∷ outputTest (fullCount g) words ∷ recordTests base (allAddresses g)) ≡ v → call ≡ byVerdict v NotMade words makes
+  unfolding axesPicture
+  by-tests v e = ap (λ (u : Verdict). byVerdict u NotMade words makes) e
+
+  pub wrong-base : (length base ≡ recordWords * baseCount g → ⊥) → Handed (NotMade (refusal 5)) words call
+  wrong-base n = handed _ _ _ (by-tests _ (yes _ _ (ap not (ne-eqb _ _ n))))
+
+  module _ (base-right : length base ≡ recordWords * baseCount g) where
+    base-passed : baseTest g base .applies ≡ false
+    base-passed = ap not (eq-eqb _ _ base-right)
+
+    pub wrong-output : (length words ≡ recordWords * fullCount g → ⊥) → Handed (NotMade (refusal 6)) words call
+    wrong-output n = handed _ _ _ (by-tests _ (no _ _ base-passed ∙ yes _ _ (ap not (ne-eqb _ _ n))))
+
+    module _ (output-right : length words ≡ recordWords * fullCount g) where
+      by-records : (v : Verdict) → verdictOf (recordTests base (allAddresses g)) ≡ v → call ≡ byVerdict v NotMade words makes
+      by-records v e = by-tests v (no _ _ base-passed ∙ (no _ _ (ap not (eq-eqb _ _ output-right)) ∙ e))
+
+      pub wrong-record : (r : Refusal) → verdictOf (recordTests base (allAddresses g)) ≡ Refused r → Handed (NotMade r) words call
+      wrong-record r e = handed _ _ _ (by-records (Refused r) e)
+
+      pub all-right : verdictOf (recordTests base (allAddresses g)) ≡ Accepted → (counts : Counts) (out : List ℤ) → counts ≡ countsOf made → out ≡ forEach made (λ m. m .written) → Handed (Counted counts) out call
+      all-right e counts out c w = handed _ _ _ (by-records Accepted e ∙ (λ i. record { reply = Counted (sym c i); words = sym w i }))
+
+-- the check of records 0 .. n−1 is that of all
+pub all-checked : (g : Axes) (base : List ℤ) (n : ℕ) → n ≡ baseCount g → verdictOf (recordTests base (allAddresses g)) ≡ verdictOf (recordTests base (addresses 0 n))
+all-checked g base n e = ap (λ (l : List ℕ). verdictOf (recordTests base l)) (sym (addresses-all n ∙ ap (λ (k : ℕ). upTo k (λ a. a)) e))
+
+-- ---- refusals 1 to 4
+module _ (n : Numbers) (base words : List ℤ) where
+  pub wrong-geometry : (r : Refusal) → geometryVerdict n ≡ Refused r → Handed (NotMade r) words (pictureCall n base words)
+  unfolding pictureCall pictureTests
+  wrong-geometry r e = handed _ _ _ (ap (λ (u : Verdict). byVerdict u NotMade words (makes (axesOf n) base words)) (refused-first (geometryTests n) _ r e))
+
+  pub right-geometry : geometryVerdict n ≡ Accepted → pictureCall n base words ≡ axesPicture (axesOf n) base words
+  unfolding pictureCall pictureTests axesPicture
+  right-geometry e = ap (λ (u : Verdict). byVerdict u NotMade words (makes (axesOf n) base words)) (then-verdict (geometryTests n) _ e)

@@ -1,0 +1,57 @@
+-- `picture::upsample_picture` meets its contract. Assumes nothing.
+use Rattle.picture.proofs.Stages.{wrong-geometry, right-geometry}
+use Rattle.upsample.proofs.Within.{checked-accepted, checked-refused}
+use Rattle.upsample.specs.Staged.{AcceptedAxes, axesPicture}
+use Rattle.geometry.proofs.Verdicts.{checked-valid}
+use Rattle.definitions.specs.Calls.{Outcome}
+use Rattle.definitions.specs.declared.PictureReply.{PictureReply}
+use Rattle.definitions.specs.declared.Axes.{Axes}
+use mathlib.Core.Path.{sym, ap, subst, _∙_}
+use borrow.Author.Needs.{needs}
+use Rattle.picture.proofs.upsample_picture.Statement.{statement}
+use Rattle.picture.proofs.upsample_picture.Tie as tie
+
+new-requires : tie.Need-new-requires
+new-requires c κs = search needs
+
+enum-known-g : tie.Need-enum-known-g
+enum-known-g c = search needs
+
+axes-requires : tie.Need-axes-requires
+axes-requires c κs = search needs
+
+accepted-picture-requires : tie.Need-accepted-picture-requires
+accepted-picture-requires c κs =
+    let k = checked-valid (c .before .before .before .before .before .before .args .n) (c .before .before .before .g .given .0 .0) (sym (c .before .before .before .before .before .new .ensures) ∙ c .before .before .before .g .given .1) in
+    subst AcceptedAxes (sym (c .before .axes .ensures)) (record { horizontal = k .horizontal; vertical = k .vertical })
+
+enum-known-r : tie.Need-enum-known-r
+enum-known-r c = search needs
+
+same-length : tie.Need-same-length
+same-length c = search needs
+
+returns : tie.Need-returns
+returns c =
+    let s = c .before .before .before .before .before .before .before .before in
+    let k = checked-accepted (s .args .n) (c .before .before .before .before .before .g .given .0 .0) (sym (c .before .before .before .before .before .before .before .new .ensures) ∙ c .before .before .before .before .before .g .given .1) in
+    let e = ap (λ (g : Axes). axesPicture g (s .args .base .now) (s .args .out .now)) (c .before .before .before .axes .ensures ∙ k .1) ∙ sym (right-geometry (s .args .n) (s .args .base .now) (s .args .out .now) (k .0)) in
+    (c .before .accepted-picture .ensures .0 ∙ ap (λ (o : Outcome PictureReply). o .reply) e, c .before .accepted-picture .ensures .1 ∙ ap (λ (o : Outcome PictureReply). o .words) e)
+
+returns-2 : tie.Need-returns-2
+returns-2 c =
+    let s = c .before .before .before .before in
+    wrong-geometry (s .args .n) (s .args .base .now) (s .args .out .now) (c .before .r .given .0 .0) (checked-refused (s .args .n) (c .before .r .given .0 .0) (sym (c .before .before .before .new .ensures) ∙ c .before .r .given .1))
+
+pub upsample-picture-spec : {M : Type 1} → statement M
+upsample-picture-spec =
+    tie.close
+    (tie.spec
+    new-requires
+    enum-known-g
+    axes-requires
+    accepted-picture-requires
+    enum-known-r
+    same-length
+    returns
+    returns-2)

@@ -1,0 +1,19 @@
+-- The readings of an axis at each column (row) of a picture.
+use Prim.Native.Nat.{ℕ, _<_}
+use mathlib.Core.Path.{_≡_}
+use mathlib.Core.Bool.{false}
+use mathlib.Core.List.{List, []}
+use lib.IntN.{pos}
+use lib.ListN.{length, getD}
+use Rattle.definitions.specs.declared.Axis.{Axis}
+use Rattle.macroblock.specs.declared.AxisRead.{AxisRead}
+use Rattle.macroblock.specs.Made.{readOf}
+
+-- what stands where there is none
+abbrev pub noRead : AxisRead
+noRead = record { inside = false; step = record { k = 0; border = record { 0 = pos 0 }; border8 = record { 0 = pos 0 }; first = 0; two = false; reads = [] } }
+
+-- the first n
+pub record AxisReads (a : Axis) (n : ℕ) (reads : List AxisRead) : Type 0 where
+  pub size : length reads ≡ 256
+  pub each : (k : ℕ) → k < n → getD reads k noRead ≡ readOf a k

@@ -1,0 +1,117 @@
+-- The addresses that a macroblock's call checks, row by row, and the verdict on them. Assumes nothing.
+use Prim.Native.Nat.{ℕ, _+_, _*_, _/_, _-_, _≤_, _<_}
+use mathlib.Core.Path.{_≡_, refl, sym, ap, subst, _∙_}
+use mathlib.Core.Bool.{Bool, true, false}
+use mathlib.Core.List.{List, [], _∷_, _++_, map, append-nil, List·Memᴰ, List·Memᴰ·head, List·Memᴰ·tail, Memᴰ·append-left, Memᴰ·append-right}
+use native.Mathlib.Nat.{mul-le-mul}
+use native.Mathlib.Omega.{arith}
+use lib.IntN.{ℤ}
+use lib.ListN.{length}
+use Rattle.definitions.specs.declared.Axes.{Axes}
+use Rattle.definitions.specs.declared.AxisStep.{AxisStep}
+use Rattle.definitions.specs.declared.Refusal.{Refusal}
+use Rattle.definitions.specs.declared.Verdict.{Verdict}
+use Rattle.definitions.specs.declared.Verdict.the-variants.{Accepted, Refused}
+use Rattle.definitions.specs.Tests.{forEach}
+use Rattle.definitions.specs.Geometry.{baseSize, macroblocks, columnsRead, classOf}
+use Rattle.definitions.specs.BlockMap.{baseAddress}
+use Rattle.definitions.specs.Record.{recordWords}
+use Rattle.definitions.specs.Answer.{columnsOf, rowsOf, addressesOf}
+use Rattle.definitions.specs.Refusals.{Test, verdictOf, recordTest, recordTests}
+use Rattle.definitions.proofs.Choices.{yes, no}
+use Rattle.definitions.proofs.Map.{class-columns, class-rows}
+use Rattle.definitions.proofs.Verdicts.{then-verdict, refused-first}
+use Rattle.records.specs.Checking.{addresses}
+use Rattle.records.proofs.Addresses.{addresses-more, addresses-end, addresses-one}
+use Rattle.macroblock.specs.Made.{namedBy}
+use Rattle.upsample.specs.Staged.{rowAddresses, InBase}
+
+-- a row's product is far below what 64 bits hold
+pub row-small : (row b : ℕ) → row ≤ 4294967295 → b ≤ 4096 → row * (b / 16) ≤ 4294967295 * 256
+row-small row b h k = let w : b / 16 ≤ 256 = omega arith in mul-le-mul h w
+
+-- ---- one row
+module _ (g : Axes) (first row : ℕ) where
+  abbrev pub start : ℕ
+  start = baseAddress g first row
+
+  pub row-one : {two : Bool} → two ≡ false → rowAddresses g first two row ≡ addresses start (start + 1)
+  unfolding columnsRead
+  row-one e = ap (map (λ c. baseAddress g c row)) (no (first ∷ (first + 1) ∷ []) (first ∷ []) e) ∙ sym (addresses-one start)
+
+  two-list : addresses start (start + 2) ≡ start ∷ (start + 1) ∷ []
+  two-list =
+      addresses-more start (start + 2) (omega arith)
+      ∙ ap (λ (l : List ℕ). start ∷ l)
+      (addresses-more (start + 1) (start + 2) (omega arith) ∙ ap (λ (l : List ℕ). (start + 1) ∷ l) (addresses-end (start + 1 + 1) (start + 2) (omega arith)))
+
+  pub row-two : {two : Bool} → two ≡ true → rowAddresses g first two row ≡ addresses start (start + 2)
+  unfolding columnsRead
+  row-two e =
+      let next : baseAddress g (first + 1) row ≡ start + 1 = omega arith in
+      ap (map (λ c. baseAddress g c row)) (yes (first ∷ (first + 1) ∷ []) (first ∷ []) e) ∙ (ap (λ (n : ℕ). start ∷ n ∷ []) next ∙ sym two-list)
+
+  module _ (base : List ℤ) where
+    pub one-in : {two : Bool} → two ≡ false → InBase base (rowAddresses g first two row) → ((start + 1) * recordWords ≤ length base) × (start < 65536)
+    one-in e h = subst (InBase base) (row-one e ∙ addresses-one start) h start (List·Memᴰ·head refl)
+
+    pub two-in : {two : Bool} → two ≡ true → InBase base (rowAddresses g first two row) → ((start + 2) * recordWords ≤ length base) × (start + 1 < 65536)
+    two-in e h =
+        let k = subst (InBase base) (row-two e ∙ two-list) h (start + 1) (List·Memᴰ·tail (List·Memᴰ·head refl)) in
+        let n : start + 1 + 1 ≡ start + 2 = omega arith in
+        (subst (λ (m : ℕ). m * recordWords ≤ length base) n (k .0), k .1)
+
+-- ---- one row or two
+tests-join : (base : List ℤ) (xs ys : List ℕ) → recordTests base (xs ++ ys) ≡ recordTests base xs ++ recordTests base ys
+unfolding recordTests
+tests-join base [] ys = refl
+tests-join base (x ∷ xs) ys = ap (λ (l : List Test). recordTest base x ∷ l) (tests-join base xs ys)
+
+module _ (g : Axes) (h v : AxisStep) where
+  abbrev rowOf : ℕ → List ℕ
+  rowOf row = rowAddresses g (h .first) (h .two) row
+
+  by-rows : addressesOf g (namedBy h v) ≡ forEach (columnsRead (v .first) (v .two)) rowOf
+  unfolding addressesOf
+  by-rows =
+      let c = class-columns (h .two) (v .two) in
+      let r = class-rows (h .two) (v .two) in
+      λ i. forEach (columnsRead (v .first) (r i)) (λ row. map (λ column. baseAddress g column row) (columnsRead (h .first) (c i)))
+
+  pub named-one : v .two ≡ false → addressesOf g (namedBy h v) ≡ rowOf (v .first)
+  unfolding columnsRead
+  named-one e = by-rows ∙ (ap (λ (l : List ℕ). forEach l rowOf) (no ((v .first) ∷ (v .first + 1) ∷ []) ((v .first) ∷ []) e) ∙ append-nil (rowOf (v .first)))
+
+  pub named-two : v .two ≡ true → addressesOf g (namedBy h v) ≡ rowOf (v .first) ++ rowOf (v .first + 1)
+  unfolding columnsRead
+  named-two e =
+      by-rows ∙ (ap (λ (l : List ℕ). forEach l rowOf) (yes ((v .first) ∷ (v .first + 1) ∷ []) ((v .first) ∷ []) e)
+      ∙ ap (λ (l : List ℕ). rowOf (v .first) ++ l) (append-nil (rowOf (v .first + 1))))
+
+  module _ (base : List ℤ) where
+    abbrev verdictAt : ℕ → Verdict
+    verdictAt row = verdictOf (recordTests base (rowOf row))
+
+    abbrev verdict : Verdict
+    verdict = verdictOf (recordTests base (addressesOf g (namedBy h v)))
+
+    pub one-row : v .two ≡ false → verdictAt (v .first) ≡ verdict
+    one-row e = ap (λ (l : List ℕ). verdictOf (recordTests base l)) (sym (named-one e))
+
+    split-rows : v .two ≡ true → verdict ≡ verdictOf (recordTests base (rowOf (v .first)) ++ recordTests base (rowOf (v .first + 1)))
+    split-rows e = ap (λ (l : List ℕ). verdictOf (recordTests base l)) (named-two e) ∙ ap verdictOf (tests-join base (rowOf (v .first)) (rowOf (v .first + 1)))
+
+    pub second-row : v .two ≡ true → verdictAt (v .first) ≡ Accepted → verdictAt (v .first + 1) ≡ verdict
+    second-row e p = sym (split-rows e ∙ then-verdict (recordTests base (rowOf (v .first))) _ p)
+
+    pub first-row : v .two ≡ true → (r : Refusal) → verdictAt (v .first) ≡ Refused r → Refused r ≡ verdict
+    first-row e r p = sym (split-rows e ∙ refused-first (recordTests base (rowOf (v .first))) _ r p)
+
+    pub one-below : v .two ≡ false → InBase base (addressesOf g (namedBy h v)) → InBase base (rowOf (v .first))
+    one-below e n = subst (InBase base) (named-one e) n
+
+    pub first-below : v .two ≡ true → InBase base (addressesOf g (namedBy h v)) → InBase base (rowOf (v .first))
+    first-below e n a m = n a (subst (List·Memᴰ a) (sym (named-two e)) (Memᴰ·append-left (rowOf (v .first + 1)) m))
+
+    pub second-below : v .two ≡ true → InBase base (addressesOf g (namedBy h v)) → InBase base (rowOf (v .first + 1))
+    second-below e n a m = n a (subst (List·Memᴰ a) (sym (named-two e)) (Memᴰ·append-right (rowOf (v .first)) m))

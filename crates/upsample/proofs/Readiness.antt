@@ -1,0 +1,94 @@
+-- A macroblock inside an accepted geometry: the records that it names lie in the base, and where those are well formed it can be made. Assumes nothing.
+use Prim.Native.Nat.{ℕ, _+_, _*_, _≤_, _<_}
+use mathlib.Core.Path.{_≡_, refl, sym, ap, subst, _∙_}
+use mathlib.Core.Bool.{Bool, true, false, _&&_}
+use mathlib.Core.List.{List, [], List·Memᴰ}
+use native.Mathlib.Nat.{mul-le-mul-right}
+use native.Mathlib.Omega.{arith}
+use lib.IntN.{ℤ}
+use lib.ListN.{length}
+use Rattle.definitions.specs.declared.Axes.{Axes}
+use Rattle.definitions.specs.declared.AxisStep.{AxisStep}
+use Rattle.definitions.specs.declared.Verdict.the-variants.{Accepted}
+use Rattle.definitions.specs.Accepted.{Inside}
+use Rattle.definitions.specs.Geometry.{baseSize, scaledSize, cOf, insideAxis, inside, sampleOf, macroblocks}
+use Rattle.definitions.specs.BlockMap.{stepOf, addressRead}
+use Rattle.definitions.specs.Record.{recordWords, recordAt, wellFormed}
+use Rattle.definitions.specs.Answer.{namedAt, addressesOf}
+use Rattle.definitions.specs.Refusals.{verdictOf, baseCount, recordTests, addressesRead}
+use Rattle.definitions.proofs.Choices.{yes, no, and-true}
+use Rattle.definitions.proofs.Accepted.{inside-axis}
+use Rattle.definitions.proofs.Addresses.{address-named, address-below}
+use Rattle.definitions.proofs.Map.{f-below}
+use Rattle.definitions.proofs.RecordLists.{all-formed}
+use Rattle.macroblock.specs.declared.AxisRead.{AxisRead}
+use Rattle.macroblock.specs.Made.{namedBy, readOf, Ready}
+use Rattle.upsample.specs.Staged.{AcceptedAxes, InBase, Placed}
+use Rattle.upsample.proofs.Sizes.{base-small}
+
+module _ (g : Axes) (base : List ℤ) (placed : Placed g base) (column row : ℕ) where
+  abbrev hor : AxisStep
+  hor = stepOf (g .horizontal) (sampleOf column)
+
+  abbrev ver : AxisStep
+  ver = stepOf (g .vertical) (sampleOf row)
+
+  -- an address of the base
+  in-base : (a : ℕ) → a < baseCount g → ((a + 1) * recordWords ≤ length base) × (a < 65536)
+  in-base a h = (omega (arith, placed .base-length, mul-le-mul-right recordWords h), omega (arith, base-small g (placed .axes)))
+
+  module _ (e : inside g column row ≡ true) where
+    across-in : Inside (baseSize (g .horizontal)) (scaledSize (g .horizontal)) (cOf (g .horizontal) (sampleOf column))
+    across-in = inside-axis (g .horizontal) (sampleOf column) (placed .axes .horizontal) (and-true (insideAxis (g .horizontal) (sampleOf column)) (insideAxis (g .vertical) (sampleOf row)) e .0)
+
+    down-in : Inside (baseSize (g .vertical)) (scaledSize (g .vertical)) (cOf (g .vertical) (sampleOf row))
+    down-in = inside-axis (g .vertical) (sampleOf row) (placed .axes .vertical) (and-true (insideAxis (g .horizontal) (sampleOf column)) (insideAxis (g .vertical) (sampleOf row)) e .1)
+
+    named-in : InBase base (addressesOf g (namedAt g column row))
+    named-in a m = in-base a (address-below g column row across-in down-in m)
+
+    first-low : ver .first < 65536
+    unfolding stepOf
+    first-low =
+        let b = placed .axes .vertical .sized .base-high in
+        omega (arith, f-below (baseSize (g .vertical)) (scaledSize (g .vertical)) (cOf (g .vertical) (sampleOf row)) down-in)
+
+    ready : ((a : ℕ) → List·Memᴰ a (addressesOf g (namedAt g column row)) → wellFormed (recordAt base a) ≡ true) → Ready g hor ver base
+    unfolding addressRead
+    ready formed =
+        let named : (i : ℕ) → i < 16 → List·Memᴰ (addressRead g column row i) (addressesOf g (namedAt g column row)) = address-named g column row across-in down-in in
+        record {
+          horizontal = placed .axes .horizontal;
+          vertical = placed .axes .vertical;
+          readable = record {
+            low = λ i h. named-in _ (named i h) .1;
+            fits = λ i h. named-in _ (named i h) .0;
+            formed = λ i h. formed _ (named i h);
+          };
+        }
+
+  -- what is known of the axes' readings at a macroblock
+  pub record Known (h v : AxisRead) : Type 0 where
+    pub within : (h .inside && v .inside) ≡ true → inside g column row ≡ true
+    pub first-row : (h .inside && v .inside) ≡ true → v .step .first < 65536
+    pub named-below : (h .inside && v .inside) ≡ true → InBase base (addressesOf g (namedBy (h .step) (v .step)))
+    pub named : (h .inside && v .inside) ≡ true → addressesRead g column row ≡ addressesOf g (namedBy (h .step) (v .step))
+    pub unnamed : (h .inside && v .inside) ≡ false → addressesRead g column row ≡ []
+    pub made-ready : (h .inside && v .inside) ≡ true → ((a : ℕ) → List·Memᴰ a (addressesRead g column row) → wellFormed (recordAt base a) ≡ true) → Ready g (h .step) (v .step) base
+
+  known : Known (readOf (g .horizontal) column) (readOf (g .vertical) row)
+  unfolding readOf addressesRead namedAt
+  known =
+      let x : (e : inside g column row ≡ true) → readOf (g .horizontal) column .step ≡ hor = λ e. yes _ _ (and-true (insideAxis (g .horizontal) (sampleOf column)) (insideAxis (g .vertical) (sampleOf row)) e .0) in
+      let y : (e : inside g column row ≡ true) → readOf (g .vertical) row .step ≡ ver = λ e. yes _ _ (and-true (insideAxis (g .horizontal) (sampleOf column)) (insideAxis (g .vertical) (sampleOf row)) e .1) in
+      record {
+        within = λ e. e;
+        first-row = λ e. subst (λ (s : AxisStep). s .first < 65536) (sym (y e)) (first-low e);
+        named-below = λ e. subst (λ (s : AxisStep). InBase base (addressesOf g (namedBy s (readOf (g .vertical) row .step)))) (sym (x e)) (subst (λ (s : AxisStep). InBase base (addressesOf g (namedBy hor s))) (sym (y e)) (named-in e));
+        named = λ e. yes _ _ e ∙ (λ i. addressesOf g (namedBy (sym (x e) i) (sym (y e) i)));
+        unnamed = λ e. no _ _ e;
+        made-ready = λ e f. subst (λ (s : AxisStep). Ready g s (readOf (g .vertical) row .step) base) (sym (x e)) (subst (λ (s : AxisStep). Ready g hor s base) (sym (y e)) (ready e (λ a m. f a (subst (List·Memᴰ a) (sym (yes _ _ e)) m))));
+      }
+
+  pub known-of : (h v : AxisRead) → h ≡ readOf (g .horizontal) column → v ≡ readOf (g .vertical) row → Known h v
+  known-of h v p q = subst (λ (x : AxisRead). Known x v) (sym p) (subst (λ (y : AxisRead). Known (readOf (g .horizontal) column) y) (sym q) known)

@@ -1,0 +1,95 @@
+-- `upsample::placed_macroblock` meets its contract. Assumes nothing.
+use Rattle.upsample.proofs.Staging.{none-read, placed-refused, placed-answered}
+use Rattle.upsample.proofs.Readiness.{Known, known-of}
+use Rattle.definitions.proofs.RecordLists.{all-formed}
+use Rattle.definitions.specs.Refusals.{verdictOf, recordTests, addressesRead}
+use mathlib.Core.Bool.{true≢false}
+use Prim.Native.Nat.{ℕ}
+use mathlib.Core.List.{List}
+use mathlib.Core.Path.{_≡_, sym, ap, _∙_}
+use borrow.Author.Needs.{needs}
+use Rattle.upsample.proofs.placed_macroblock.Statement.{statement}
+use Rattle.upsample.proofs.placed_macroblock.Tie as tie
+
+axis-read-requires : tie.Need-axis-read-requires
+axis-read-requires c κs = search needs
+
+axis-read-requires-2 : tie.Need-axis-read-requires-2
+axis-read-requires-2 c κs = search needs
+
+-- what is known of the two axes' readings
+known : (a : tie.After-axis-read2) → Known (a .before .before .args .g) (a .before .before .args .base .now) (a .before .before .pre .0) (a .before .before .args .column) (a .before .before .args .row) (a .before .axis-read .result) (a .axis-read2 .result)
+known a =
+    let s = a .before .before in
+    known-of (s .args .g) (s .args .base .now) (s .pre .0) (s .args .column) (s .args .row) (a .before .axis-read .result) (a .axis-read2 .result) (a .before .axis-read .ensures) (a .axis-read2 .ensures)
+
+-- the verdict on the records that are read
+checked-is : (r : tie.After-check-read) → verdictOf (recordTests (r .before .before .before .before .before .before .before .before .args .base .now) (addressesRead (r .before .before .before .before .before .before .before .before .args .g) (r .before .before .before .before .before .before .before .before .args .column) (r .before .before .before .before .before .before .before .before .args .row))) ≡ r .check-read .result
+checked-is r =
+    let s = r .before .before .before .before .before .before .before .before in
+    ap (λ (l : List ℕ). verdictOf (recordTests (s .args .base .now) l)) (known (r .before .before .before .before .before .before) .named (r .before .before .before .if1 .taken)) ∙ sym (r .check-read .ensures)
+
+check-read-requires : tie.Need-check-read-requires
+check-read-requires c κs =
+    let s = c .before .before .before .before .before .before .before in
+    let t = c .before .before .if1 .taken in
+    let k = known (c .before .before .before .before .before) in
+    (s .pre .0 .axes .horizontal .sized .base-high, k .first-row t, k .named-below t)
+
+enum-told : tie.Need-enum-told
+enum-told c = search needs
+
+place-requires : tie.Need-place-requires
+place-requires c κs =
+    let s = c .before .before .before .before .before .before .before .before .before .before .before in
+    let k = known (c .before .before .before .before .before .before .before .before .before) in
+    let e = checked-is (c .before .before .before) ∙ c .before .enum-told .given .1 in
+    (λ t. k .made-ready t (all-formed (s .args .base .now) (addressesRead (s .args .g) (s .args .column) (s .args .row)) e), s .pre .1)
+
+enum-known-r : tie.Need-enum-known-r
+enum-known-r c = search needs
+
+same-length : tie.Need-same-length
+same-length c = search needs
+
+returns : tie.Need-returns
+returns c =
+    let a = c .before .before .before .before .before .before .before .before .before .before .before in
+    let s = a .before .before in
+    let e = checked-is (c .before .before .before .before .before) ∙ c .before .before .before .enum-told .given .1 in
+    placed-answered (s .args .g) (s .args .base .now) (s .args .column) (s .args .row) (s .args .out .now) e (a .before .axis-read .result) (a .axis-read2 .result) (a .before .axis-read .ensures) (a .axis-read2 .ensures) _ _ (c .before .place .ensures .0) (c .before .place .ensures .1)
+
+returns-2 : tie.Need-returns-2
+returns-2 c =
+    let s = c .before .before .before .before .before .before .before .before .before .before .before in
+    placed-refused (s .args .g) (s .args .base .now) (s .args .column) (s .args .row) (s .args .out .now) (c .before .r .given .0 .0) (checked-is (c .before .before .before) ∙ c .before .r .given .1)
+
+place-requires-2 : tie.Need-place-requires-2
+place-requires-2 c κs = (λ t. absurd (true≢false (sym t ∙ c .before .if1 .left)), c .before .before .before .before .before .before .pre .1)
+
+same-length-2 : tie.Need-same-length-2
+same-length-2 c = search needs
+
+returns-3 : tie.Need-returns-3
+returns-3 c =
+    let a = c .before .before .before .before .before .before in
+    let s = a .before .before in
+    let e = ap (λ (l : List ℕ). verdictOf (recordTests (s .args .base .now) l)) (known a .unnamed (c .before .before .before .if1 .left)) in
+    placed-answered (s .args .g) (s .args .base .now) (s .args .column) (s .args .row) (s .args .out .now) (none-read (s .args .base .now) e) (a .before .axis-read .result) (a .axis-read2 .result) (a .before .axis-read .ensures) (a .axis-read2 .ensures) _ _ (c .before .place2 .ensures .0) (c .before .place2 .ensures .1)
+
+pub placed-macroblock-spec : {M : Type 1} → statement M
+placed-macroblock-spec =
+    tie.close
+    (tie.spec
+    axis-read-requires
+    axis-read-requires-2
+    check-read-requires
+    enum-told
+    place-requires
+    enum-known-r
+    same-length
+    returns
+    returns-2
+    place-requires-2
+    same-length-2
+    returns-3)

@@ -1,0 +1,67 @@
+-- The calls of document 01 in the stages of the code: after the geometry is accepted, and after lengths and place are.
+use Prim.Native.Nat.{ℕ, _+_, _*_, _≤_, _<_}
+use mathlib.Core.Path.{_≡_}
+use mathlib.Core.Bool.{Bool, true}
+use mathlib.Core.List.{List, [], _∷_, map, List·Memᴰ}
+use lib.IntN.{ℤ, natAbs}
+use lib.ListN.{length}
+use Rattle.definitions.specs.declared.Axes.{Axes}
+use Rattle.definitions.specs.declared.Verdict.{Verdict}
+use Rattle.definitions.specs.declared.MacroblockReply.{MacroblockReply}
+use Rattle.definitions.specs.declared.MacroblockReply.the-variants.{Answered, Refused as Declined}
+use Rattle.definitions.specs.declared.PictureReply.{PictureReply}
+use Rattle.definitions.specs.declared.PictureReply.the-variants.{Counted, Refused as NotMade}
+use Rattle.definitions.specs.Tests.{upTo, forEach}
+use Rattle.definitions.specs.Accepted.{AcceptedAxis}
+use Rattle.definitions.specs.Geometry.{columnsRead}
+use Rattle.definitions.specs.BlockMap.{baseAddress}
+use Rattle.definitions.specs.Record.{recordWords, recordAt, wellFormed}
+use Rattle.definitions.specs.Answer.{Made, madeOf}
+use Rattle.definitions.specs.Refusals.{Test, verdictOf, baseCount, baseTest, outputTest, placeTest, recordTests, addressesRead, allAddresses}
+use Rattle.definitions.specs.Calls.{Outcome, byVerdict, fullCount, madeAt, countsOf}
+
+-- both axes of an accepted geometry
+pub record AcceptedAxes (g : Axes) : Type 0 where
+  pub horizontal : AcceptedAxis (g .horizontal)
+  pub vertical : AcceptedAxis (g .vertical)
+
+-- one macroblock, once its geometry is accepted: refusals 5 to 8
+unfoldable pub axesTests : Axes → List ℤ → ℤ → ℤ → List ℤ → List Test
+axesTests g base column row words =
+    baseTest g base ∷ outputTest 1 words ∷ placeTest g column row ∷ recordTests base (addressesRead g (natAbs column) (natAbs row))
+
+unfoldable pub axesCall : Axes → List ℤ → ℤ → ℤ → List ℤ → Outcome MacroblockReply
+axesCall g base column row words =
+    let made = madeOf g base (natAbs column) (natAbs row) in
+    byVerdict (verdictOf (axesTests g base column row words)) Declined words (record { reply = Answered (made .answer); words = made .written })
+
+-- and once the lengths and its place are: refusal 8
+unfoldable pub placedCall : Axes → List ℤ → ℕ → ℕ → List ℤ → Outcome MacroblockReply
+placedCall g base column row words =
+    let made = madeOf g base column row in
+    byVerdict (verdictOf (recordTests base (addressesRead g column row))) Declined words (record { reply = Answered (made .answer); words = made .written })
+
+-- the picture, once its geometry is accepted: refusals 5, 6 and 8
+unfoldable pub axesPicture : Axes → List ℤ → List ℤ → Outcome PictureReply
+axesPicture g base words =
+    let made = upTo (fullCount g) (madeAt g base) in
+    byVerdict (verdictOf (baseTest g base ∷ outputTest (fullCount g) words ∷ recordTests base (allAddresses g))) NotMade words
+    (record { reply = Counted (countsOf made); words = forEach made (λ m. m .written) })
+
+-- the base macroblocks of one row that are read
+abbrev pub rowAddresses : Axes → ℕ → Bool → ℕ → List ℕ
+rowAddresses g first two row = map (λ column. baseAddress g column row) (columnsRead first two)
+
+-- addresses that lie in the base
+abbrev pub InBase : List ℤ → List ℕ → Type 0
+InBase base addresses = (a : ℕ) → List·Memᴰ a addresses → ((a + 1) * recordWords ≤ length base) × (a < 65536)
+
+-- an accepted geometry, and a base of the right length
+pub record Placed (g : Axes) (base : List ℤ) : Type 0 where
+  pub axes : AcceptedAxes g
+  pub base-length : length base ≡ recordWords * baseCount g
+
+-- and every record of it well formed
+pub record Formed (g : Axes) (base : List ℤ) : Type 0 where
+  pub placed : Placed g base
+  pub formed : (a : ℕ) → a < baseCount g → wellFormed (recordAt base a) ≡ true

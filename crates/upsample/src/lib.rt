@@ -1,0 +1,150 @@
+// The upsampler: the calls of document 01 on records, one macroblock and the whole picture.
+ghost use Prim.Native.Nat.{_*_, _<_, _≤_};
+ghost use Rattle.definitions.specs.Accepted.{AcceptedAxis};
+ghost use Rattle.definitions.specs.Answer.{addressesOf};
+ghost use Rattle.definitions.specs.Calls.{fullCount, macroblockCall};
+ghost use Rattle.definitions.specs.Geometry.{baseSize};
+ghost use Rattle.definitions.specs.Record.{recordWords};
+ghost use Rattle.definitions.specs.Refusals.{addressesRead, baseCount, recordTests, refusal, verdictOf, withinAxis};
+ghost use Rattle.macroblock.specs.Made.{namedBy, readOf};
+ghost use Rattle.upsample.specs.Staged.{AcceptedAxes, InBase, Placed, axesCall, placedCall, rowAddresses};
+ghost use lib.ListN.{length};
+ghost use mathlib.Core.Path.{_≡_};
+use definitions::Axes;
+use definitions::AxisStep;
+use definitions::EnhancementSample;
+use definitions::MacroblockReply;
+use definitions::Numbers;
+use definitions::Refusal;
+use definitions::Verdict;
+use geometry::Checked;
+use geometry::Geometry;
+use macroblock::axis_read;
+use macroblock::place;
+use records::check;
+
+const RECORD_WORDS: usize = 77;
+
+pub fn refused(number: u32) -> Refusal
+    ensures { λ r. ⌜ r ≡ refusal number ⌝ }
+{
+    Refusal {
+        number,
+        place: 0,
+        rule: 0,
+    }
+}
+
+pub fn base_count(g: Axes) -> usize
+    requires { ⌜ AcceptedAxes g ⌝ }
+    ensures { λ r. ⌜ (r ≡ baseCount g) × (r ≤ 65536) ⌝ }
+{
+    (g.horizontal.base.0 / 16) as usize * (g.vertical.base.0 / 16) as usize
+}
+
+// Column or row x is one of the picture's.
+fn is_within(size: EnhancementSample, x: i32) -> bool
+    requires { ⌜ size .0 ≤ 4096 ⌝ }
+    ensures { λ r. ⌜ r ≡ withinAxis (size .0) x ⌝ }
+{
+    (0 <= x) & (x < (size.0 / 16) as i32)
+}
+
+// ---- The records that a macroblock reads
+// One row of them: one column, or two next to each other.
+fn check_row(g: Axes, base: &[i16], first: u32, two: bool, row: u32) -> Verdict
+    requires { ⌜ (baseSize (g .horizontal) ≤ 4096) × InBase (now base) (rowAddresses g first two row) ⌝ }
+    ensures { λ r. ⌜ r ≡ verdictOf (recordTests (now (base .entry)) (rowAddresses g first two row)) ⌝ }
+{
+    let width = (g.horizontal.base.0 / 16) as usize;
+    let a = row as usize * width + first as usize;
+    if two {
+        return check(base, a, a + 2);
+    }
+    check(base, a, a + 1)
+}
+
+fn check_read(g: Axes, base: &[i16], h: AxisStep, v: AxisStep) -> Verdict
+    requires { ⌜ (baseSize (g .horizontal) ≤ 4096) × (v .first < 65536) × InBase (now base) (addressesOf g (namedBy h v)) ⌝ }
+    ensures { λ r. ⌜ r ≡ verdictOf (recordTests (now (base .entry)) (addressesOf g (namedBy h v))) ⌝ }
+{
+    let column = h.first;
+    let row = v.first;
+    let columns = h.two;
+    if v.two {
+        return match check_row(g, base, column, columns, row) {
+            Verdict::Accepted => check_row(g, base, column, columns, row + 1),
+            Verdict::Refused(r) => Verdict::Refused(r),
+        };
+    }
+    check_row(g, base, column, columns, row)
+}
+
+// ---- One macroblock
+// Lengths and place are right: refusal 8, or the answer.
+fn placed_macroblock(
+    g: Axes,
+    base: &[i16],
+    column: u32,
+    row: u32,
+    out: &mut [i16],
+) -> MacroblockReply
+    requires { ⌜ Placed g (now base) × (length (now out) ≡ recordWords) × (column < 256) × (row < 256) ⌝ }
+    ensures reply { λ r. ⌜ r ≡ placedCall g (now (base .entry)) column row (now (out .entry)) .reply ⌝ }
+    ensures words { λ r. ⌜ now (out .exit) ≡ placedCall g (now (base .entry)) column row (now (out .entry)) .words ⌝ }
+{
+    let h = axis_read(g.horizontal, column);
+    let v = axis_read(g.vertical, row);
+    if h.inside & v.inside {
+        let across = h.step;
+        let down = v.step;
+        return match check_read(g, base, across, down) {
+            Verdict::Accepted => MacroblockReply::Answered(place(g, base, h, v, out)),
+            Verdict::Refused(r) => MacroblockReply::Refused(r),
+        };
+    }
+    MacroblockReply::Answered(place(g, base, h, v, out))
+}
+
+// The geometry is accepted: refusals 5 to 8, or the answer.
+fn accepted_macroblock(
+    g: Axes,
+    base: &[i16],
+    column: i32,
+    row: i32,
+    out: &mut [i16],
+) -> MacroblockReply
+    requires { ⌜ AcceptedAxes g ⌝ }
+    ensures reply { λ r. ⌜ r ≡ axesCall g (now (base .entry)) column row (now (out .entry)) .reply ⌝ }
+    ensures words { λ r. ⌜ now (out .exit) ≡ axesCall g (now (base .entry)) column row (now (out .entry)) .words ⌝ }
+{
+    if base.len() != RECORD_WORDS * base_count(g) {
+        return MacroblockReply::Refused(refused(5));
+    }
+    if out.len() != RECORD_WORDS {
+        return MacroblockReply::Refused(refused(6));
+    }
+    let width = g.horizontal.full;
+    let height = g.vertical.full;
+    if is_within(width, column) & is_within(height, row) {
+        return placed_macroblock(g, base, column as u32, row as u32, out);
+    }
+    MacroblockReply::Refused(refused(7))
+}
+
+// The one-macroblock call: geometry, base, column, row, and 77 words to write.
+pub fn upsample_macroblock(
+    n: Numbers,
+    base: &[i16],
+    column: i32,
+    row: i32,
+    out: &mut [i16],
+) -> MacroblockReply
+    ensures reply { λ r. ⌜ r ≡ macroblockCall n (now (base .entry)) column row (now (out .entry)) .reply ⌝ }
+    ensures words { λ r. ⌜ now (out .exit) ≡ macroblockCall n (now (base .entry)) column row (now (out .entry)) .words ⌝ }
+{
+    match Geometry::new(n) {
+        Checked::Geometry(g) => accepted_macroblock(g.axes(), base, column, row, out),
+        Checked::Refused(r) => MacroblockReply::Refused(r),
+    }
+}
