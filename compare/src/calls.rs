@@ -1,0 +1,349 @@
+//! Each call made in both implementations, and the answers compared.
+
+use crate::coverage::{map_row, Counts, Coverage, Inside};
+use crate::lent::Lent;
+use compare::generate::Eight;
+use second::geometry::Geometry;
+use second::map::{reading, Reading};
+use second::record::broken_rule;
+use second::{Numbers, WORDS};
+use spiewomir::numbers;
+
+/// What the words to write hold before a call, different for the two
+/// implementations: a word that neither writes is a difference too.
+const FILL: i16 = 0x6b31;
+const FILL_SECOND: i16 = 0x5d17;
+
+/// Differences that are printed in full.
+const SHOWN: u64 = 20;
+
+pub struct Calls {
+    pub coverage: Coverage,
+    /// What is being tried, for messages.
+    pub at: String,
+    pub pictures: u64,
+    pub singles: u64,
+    pub words: u64,
+    pub differences: u64,
+}
+
+fn library(eight: &Eight) -> spiewomir::Geometry {
+    let [base_width, base_height, scaled_width, scaled_height, offset_x, offset_y, full_width, full_height] =
+        *eight;
+    spiewomir::Geometry {
+        base_width,
+        base_height,
+        scaled_width,
+        scaled_height,
+        offset_x,
+        offset_y,
+        full_width,
+        full_height,
+    }
+}
+
+/// The interface's numbers for what the second implementation answers.
+fn macroblock_numbers(result: Result<second::Answer, second::Refusal>) -> numbers::Macroblock {
+    match result {
+        Err(refusal) => numbers::Macroblock {
+            refusal: refusal.number,
+            place: refusal.place,
+            rule: refusal.rule,
+            ..numbers::Macroblock::default()
+        },
+        Ok(answer) => {
+            let subs = match answer.kind {
+                second::Kind::Inherited(split) => split.sub_numbers(),
+                _ => [0; 4],
+            };
+            numbers::Macroblock {
+                kind: answer.type_number() as u32,
+                sub0: subs[0] as u32,
+                sub1: subs[1] as u32,
+                sub2: subs[2] as u32,
+                sub3: subs[3] as u32,
+                class: match answer.class {
+                    second::Class::Corner => 0,
+                    second::Class::Vert => 1,
+                    second::Class::Hori => 2,
+                    second::Class::Center => 3,
+                },
+                column: answer.first_column as u32,
+                row: answer.first_row as u32,
+                ..numbers::Macroblock::default()
+            }
+        }
+    }
+}
+
+fn picture_numbers(result: Result<second::Counts, second::Refusal>) -> numbers::Picture {
+    match result {
+        Err(refusal) => numbers::Picture {
+            refusal: refusal.number,
+            place: refusal.place,
+            rule: refusal.rule,
+            ..numbers::Picture::default()
+        },
+        Ok(counts) => numbers::Picture {
+            inherited: counts.inherited,
+            intra: counts.intra,
+            outside: counts.outside,
+            ..numbers::Picture::default()
+        },
+    }
+}
+
+/// Blocks that read intra macroblocks.
+fn intra_blocks(base: &[i16], base_columns: usize, x: &Reading, y: &Reading) -> usize {
+    let mut count = 0;
+    for row in 0..4 {
+        for column in 0..4 {
+            let base_row = y.first + y.step[row] as usize;
+            let base_column = x.first + x.step[column] as usize;
+            count += (base[(base_row * base_columns + base_column) * WORDS] == 0) as usize;
+        }
+    }
+    count
+}
+
+/// Along one axis, for each macroblock inside: what it reads and the map's row.
+fn readings(axis: &second::geometry::Axis) -> Vec<Option<(Reading, usize)>> {
+    let one = |at: usize| reading(axis, at).map(|reading| (reading, map_row(axis, 16 * at as i32)));
+    (0..axis.full_count()).map(one).collect()
+}
+
+/// Counts what an answered macroblock had.
+fn count(
+    counts: &mut Counts,
+    base: &[i16],
+    base_columns: usize,
+    x: &Option<(Reading, usize)>,
+    y: &Option<(Reading, usize)>,
+    words: &[i16],
+) {
+    match (x, y) {
+        (Some((x, x_row)), Some((y, y_row))) => counts.inside(Inside {
+            map_rows: [*x_row, *y_row],
+            class: x.two as usize + 2 * y.two as usize,
+            intra_blocks: intra_blocks(base, base_columns, x, y),
+            words,
+        }),
+        _ => counts.outside(),
+    }
+}
+
+/// The wrapper's answer says the same as the second implementation's.
+fn same_answer(library: &spiewomir::Answer, second: &second::Answer) -> bool {
+    let kind = match (library.kind, second.kind) {
+        (spiewomir::Kind::Intra, second::Kind::Intra) => true,
+        (spiewomir::Kind::Outside, second::Kind::Outside) => true,
+        (spiewomir::Kind::Inherited(library), second::Kind::Inherited(second)) => {
+            same_split(library, second)
+        }
+        _ => false,
+    };
+    let class = matches!(
+        (library.class, second.class),
+        (spiewomir::Class::Corner, second::Class::Corner)
+            | (spiewomir::Class::Vert, second::Class::Vert)
+            | (spiewomir::Class::Hori, second::Class::Hori)
+            | (spiewomir::Class::Center, second::Class::Center)
+    );
+    kind && class
+        && (library.column, library.row) == (second.first_column as u32, second.first_row as u32)
+}
+
+fn same_split(library: spiewomir::Split, second: second::Split) -> bool {
+    use spiewomir::SubSplit::*;
+    let number = |sub| match sub {
+        S8x8 => 0,
+        S8x4 => 1,
+        S4x8 => 2,
+        S4x4 => 3,
+    };
+    match (library, second) {
+        (spiewomir::Split::S16x16, second::Split::S16x16) => true,
+        (spiewomir::Split::S16x8, second::Split::S16x8) => true,
+        (spiewomir::Split::S8x16, second::Split::S8x16) => true,
+        (spiewomir::Split::S8x8(library), second::Split::S8x8(second)) => {
+            library.map(number) == second.map(|sub| sub.number())
+        }
+        _ => false,
+    }
+}
+
+fn answered(refusal: u32, words: &Lent) -> Result<Vec<i16>, u32> {
+    match refusal {
+        0 => Ok(words.words().to_vec()),
+        number => Err(number),
+    }
+}
+
+impl Calls {
+    pub fn new() -> Calls {
+        Calls {
+            coverage: Coverage::new(),
+            at: String::new(),
+            pictures: 0,
+            singles: 0,
+            words: 0,
+            differences: 0,
+        }
+    }
+
+    pub fn differs(&mut self, what: impl FnOnce() -> String) {
+        self.differences += 1;
+        if self.differences <= SHOWN {
+            println!("DIFFERENCE, {}: {}", self.at, what());
+        }
+    }
+
+    /// What both calls must have left of the words lent to them, and the words
+    /// that they wrote.
+    fn words_agree(
+        &mut self,
+        call: impl Fn() -> String,
+        refused: bool,
+        base: &Lent,
+        ours: &Lent,
+        theirs: &[i16],
+    ) {
+        if !base.untouched() {
+            self.differs(|| format!("{}: the base or a word beside it was written", call()));
+        }
+        if !ours.guards_stand() {
+            self.differs(|| format!("{}: a word beside the output was written", call()));
+        }
+        if refused {
+            if !ours.untouched() {
+                self.differs(|| format!("{}: refused, but the output was written", call()));
+            }
+            if theirs.iter().any(|&word| word != FILL_SECOND) {
+                self.differs(|| {
+                    format!("{}: refused, but the second implementation wrote", call())
+                });
+            }
+        } else if ours.words() != theirs {
+            let at = (0..theirs.len())
+                .find(|&at| ours.words()[at] != theirs[at])
+                .unwrap_or(0);
+            let (library, second) = (ours.words()[at], theirs[at]);
+            self.differs(|| {
+                let (record, word) = (at / WORDS, at % WORDS);
+                format!(
+                    "{}: record {record} word {word}: library {library}, second {second}",
+                    call()
+                )
+            });
+        } else {
+            self.words += theirs.len() as u64;
+        }
+    }
+
+    /// The picture call. Returns the words that the library wrote, or the number
+    /// of its refusal.
+    pub fn picture(
+        &mut self,
+        eight: &Eight,
+        base: &Lent,
+        out_length: usize,
+    ) -> Result<Vec<i16>, u32> {
+        let call = || {
+            format!(
+                "picture {eight:?}, {} base words, {out_length} to write",
+                base.words().len()
+            )
+        };
+        let mut ours = Lent::filled(out_length, FILL);
+        let mut theirs = vec![FILL_SECOND; out_length];
+        let library = numbers::picture(library(eight), base.words(), ours.words_mut());
+        let result = second::picture(Numbers::from_array(*eight), base.words(), &mut theirs);
+        let second = picture_numbers(result);
+        self.pictures += 1;
+        if library != second {
+            self.differs(|| format!("{}: library {library:?}, second {second:?}", call()));
+        }
+        self.words_agree(call, result.is_err(), base, &ours, &theirs);
+        match result {
+            Err(refusal) => self.coverage.picture.refused(refusal.number, refusal.rule),
+            Ok(_) => {
+                let geometry = Geometry::new(Numbers::from_array(*eight)).expect("accepted");
+                let (columns, rows) = (readings(&geometry.x), readings(&geometry.y));
+                for (address, words) in theirs.chunks(WORDS).enumerate() {
+                    let (x, y) = (
+                        &columns[address % columns.len()],
+                        &rows[address / columns.len()],
+                    );
+                    count(
+                        &mut self.coverage.picture,
+                        base.words(),
+                        geometry.x.base_count(),
+                        x,
+                        y,
+                        words,
+                    );
+                }
+            }
+        }
+        answered(library.refusal, &ours)
+    }
+
+    /// The one-macroblock call. `broken` are the addresses of records that may
+    /// be malformed. Returns the words that the library wrote, or the number of
+    /// its refusal.
+    pub fn single(
+        &mut self,
+        eight: &Eight,
+        base: &Lent,
+        (column, row): (i32, i32),
+        out_length: usize,
+        broken: &[usize],
+    ) -> Result<Vec<i16>, u32> {
+        let call = || {
+            let length = base.words().len();
+            format!("macroblock {column},{row} of {eight:?}, {length} base words, {out_length} to write")
+        };
+        let mut ours = Lent::filled(out_length, FILL);
+        let mut theirs = vec![FILL_SECOND; out_length];
+        let library =
+            numbers::macroblock(library(eight), base.words(), column, row, ours.words_mut());
+        let numbers = Numbers::from_array(*eight);
+        let result = second::macroblock(numbers, base.words(), column, row, &mut theirs);
+        let second = macroblock_numbers(result);
+        self.singles += 1;
+        let same = match (library == second, result) {
+            (true, Ok(answer)) => library
+                .result()
+                .map_or(false, |library| same_answer(&library, &answer)),
+            (same, _) => same,
+        };
+        if !same {
+            self.differs(|| format!("{}: library {library:?}, second {second:?}", call()));
+        }
+        self.words_agree(call, result.is_err(), base, &ours, &theirs);
+        match result {
+            Err(refusal) => self.coverage.single.refused(refusal.number, refusal.rule),
+            Ok(_) => {
+                let geometry = Geometry::new(numbers).expect("accepted");
+                let along = |axis: &second::geometry::Axis, at: i32| {
+                    reading(axis, at as usize).map(|reading| (reading, map_row(axis, 16 * at)))
+                };
+                let (x, y) = (along(&geometry.x, column), along(&geometry.y, row));
+                count(
+                    &mut self.coverage.single,
+                    base.words(),
+                    geometry.x.base_count(),
+                    &x,
+                    &y,
+                    &theirs,
+                );
+                for &address in broken {
+                    let record = &base.words()[address * WORDS..][..WORDS];
+                    let rule = broken_rule(record.try_into().expect("a record"));
+                    self.coverage.unnamed[rule as usize] += 1;
+                }
+            }
+        }
+        answered(library.refusal, &ours)
+    }
+}

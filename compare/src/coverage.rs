@@ -1,0 +1,269 @@
+//! How often what can happen did happen, in calls whose answers were compared.
+
+use second::geometry::Axis;
+
+/// The pairs M,N of document 01's block map: first those for even k.
+const PAIRS: [(i32, i32); 32] = [
+    (-16, 0),
+    (-16, 4),
+    (-12, 0),
+    (-12, 4),
+    (-12, 8),
+    (-8, 0),
+    (-8, 4),
+    (-8, 8),
+    (-8, 12),
+    (-4, 4),
+    (-4, 8),
+    (-4, 12),
+    (-4, 16),
+    (0, 8),
+    (0, 12),
+    (0, 16),
+    (0, -16),
+    (0, -12),
+    (0, -8),
+    (4, -16),
+    (4, -12),
+    (4, -8),
+    (4, -4),
+    (8, -12),
+    (8, -8),
+    (8, -4),
+    (8, 0),
+    (12, -8),
+    (12, -4),
+    (12, 0),
+    (16, -4),
+    (16, 0),
+];
+
+const CLASSES: [&str; 4] = ["Corner", "Vert", "Hori", "Center"];
+
+/// The row of the block map for a macroblock inside at sample `p`.
+pub fn map_row(axis: &Axis, p: i32) -> usize {
+    let borders = axis.borders(p);
+    let table = if borders.k_odd { 16..32 } else { 0..16 };
+    table
+        .clone()
+        .find(|&row| PAIRS[row] == (borders.m, borders.n))
+        .expect("a pair of the block map")
+}
+
+/// The number of a split, 0 to 258, by words 0 to 4 of a written record.
+fn split_number(words: &[i16]) -> usize {
+    match words[0] {
+        4 => {
+            words[1..5]
+                .iter()
+                .fold(0, |number, &sub| 4 * number + sub as usize)
+                + 3
+        }
+        kind => kind as usize - 1,
+    }
+}
+
+/// Counts for one of the two calls.
+#[derive(Clone)]
+pub struct Counts {
+    map_rows: [[u64; 32]; 2],
+    classes: [u64; 4],
+    outside: u64,
+    splits: [u64; 259],
+    intra_blocks: [u64; 17],
+    refusals: [u64; 9],
+    rules: [u64; 7],
+}
+
+/// What a macroblock inside the window had.
+pub struct Inside<'a> {
+    pub map_rows: [usize; 2],
+    pub class: usize,
+    pub intra_blocks: usize,
+    /// The written record.
+    pub words: &'a [i16],
+}
+
+impl Counts {
+    fn new() -> Counts {
+        Counts {
+            map_rows: [[0; 32]; 2],
+            classes: [0; 4],
+            outside: 0,
+            splits: [0; 259],
+            intra_blocks: [0; 17],
+            refusals: [0; 9],
+            rules: [0; 7],
+        }
+    }
+
+    pub fn outside(&mut self) {
+        self.outside += 1;
+    }
+
+    pub fn inside(&mut self, inside: Inside) {
+        for axis in 0..2 {
+            self.map_rows[axis][inside.map_rows[axis]] += 1;
+        }
+        self.classes[inside.class] += 1;
+        self.intra_blocks[inside.intra_blocks] += 1;
+        if inside.words[0] != 0 {
+            self.splits[split_number(inside.words)] += 1;
+        }
+    }
+
+    pub fn refused(&mut self, number: u32, rule: u32) {
+        self.refusals[number as usize] += 1;
+        if number == 8 {
+            self.rules[rule as usize] += 1;
+        }
+    }
+}
+
+pub struct Coverage {
+    pub picture: Counts,
+    pub single: Counts,
+    /// Malformed records that an answered one-macroblock call did not name, by
+    /// the rule that they break.
+    pub unnamed: [u64; 7],
+}
+
+impl Coverage {
+    pub fn new() -> Coverage {
+        Coverage {
+            picture: Counts::new(),
+            single: Counts::new(),
+            unnamed: [0; 7],
+        }
+    }
+
+    /// Prints the tables. For each, its name and whether everything that it
+    /// lists did happen.
+    pub fn report(&self) -> [(&'static str, bool); 6] {
+        [
+            (
+                "each row of the block map, on both axes, in both calls",
+                self.print_map_rows(),
+            ),
+            (
+                "each class, and outside, in both calls",
+                self.print_classes(),
+            ),
+            (
+                "each count of intra blocks that the map allows, in both calls",
+                self.print_intra_blocks(),
+            ),
+            ("each of the 259 splits, in both calls", self.print_splits()),
+            ("each refusal of each call", self.print_refusals()),
+            (
+                "each rule of refusal 8 in each call, and in records not named",
+                self.print_rules(),
+            ),
+        ]
+    }
+
+    fn print_map_rows(&self) -> bool {
+        let (picture, single) = (&self.picture.map_rows, &self.single.map_rows);
+        println!("block map, macroblocks by row: columns and rows in pictures, and singly");
+        let mut all = true;
+        for (row, (m, n)) in PAIRS.iter().enumerate() {
+            let counts = [
+                picture[0][row],
+                picture[1][row],
+                single[0][row],
+                single[1][row],
+            ];
+            let k = if row < 16 { "even" } else { "odd" };
+            line(&format!("k {k:4} {m:>3},{n:>3}"), &counts);
+            all &= counts.iter().all(|&count| count > 0);
+        }
+        all
+    }
+
+    fn print_classes(&self) -> bool {
+        let (picture, single) = (&self.picture, &self.single);
+        println!("class: in pictures, singly");
+        let mut all = picture.outside > 0 && single.outside > 0;
+        for (class, name) in CLASSES.iter().enumerate() {
+            line(name, &[picture.classes[class], single.classes[class]]);
+            all &= picture.classes[class] > 0 && single.classes[class] > 0;
+        }
+        line("(outside)", &[picture.outside, single.outside]);
+        all
+    }
+
+    fn print_intra_blocks(&self) -> bool {
+        println!("blocks that read intra macroblocks: in pictures, singly");
+        let mut all = true;
+        for blocks in 0..17 {
+            let counts = [
+                self.picture.intra_blocks[blocks],
+                self.single.intra_blocks[blocks],
+            ];
+            line(&blocks.to_string(), &counts);
+            // No rows of the map give 5 or 11.
+            let possible = blocks != 5 && blocks != 11;
+            all &= counts.iter().all(|&count| (count > 0) == possible);
+        }
+        all
+    }
+
+    fn print_splits(&self) -> bool {
+        let (picture, single) = (&self.picture.splits, &self.single.splits);
+        let both = |n: usize| picture[n] + single[n];
+        println!(
+            "splits, in both calls: 16x16 {}, 16x8 {}, 8x16 {}",
+            both(0),
+            both(1),
+            both(2)
+        );
+        println!("8x8 by the sub-types of quadrants 0 and 1 (down), 2 and 3 (across):");
+        let subs = |n: usize| format!("{}{}", n / 4, n % 4);
+        let cells = |cell: &dyn Fn(usize) -> String| {
+            (0..16)
+                .map(|n| format!("{:>6}", cell(n)))
+                .collect::<String>()
+        };
+        println!("   {}", cells(&subs));
+        for row in 0..16 {
+            println!(
+                "{} {}",
+                subs(row),
+                cells(&|n| both(3 + 16 * row + n).to_string())
+            );
+        }
+        (0..259).all(|n| picture[n] > 0 && single[n] > 0)
+    }
+
+    fn print_refusals(&self) -> bool {
+        println!("refusal: in pictures, singly");
+        let mut all = true;
+        for number in 1..9 {
+            let (picture, single) = (self.picture.refusals[number], self.single.refusals[number]);
+            line(&number.to_string(), &[picture, single]);
+            // A picture has no column and row to judge.
+            all &= single > 0 && (picture > 0) == (number != 7);
+        }
+        all
+    }
+
+    fn print_rules(&self) -> bool {
+        println!("rule that refusal 8 gives: in pictures, singly; broken in records that an answer does not name");
+        let mut all = true;
+        for rule in 1..7 {
+            let counts = [
+                self.picture.rules[rule],
+                self.single.rules[rule],
+                self.unnamed[rule],
+            ];
+            line(&rule.to_string(), &counts);
+            all &= counts.iter().all(|&count| count > 0);
+        }
+        all
+    }
+}
+
+fn line(name: &str, counts: &[u64]) {
+    let counts: String = counts.iter().map(|count| format!("{count:>10}")).collect();
+    println!("{name:>16}{counts}");
+}

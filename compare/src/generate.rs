@@ -1,0 +1,315 @@
+//! Geometries, well-formed records, and records that break a rule.
+
+use crate::random::Random;
+use second::WORDS;
+
+/// The geometry's numbers in the order of the sync text: base width and height,
+/// scaled, at, full.
+pub type Eight = [i32; 8];
+
+pub type Record = [i16; WORDS];
+
+pub fn base_macroblocks(eight: &Eight) -> usize {
+    (eight[0] / 16 * (eight[1] / 16)) as usize
+}
+
+pub fn full_macroblocks(eight: &Eight) -> usize {
+    (eight[6] / 16 * (eight[7] / 16)) as usize
+}
+
+/// B, S, o and E of one axis.
+fn axis(random: &mut Random) -> [i32; 4] {
+    let base = 16
+        * match random.below(40) {
+            0 => random.within(1, 256),
+            1..=4 => random.within(5, 16),
+            _ => random.pick(&[1, 2, 2, 3, 3, 4, 5]),
+        };
+    let scaled = match random.below(12) {
+        0 | 1 => base,
+        2 => 2 * base,
+        3 => base + base / 2,
+        4 => base + 2,
+        5 => 2 * base - 2,
+        _ => base + 2 * random.within(0, base / 2),
+    };
+    let full = 16
+        * match random.below(40) {
+            0 => random.within(1, 256),
+            1..=4 => random.within(8, 16),
+            _ => random.within(1, 2 + scaled / 16).min(8),
+        };
+    let offset = match random.below(32) {
+        0..=5 => 0,
+        6..=9 => 16 * random.within(-2, 2),
+        10..=25 => 2 * random.within(-12, 12),
+        // The window ends near the picture's end.
+        26..=28 => full - scaled + 2 * random.within(-10, 10),
+        // Anywhere with a common part.
+        29 | 30 => 2 * random.within(-scaled / 2, full / 2),
+        _ => 2 * random.within(-4096, 4095),
+    };
+    [base, scaled, offset.clamp(-8192, 8190), full]
+}
+
+/// An accepted geometry; mostly of small pictures.
+pub fn geometry(random: &mut Random) -> Eight {
+    let (x, y) = (axis(random), axis(random));
+    [x[0], y[0], x[1], y[1], x[2], y[2], x[3], y[3]]
+}
+
+/// Motion of a block: references of both lists, vector words of both lists.
+#[derive(Clone, Copy)]
+struct Motion {
+    references: [i16; 2],
+    vectors: [i16; 4],
+}
+
+/// What the records of one picture are like.
+pub struct Mood {
+    /// How many of sixteen records are intra.
+    intra: usize,
+    /// The types of the others.
+    kinds: Vec<i16>,
+    /// Motions that come again and again, so that pieces grow together.
+    motions: Vec<Motion>,
+    /// A motion is a new one once in so many times.
+    new_once_in: usize,
+    /// References are 0 to this.
+    highest_reference: i32,
+    /// Vector words are between these.
+    vectors: (i32, i32),
+}
+
+impl Mood {
+    pub fn new(random: &mut Random) -> Mood {
+        let mut mood = Mood {
+            intra: random.pick(&[0, 0, 1, 2, 4, 8, 12, 15, 16]),
+            kinds: match random.below(6) {
+                0 => vec![random.within(1, 4) as i16],
+                1 => vec![1, 2, 3],
+                2 => vec![4],
+                _ => vec![1, 2, 3, 4, 4],
+            },
+            motions: Vec::new(),
+            new_once_in: random.pick(&[1, 1, 2, 8, 64]),
+            highest_reference: random.pick(&[0, 1, 1, 3, 31]),
+            vectors: random.pick(&[
+                (-2, 2),
+                (-60, 60),
+                (-8192, 8191),
+                (8180, 8191),
+                (-8192, -8180),
+            ]),
+        };
+        for _ in 0..random.within(1, 6) {
+            let motion = mood.new_motion(random);
+            mood.motions.push(motion);
+        }
+        mood
+    }
+
+    /// Records of every type, one of eight intra, for the benchmark.
+    pub fn mixed(random: &mut Random) -> Mood {
+        let mut mood = Mood {
+            intra: 2,
+            kinds: vec![1, 1, 2, 3, 4],
+            motions: Vec::new(),
+            new_once_in: 2,
+            highest_reference: 3,
+            vectors: (-512, 511),
+        };
+        for _ in 0..4 {
+            let motion = mood.new_motion(random);
+            mood.motions.push(motion);
+        }
+        mood
+    }
+
+    pub fn without_intra(random: &mut Random) -> Mood {
+        Mood {
+            intra: 0,
+            ..Mood::new(random)
+        }
+    }
+
+    fn new_motion(&self, random: &mut Random) -> Motion {
+        let mut motion = Motion {
+            references: [-1, -1],
+            vectors: [0; 4],
+        };
+        let used = random.within(1, 3);
+        for list in 0..2 {
+            if used >> list & 1 == 1 {
+                motion.references[list] = random.within(0, self.highest_reference) as i16;
+            }
+        }
+        for word in &mut motion.vectors {
+            *word = random.within(self.vectors.0, self.vectors.1) as i16;
+        }
+        motion
+    }
+
+    fn motion(&self, random: &mut Random) -> Motion {
+        if random.one_in(self.new_once_in) {
+            self.new_motion(random)
+        } else {
+            random.pick(&self.motions)
+        }
+    }
+
+    /// A well-formed record.
+    pub fn record(&self, random: &mut Random) -> Record {
+        if random.below(16) < self.intra {
+            return intra();
+        }
+        let kind = random.pick(&self.kinds);
+        let mut subs = [0; 4];
+        if kind == 4 {
+            subs = [0; 4].map(|_: i16| random.below(4) as i16);
+        }
+        record(kind, subs, || self.motion(random))
+    }
+
+    /// Well-formed records for a base picture.
+    pub fn base(&self, random: &mut Random, records: usize) -> Vec<i16> {
+        let mut base = Vec::with_capacity(records * WORDS);
+        for _ in 0..records {
+            base.extend_from_slice(&self.record(random));
+        }
+        base
+    }
+}
+
+pub fn intra() -> Record {
+    let mut record = [0; WORDS];
+    record[5..13].fill(-1);
+    record
+}
+
+pub fn quadrant(block: usize) -> usize {
+    block / 8 * 2 + block % 4 / 2
+}
+
+/// The first block of the piece that a block lies in.
+fn lead(kind: i16, subs: &[i16; 4], block: usize) -> usize {
+    let (width, height) = match kind {
+        1 => (4, 4),
+        2 => (4, 2),
+        3 => (2, 4),
+        _ => match subs[quadrant(block)] {
+            0 => (2, 2),
+            1 => (2, 1),
+            2 => (1, 2),
+            _ => (1, 1),
+        },
+    };
+    let (column, row) = (block % 4, block / 4);
+    row / height * height * 4 + column / width * width
+}
+
+/// A record of type 1 to 4 that has one motion in each piece. In a quadrant the
+/// first piece's references serve for all.
+fn record(kind: i16, subs: [i16; 4], mut motion: impl FnMut() -> Motion) -> Record {
+    let mut record = intra();
+    record[0] = kind;
+    record[1..5].copy_from_slice(&subs);
+    for block in 0..16 {
+        let first = lead(kind, &subs, block);
+        let (q, from) = (quadrant(block), quadrant(first));
+        if first != block {
+            record.copy_within(13 + 4 * first..17 + 4 * first, 13 + 4 * block);
+            record.copy_within(5 + 2 * from..7 + 2 * from, 5 + 2 * q);
+            continue;
+        }
+        let motion = motion();
+        if block % 2 == 0 && block / 4 % 2 == 0 {
+            record[5 + 2 * q..7 + 2 * q].copy_from_slice(&motion.references);
+        }
+        for word in 0..4 {
+            if record[5 + 2 * q + word / 2] != -1 {
+                record[13 + 4 * block + word] = motion.vectors[word];
+            }
+        }
+    }
+    record
+}
+
+/// A record with one reference everywhere, whose pieces all differ in the
+/// words of list 0: piece number n has the words `first` + n and -`first` - n.
+pub fn distinct(kind: i16, subs: [i16; 4], first: i16) -> Record {
+    let mut next = first;
+    record(kind, subs, || {
+        let words = [next, -next, 0, 0];
+        next += 1;
+        Motion {
+            references: [0, -1],
+            vectors: words,
+        }
+    })
+}
+
+/// Breaks a record, by the rule named where its type allows, and now and then
+/// by another one too.
+pub fn break_record(random: &mut Random, record: &mut [i16], rule: usize) {
+    let kind = record[0];
+    match rule {
+        1 => record[0] = random.pick(&[-32768, -256, -2, -1, 5, 6, 7, 255, 256, 257, 260, 32767]),
+        2 => {
+            let subs: &[i16] = if kind == 4 {
+                &[-1, 4, 5, 256, -32768, 32767]
+            } else {
+                &[1, 2, 3, -1, 4, 256]
+            };
+            record[1 + random.below(4)] = random.pick(subs);
+        }
+        3 => record[5 + random.below(8)] = random.pick(&[-32768, -3, -2, 32, 33, 255, 256, 32767]),
+        4 if kind == 0 => record[5 + random.below(8)] = random.within(0, 31) as i16,
+        4 => {
+            let q = random.below(4);
+            record[5 + 2 * q..7 + 2 * q].fill(-1);
+        }
+        5 => {
+            let at = random.below(64);
+            let used = record[5 + 2 * quadrant(at / 4) + at % 4 / 2] != -1;
+            let far = random.pick(&[-32768, -8194, -8193, 8192, 8193, 32767]);
+            let near = random.pick(&[-8192, -1, 1, 8191]);
+            record[13 + at] = if used || random.one_in(3) { far } else { near };
+        }
+        _ if kind == 0 => {
+            record[13 + random.below(64)] = 1;
+        }
+        _ => break_piece(random, record),
+    }
+    if random.one_in(4) {
+        let again = 1 + random.below(6);
+        break_record(random, record, again);
+    }
+}
+
+/// Two motions in one piece.
+fn break_piece(random: &mut Random, record: &mut [i16]) {
+    let q = random.below(4);
+    if record[0] != 4 && random.one_in(3) {
+        // Another reference in one quadrant; its vectors stay.
+        let list = if record[5 + 2 * q] != -1 { 0 } else { 1 };
+        let at = 5 + 2 * q + list;
+        record[at] = if (0..31).contains(&record[at]) {
+            record[at] + 1
+        } else {
+            0
+        };
+        return;
+    }
+    if record[0] == 4 && record[1 + q] == 3 {
+        record[1 + q] = random.within(0, 2) as i16;
+    }
+    let block = q / 2 * 8 + q % 2 * 2 + random.pick(&[0, 1, 4, 5]);
+    let list = if record[5 + 2 * q] != -1 { 0 } else { 1 };
+    let at = 13 + 4 * block + 2 * list + random.below(2);
+    record[at] = if record[at] < 0 {
+        record[at].saturating_add(1)
+    } else {
+        record[at].saturating_sub(1)
+    };
+}

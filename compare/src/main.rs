@@ -1,0 +1,117 @@
+//! Compares the proved library with the second implementation: every written
+//! word, answer, count and refusal, and what a call must leave alone. The last
+//! line is 'N passed, M failed'; the exit status is 0 only if M is 0.
+//!
+//!     compare                 every test
+//!     compare NUMBER          one random picture again, printed
+//!
+//! A random picture's number is its seed.
+
+mod calls;
+mod coverage;
+mod lent;
+mod pictures;
+mod sweeps;
+
+use calls::Calls;
+
+/// Random pictures.
+const PICTURES: u64 = 25_000;
+
+/// Counts each test as passed or failed.
+struct Tests {
+    calls: Calls,
+    passed: u32,
+    failed: u32,
+}
+
+impl Tests {
+    /// Passed if the calls that the test makes have no difference.
+    fn compare(&mut self, name: &str, test: impl FnOnce(&mut Calls)) {
+        let before = (
+            self.calls.pictures,
+            self.calls.singles,
+            self.calls.differences,
+        );
+        self.calls.at = name.to_string();
+        test(&mut self.calls);
+        let pictures = self.calls.pictures - before.0;
+        let singles = self.calls.singles - before.1;
+        let differences = self.calls.differences - before.2;
+        println!("{name}: {pictures} picture calls, {singles} one-macroblock calls, {differences} differences");
+        self.verdict(name, differences == 0);
+    }
+
+    fn verdict(&mut self, name: &str, good: bool) {
+        if good {
+            self.passed += 1;
+        } else {
+            self.failed += 1;
+            println!("FAILED: {name}");
+        }
+    }
+}
+
+fn main() {
+    let mut tests = Tests {
+        calls: Calls::new(),
+        passed: 0,
+        failed: 0,
+    };
+    match std::env::args().nth(1) {
+        Some(number) => again(&mut tests, &number),
+        None => everything(&mut tests),
+    }
+    println!("{} passed, {} failed", tests.passed, tests.failed);
+    std::process::exit((tests.failed > 0) as i32);
+}
+
+fn again(tests: &mut Tests, number: &str) {
+    let number = number.parse().expect("a picture's number");
+    pictures::print(number);
+    tests.compare("random picture", |calls| pictures::random(calls, number));
+}
+
+fn everything(tests: &mut Tests) {
+    tests.compare(
+        "bench example: S 2B passes, 2B + 2 is refused",
+        sweeps::bench_scaled,
+    );
+    tests.compare(
+        "bench example: offset -8,192 passes, -8,194 is refused",
+        sweeps::bench_offset,
+    );
+    tests.compare("each of the 259 splits", sweeps::splits);
+    tests.compare("every window of bases to 128", sweeps::windows);
+    tests.compare("windows of bases to 4096", sweeps::long_windows);
+    tests.compare(
+        "every two rows of the block map with every intra pattern",
+        sweeps::intra_patterns,
+    );
+    tests.compare("each word of a record at every limit", sweeps::words);
+    tests.compare("each number of a geometry at every limit", sweeps::numbers);
+    tests.compare(
+        "every set of faults in the order of their refusals",
+        sweeps::faults,
+    );
+    tests.compare("large pictures", pictures::large);
+    tests.compare("random pictures", |calls| {
+        for number in 0..PICTURES {
+            calls.at = format!("random picture {number}");
+            pictures::random(calls, number);
+        }
+        println!("{PICTURES} random pictures");
+    });
+
+    println!();
+    println!("Coverage, in calls that were compared:");
+    for (name, good) in tests.calls.coverage.report() {
+        tests.verdict(name, good);
+    }
+    println!();
+    let calls = &tests.calls;
+    println!(
+        "{} picture calls and {} one-macroblock calls, {} written words compared, {} differences",
+        calls.pictures, calls.singles, calls.words, calls.differences
+    );
+}

@@ -1,0 +1,272 @@
+//! Random pictures, and large ones.
+
+use crate::calls::Calls;
+use crate::lent::Lent;
+use compare::generate::{
+    base_macroblocks, break_record, full_macroblocks, geometry, intra, Eight, Mood,
+};
+use compare::random::Random;
+use second::geometry::Geometry;
+use second::map::reading;
+use second::{Numbers, WORDS};
+
+type Place = (i32, i32);
+
+/// All places of a picture in raster order.
+pub fn places(eight: &Eight) -> Vec<Place> {
+    let (columns, rows) = (eight[6] / 16, eight[7] / 16);
+    (0..rows)
+        .flat_map(|row| (0..columns).map(move |column| (column, row)))
+        .collect()
+}
+
+/// A place of the picture; if it is outside the window, a second try is made.
+fn random_place(random: &mut Random, eight: &Eight) -> Place {
+    let mut any = || {
+        (
+            random.within(0, eight[6] / 16 - 1),
+            random.within(0, eight[7] / 16 - 1),
+        )
+    };
+    let first = any();
+    if named(eight, first).is_empty() {
+        any()
+    } else {
+        first
+    }
+}
+
+/// The picture call on what must be accepted, and the one-macroblock call for
+/// some places, whose words must be the picture's.
+pub fn whole_and_single(calls: &mut Calls, eight: &Eight, base: &Lent, singly: &[Place]) {
+    match calls.picture(eight, base, full_macroblocks(eight) * WORDS) {
+        Err(number) => calls.differs(|| format!("picture {eight:?}: refused by {number}")),
+        Ok(words) => {
+            for &(column, row) in singly {
+                let address = (row * (eight[6] / 16) + column) as usize;
+                let single = calls.single(eight, base, (column, row), WORDS, &[]);
+                if single.as_deref() != Ok(&words[address * WORDS..][..WORDS]) {
+                    calls.differs(|| {
+                        format!("macroblock {column},{row} of {eight:?}: not the picture's words")
+                    });
+                }
+            }
+        }
+    }
+}
+
+/// The addresses of the base records that a macroblock reads.
+fn named(eight: &Eight, (column, row): Place) -> Vec<usize> {
+    let geometry = Geometry::new(Numbers::from_array(*eight)).expect("accepted");
+    let (x, y) = match (
+        reading(&geometry.x, column as usize),
+        reading(&geometry.y, row as usize),
+    ) {
+        (Some(x), Some(y)) => (x, y),
+        _ => return Vec::new(),
+    };
+    let rows = y.first..=y.first + y.two as usize;
+    let columns = |row: usize| {
+        let first = row * geometry.x.base_count() + x.first;
+        first..=first + x.two as usize
+    };
+    rows.flat_map(columns).collect()
+}
+
+/// Geometry and base of a random picture, and the generator for what is done
+/// with it.
+fn made(number: u64) -> (Eight, Vec<i16>, Random) {
+    let mut random = Random::new(number);
+    let eight = geometry(&mut random);
+    let mood = Mood::new(&mut random);
+    let base = mood.base(&mut random, base_macroblocks(&eight));
+    (eight, base, random)
+}
+
+/// A random picture as the outside vectors are written: the eight numbers, and
+/// a line of words for each base record.
+pub fn print(number: u64) {
+    let (eight, base, _) = made(number);
+    let line = |words: &[String]| println!("{}", words.join(" "));
+    line(&eight.map(|number| number.to_string()));
+    for record in base.chunks(WORDS) {
+        line(
+            &record
+                .iter()
+                .map(|word| word.to_string())
+                .collect::<Vec<_>>(),
+        );
+    }
+}
+
+pub fn random(calls: &mut Calls, number: u64) {
+    let (eight, base, mut random) = made(number);
+    let random = &mut random;
+    let lent = Lent::of(&base);
+    let macroblocks = full_macroblocks(&eight);
+    let sample = if macroblocks <= 10 || (macroblocks <= 256 && random.one_in(16)) {
+        places(&eight)
+    } else {
+        (0..8).map(|_| random_place(random, &eight)).collect()
+    };
+    whole_and_single(calls, &eight, &lent, &sample);
+    malformed(calls, random, &eight, &base, &sample);
+    not_named(calls, random, &eight, &base);
+    for _ in 0..2 {
+        refused(calls, random, &eight, &base);
+    }
+}
+
+/// Some records broken: the picture call refuses, the one-macroblock call if it
+/// reads one of them.
+fn malformed(
+    calls: &mut Calls,
+    random: &mut Random,
+    eight: &Eight,
+    base: &[i16],
+    sample: &[Place],
+) {
+    let (base, broken) = with_broken_records(random, base);
+    let lent = Lent::of(&base);
+    let _ = calls.picture(eight, &lent, full_macroblocks(eight) * WORDS);
+    for &place in sample {
+        let _ = calls.single(eight, &lent, place, WORDS, &broken);
+    }
+}
+
+fn with_broken_records(random: &mut Random, base: &[i16]) -> (Vec<i16>, Vec<usize>) {
+    let mut base = base.to_vec();
+    let records = base.len() / WORDS;
+    let mut broken = Vec::new();
+    for _ in 0..random.within(1, 3) {
+        let address = random.below(records);
+        let rule = 1 + random.below(6);
+        break_record(random, &mut base[address * WORDS..][..WORDS], rule);
+        broken.push(address);
+    }
+    (base, broken)
+}
+
+/// Every record but those that one macroblock names is overwritten with any
+/// words: its answer and words stay.
+fn not_named(calls: &mut Calls, random: &mut Random, eight: &Eight, base: &[i16]) {
+    let place = random_place(random, eight);
+    let before = calls.single(eight, &Lent::of(base), place, WORDS, &[]);
+    let named = named(eight, place);
+    let mut other = base.to_vec();
+    for (address, record) in other.chunks_mut(WORDS).enumerate() {
+        if !named.contains(&address) {
+            record.iter_mut().for_each(|word| *word = random.word());
+        }
+    }
+    let after = calls.single(eight, &Lent::of(&other), place, WORDS, &[]);
+    if before != after {
+        calls.differs(|| {
+            format!("macroblock {place:?} of {eight:?}: records not named change the words")
+        });
+    }
+}
+
+/// Some of: numbers of the geometry, lengths and place wrong, a record broken.
+fn refused(calls: &mut Calls, random: &mut Random, eight: &Eight, base: &[i16]) {
+    let mut eight = *eight;
+    let (mut base, mut broken) = (base.to_vec(), Vec::new());
+    let (mut single_length, mut picture_length) = (WORDS, full_macroblocks(&eight) * WORDS);
+    let mut place = random_place(random, &eight);
+    let faults = 1 + random.below(31);
+    if faults & 1 != 0 {
+        let made = with_broken_records(random, &base);
+        base = made.0;
+        broken = made.1;
+    }
+    if faults & 2 != 0 {
+        let far = random.pick(&[
+            i32::MIN,
+            i32::MIN + 1,
+            -65_536,
+            -256,
+            -1,
+            i32::MAX,
+            65_536,
+            256,
+        ]);
+        let beside = [eight[6] / 16, eight[7] / 16, -1, far];
+        match random.below(3) {
+            0 => place.0 = random.pick(&beside),
+            1 => place.1 = random.pick(&beside),
+            _ => place = (random.pick(&beside), random.pick(&beside)),
+        }
+    }
+    if faults & 4 != 0 {
+        single_length = random.pick(&[0, 1, 76, 78, 154, picture_length]);
+        picture_length = wrong_length(random, picture_length);
+    }
+    if faults & 8 != 0 {
+        let length = wrong_length(random, base.len());
+        let filler = intra();
+        while base.len() < length {
+            let missing = (length - base.len()).min(WORDS);
+            base.extend_from_slice(&filler[..missing]);
+        }
+        base.truncate(length);
+        broken.retain(|address| (address + 1) * WORDS <= length);
+    }
+    if faults & 16 != 0 {
+        for _ in 0..random.within(1, 2) {
+            let near = random.pick(&[-16, -2, -1, 1, 2, 8, 16]);
+            let at = random.below(8);
+            eight[at] = match random.below(4) {
+                0 => random.pick(&[i32::MIN, -1, 0, i32::MAX]),
+                1 => -eight[at],
+                _ => eight[at] + near,
+            };
+        }
+    }
+    let lent = Lent::of(&base);
+    let _ = calls.picture(&eight, &lent, picture_length);
+    let _ = calls.single(&eight, &lent, place, single_length, &broken);
+}
+
+fn wrong_length(random: &mut Random, length: usize) -> usize {
+    random.pick(&[
+        0,
+        1,
+        WORDS - 1,
+        WORDS,
+        length - WORDS,
+        length - 1,
+        length + 1,
+        length + WORDS,
+        2 * length,
+    ])
+}
+
+/// Pictures of 4096 by 4096: every ratio's end, a window that is cut on all
+/// sides, one off the picture, and a malformed record at the last address.
+pub fn large(calls: &mut Calls) {
+    let geometries: [Eight; 5] = [
+        [4096, 4096, 4096, 4096, 0, 0, 4096, 4096],
+        [2720, 2720, 4080, 4080, 6, -10, 4096, 4096],
+        [2048, 2048, 4096, 4096, 0, 0, 4096, 4096],
+        [4096, 4096, 8192, 8190, -4086, -2044, 4096, 4096],
+        [16, 16, 32, 32, 8190, -8192, 4096, 4096],
+    ];
+    for (number, eight) in geometries.iter().enumerate() {
+        let random = &mut Random::new(number as u64);
+        let mood = Mood::mixed(random);
+        let base = Lent::of(&mood.base(random, base_macroblocks(eight)));
+        let mut sample: Vec<Place> = (0..100).map(|_| random_place(random, eight)).collect();
+        sample.extend([(0, 0), (255, 0), (0, 255), (255, 255)]);
+        whole_and_single(calls, eight, &base, &sample);
+    }
+
+    let eight = geometries[0];
+    let mut base = intra().repeat(65_536);
+    whole_and_single(calls, &eight, &Lent::of(&base), &[(255, 255)]);
+    let last = 65_535 * WORDS;
+    base[last + 76] = 1;
+    let base = Lent::of(&base);
+    let _ = calls.picture(&eight, &base, 65_536 * WORDS);
+    let _ = calls.single(&eight, &base, (255, 255), WORDS, &[65_535]);
+    let _ = calls.single(&eight, &base, (254, 255), WORDS, &[65_535]);
+}

@@ -1,0 +1,339 @@
+//! Tests that go through all cases of a kind.
+
+use crate::calls::Calls;
+use crate::coverage::map_row;
+use crate::lent::Lent;
+use crate::pictures::{places, whole_and_single};
+use compare::generate::{base_macroblocks, distinct, full_macroblocks, intra, Eight, Mood, Record};
+use compare::random::Random;
+use second::geometry::{Axis, Geometry};
+use second::{Numbers, WORDS};
+
+/// A picture of 3 by 3 macroblocks over a base of 2 by 2, with every class.
+const SMALL: Eight = [32, 32, 48, 48, 0, 0, 48, 48];
+
+/// Values of a record's word at and beside every limit of the six rules.
+const WORD_LIMITS: [i16; 24] = [
+    -32768, -8194, -8193, -8192, -8191, -256, -2, -1, 0, 1, 2, 3, 4, 5, 6, 30, 31, 32, 33, 256,
+    8190, 8191, 8192, 32767,
+];
+
+/// Numbers of a geometry at and beside every limit, and far from all.
+const NUMBER_LIMITS: [i32; 30] = [
+    i32::MIN,
+    -65536,
+    -8194,
+    -8193,
+    -8192,
+    -4096,
+    -16,
+    -2,
+    -1,
+    0,
+    1,
+    2,
+    8,
+    15,
+    16,
+    17,
+    30,
+    32,
+    34,
+    48,
+    4080,
+    4096,
+    4097,
+    4112,
+    8190,
+    8191,
+    8192,
+    65536,
+    65552,
+    i32::MAX,
+];
+
+fn small_base() -> Vec<i16> {
+    [
+        distinct(1, [0; 4], 1),
+        intra(),
+        distinct(4, [0, 1, 2, 3], 20),
+        distinct(3, [0; 4], 40),
+    ]
+    .concat()
+}
+
+/// Both calls are refused by `number`, or answered if that is 0.
+fn expect(calls: &mut Calls, eight: &Eight, base: &[i16], number: u32) {
+    let base = Lent::of(base);
+    let picture = calls.picture(eight, &base, full_macroblocks(eight) * WORDS);
+    let single = calls.single(eight, &base, (0, 0), WORDS, &[]);
+    for found in [picture, single] {
+        let found = found.err().unwrap_or(0);
+        if found != number {
+            calls.differs(|| format!("{eight:?}: refused by {found}, not by {number}"));
+        }
+    }
+}
+
+/// S 2B passes, 2B + 2 is refused.
+pub fn bench_scaled(calls: &mut Calls) {
+    for axis in 0..2 {
+        for (scaled, number) in [(64, 0), (66, 3)] {
+            let mut eight = SMALL;
+            eight[2 + axis] = scaled;
+            expect(calls, &eight, &small_base(), number);
+        }
+    }
+}
+
+/// Offset -8,192 passes, -8,194 is refused.
+pub fn bench_offset(calls: &mut Calls) {
+    for axis in 0..2 {
+        for (offset, number) in [(-8192, 0), (-8194, 4)] {
+            let mut eight = SMALL;
+            eight[4 + axis] = offset;
+            expect(calls, &eight, &small_base(), number);
+        }
+    }
+}
+
+/// At ratio 1 each split of the base comes out as it is.
+pub fn splits(calls: &mut Calls) {
+    let eight = [16, 16, 16, 16, 0, 0, 16, 16];
+    let mut records = vec![
+        distinct(1, [0; 4], 1),
+        distinct(2, [0; 4], 1),
+        distinct(3, [0; 4], 1),
+    ];
+    for n in 0..256 {
+        records.push(distinct(4, [n / 64, n / 16 % 4, n / 4 % 4, n % 4], 1));
+    }
+    for record in records {
+        whole_and_single(calls, &eight, &Lent::of(&record), &[(0, 0)]);
+        let words = calls.single(&eight, &Lent::of(&record), (0, 0), WORDS, &[]);
+        if words.as_deref() != Ok(&record) {
+            calls.differs(|| format!("a split is not kept at ratio 1: {:?}", &record[..5]));
+        }
+    }
+}
+
+/// Every B to 128, S and P - o of a macroblock inside, as B, S and P - o.
+fn accepted_windows() -> Vec<(i32, i32, i32)> {
+    let mut found = Vec::new();
+    for base in (16..=128).step_by(16) {
+        for scaled in (base..=2 * base).step_by(2) {
+            found.extend(
+                (0..=scaled - 16)
+                    .step_by(2)
+                    .map(|distance| (base, scaled, distance)),
+            );
+        }
+    }
+    found
+}
+
+/// Each of them along either axis, with another vector in each base block.
+pub fn windows(calls: &mut Calls) {
+    for (base, scaled, distance) in accepted_windows() {
+        let records: Vec<Record> = (0..base as i16 / 16)
+            .map(|n| distinct(4, [3; 4], 1 + 16 * n))
+            .collect();
+        let lent = Lent::of(&records.concat());
+        whole_and_single(
+            calls,
+            &[base, 16, scaled, 16, -distance, 0, 16, 16],
+            &lent,
+            &[(0, 0)],
+        );
+        whole_and_single(
+            calls,
+            &[16, base, 16, scaled, 0, -distance, 16, 16],
+            &lent,
+            &[(0, 0)],
+        );
+    }
+}
+
+/// Random windows of bases to 4096 along either axis.
+pub fn long_windows(calls: &mut Calls) {
+    let records: Vec<Record> = (0..256).map(|n| distinct(4, [3; 4], 1 + 16 * n)).collect();
+    let words = records.concat();
+    let random = &mut Random::new(4);
+    for _ in 0..5_000 {
+        let base = 16 * random.within(1, 256);
+        let scaled = base + 2 * random.within(0, base / 2);
+        let offset = -2 * random.within(0, (scaled - 16) / 2);
+        let lent = Lent::of(&words[..base as usize / 16 * WORDS]);
+        let full = 16 * random.within(1, 256);
+        // A place inside the window, if the picture has it.
+        let inside = random
+            .within(0, (scaled + offset) / 16 - 1)
+            .min(full / 16 - 1)
+            .max(0);
+        let _ = calls.single(
+            &[base, 16, scaled, 16, offset, 0, full, 16],
+            &lent,
+            (inside, 0),
+            WORDS,
+            &[],
+        );
+        let _ = calls.single(
+            &[16, base, 16, scaled, 0, offset, 16, full],
+            &lent,
+            (0, inside),
+            WORDS,
+            &[],
+        );
+    }
+}
+
+/// For every two rows of the block map a picture of one macroblock, with each
+/// of the sixteen ways in which four base macroblocks are intra or not.
+pub fn intra_patterns(calls: &mut Calls) {
+    let mut examples = [None; 32];
+    for (base, scaled, distance) in accepted_windows() {
+        let axis = Axis {
+            base,
+            scaled,
+            offset: -distance,
+            full: 16,
+        };
+        let row = map_row(&axis, 0);
+        if examples[row].is_none() {
+            examples[row] = Some((base, scaled, distance));
+        }
+    }
+    let examples: Vec<(i32, i32, i32)> = examples.iter().flatten().copied().collect();
+    let random = &mut Random::new(1);
+    for &(base_width, scaled_width, x) in &examples {
+        for &(base_height, scaled_height, y) in &examples {
+            let eight = [
+                base_width,
+                base_height,
+                scaled_width,
+                scaled_height,
+                -x,
+                -y,
+                16,
+                16,
+            ];
+            let mood = Mood::without_intra(random);
+            let base = mood.base(random, base_macroblocks(&eight));
+            for pattern in 0..16 {
+                let mut base = base.clone();
+                for (address, record) in base.chunks_mut(WORDS).enumerate() {
+                    // Neighbours differ in the lowest bit of column or row.
+                    let columns = base_width as usize / 16;
+                    let (column, row) = (address % columns, address / columns);
+                    if pattern >> (row % 2 * 2 + column % 2) & 1 == 1 {
+                        record.copy_from_slice(&intra());
+                    }
+                }
+                whole_and_single(calls, &eight, &Lent::of(&base), &[(0, 0)]);
+            }
+        }
+    }
+}
+
+/// In records of every type, each word is set to every limit in turn.
+pub fn words(calls: &mut Calls) {
+    let eight = [16, 16, 24, 32, 0, 0, 32, 32];
+    let mut records = vec![
+        intra(),
+        distinct(1, [0; 4], 1),
+        distinct(2, [0; 4], 1),
+        distinct(3, [0; 4], 1),
+    ];
+    for subs in [[0; 4], [1; 4], [2; 4], [3; 4], [0, 1, 2, 3]] {
+        records.push(distinct(4, subs, 1));
+    }
+    let random = &mut Random::new(2);
+    for _ in 0..8 {
+        records.push(Mood::without_intra(random).record(random));
+    }
+    for record in records {
+        for at in 0..WORDS {
+            for value in WORD_LIMITS {
+                let mut record = record;
+                record[at] = value;
+                let base = Lent::of(&record);
+                let _ = calls.picture(&eight, &base, 4 * WORDS);
+                let _ = calls.single(&eight, &base, (0, 0), WORDS, &[]);
+            }
+        }
+    }
+}
+
+/// Every two of a geometry's numbers are set to every two limits. The calls are
+/// made with the base as it was, and if the geometry is accepted and small with
+/// one that fits.
+pub fn numbers(calls: &mut Calls) {
+    let base = Lent::of(&small_base());
+    let random = &mut Random::new(3);
+    for first in 0..8 {
+        for second in first + 1..8 {
+            for a in NUMBER_LIMITS {
+                for b in NUMBER_LIMITS {
+                    let mut eight = SMALL;
+                    eight[first] = a;
+                    eight[second] = b;
+                    let _ = calls.picture(&eight, &base, 9 * WORDS);
+                    let _ = calls.single(&eight, &base, (1, 1), WORDS, &[]);
+                    let accepted = Geometry::new(Numbers::from_array(eight)).is_ok();
+                    if accepted && base_macroblocks(&eight).max(full_macroblocks(&eight)) <= 768 {
+                        let mood = Mood::mixed(random);
+                        let base = Lent::of(&mood.base(random, base_macroblocks(&eight)));
+                        let places = places(&eight);
+                        let some = [random.pick(&places), random.pick(&places)];
+                        whole_and_single(calls, &eight, &base, &some);
+                    }
+                }
+            }
+        }
+    }
+}
+
+/// Every set of the faults 1 to 8, on either axis: the lowest is the refusal.
+pub fn faults(calls: &mut Calls) {
+    for axis in 0..2 {
+        for set in 0..256u32 {
+            let has = |number: u32| set >> (number - 1) & 1 == 1;
+            let mut eight = SMALL;
+            for (number, at, wrong) in [(1, 0, 24), (2, 6, 4112), (3, 2, 49), (4, 4, 8192)] {
+                if has(number) {
+                    eight[at + axis] = wrong;
+                }
+            }
+            let mut base = small_base();
+            if has(8) {
+                base[2 * WORDS + 5] = 32;
+            }
+            if has(5) {
+                base.pop();
+            }
+            let base = Lent::of(&base);
+            let off = has(6) as usize;
+            let place = match (has(7), axis) {
+                (false, _) => (1, 1),
+                (true, 0) => (3, 1),
+                (true, _) => (1, -1),
+            };
+            let picture = calls.picture(&eight, &base, 9 * WORDS - off);
+            let single = calls.single(&eight, &base, place, WORDS - off, &[]);
+            let lowest = |not: u32| {
+                (1..=8)
+                    .find(|&number| number != not && has(number))
+                    .unwrap_or(0)
+            };
+            // A picture has no place to judge by 7.
+            for (found, number) in [(picture, lowest(7)), (single, lowest(0))] {
+                let found = found.err().unwrap_or(0);
+                if found != number {
+                    calls.differs(|| {
+                        format!("faults {set:08b}: refused by {found}, not by {number}")
+                    });
+                }
+            }
+        }
+    }
+}

@@ -1,0 +1,94 @@
+/* Motion upsampling between two layers of a track clip: the C interface of the
+ * proved library (the crate `interface`; `rt staticlib interface` writes
+ * target/staticlib/libinterface.a).
+ *
+ * "Document 01" is the project's scope paper. Every call ends, asks nothing of
+ * its numbers, and judges what it is lent; the caller only has to lend
+ * `base_len` words at `base` to read and, apart from them, `out_len` words at
+ * `out` to write. A refused call leaves every lent word as it was. `base` is
+ * never written. Calls keep nothing between them.
+ */
+#ifndef SPIEWOMIR_H
+#define SPIEWOMIR_H
+
+#include <stddef.h>
+#include <stdint.h>
+
+#ifdef __cplusplus
+extern "C" {
+#endif
+
+/* Words of a motion record: type, 4 sub-types, 8 references (5 + 2q + l),
+ * 64 vector words (13 + 4b + 2l and the next). */
+#define SPIEWOMIR_WORDS 77
+
+/* Refusals, judged in rising order. 0 means answered. */
+#define SPIEWOMIR_ANSWERED 0
+#define SPIEWOMIR_REFUSED_BASE_SIZE 1     /* base size no multiple of 16 in 16..4096 */
+#define SPIEWOMIR_REFUSED_FULL_SIZE 2     /* the same for the full picture's size */
+#define SPIEWOMIR_REFUSED_SCALED_SIZE 3   /* scaled size odd, below the base's or above twice that */
+#define SPIEWOMIR_REFUSED_OFFSET 4        /* offset odd or outside -8192..8190 */
+#define SPIEWOMIR_REFUSED_BASE_LENGTH 5   /* base_len is not 77 for each base macroblock */
+#define SPIEWOMIR_REFUSED_OUTPUT_LENGTH 6 /* out_len is not what the call writes */
+#define SPIEWOMIR_REFUSED_POSITION 7      /* column or row outside the picture (one macroblock only) */
+#define SPIEWOMIR_REFUSED_RECORD 8        /* a malformed record: `place` is the lowest malformed
+                                             address among the records checked, `rule` the first of
+                                             document 01's rules 1 to 6 that it breaks */
+
+/* Kinds of answer: word 0 of the written record. */
+#define SPIEWOMIR_INTRA 0
+#define SPIEWOMIR_16X16 1
+#define SPIEWOMIR_16X8 2
+#define SPIEWOMIR_8X16 3
+#define SPIEWOMIR_8X8 4
+#define SPIEWOMIR_OUTSIDE 5
+
+/* Classes: the base macroblocks read are one, two columns, two rows, four. */
+#define SPIEWOMIR_CORNER 0
+#define SPIEWOMIR_VERT 1
+#define SPIEWOMIR_HORI 2
+#define SPIEWOMIR_CENTER 3
+
+/* Luma samples, not yet judged. The base picture, scaled, is a window of the
+ * full picture at the offset; it may lie partly or wholly off the picture. */
+typedef struct {
+    int32_t base_width, base_height, scaled_width, scaled_height;
+    int32_t offset_x, offset_y, full_width, full_height;
+} SpiewomirGeometry;
+
+typedef struct {
+    uint32_t refusal, place, rule; /* place and rule are 0 but for refusal 8 */
+    uint32_t kind;                 /* what follows is 0 in a refusal */
+    uint32_t sub0, sub1, sub2, sub3; /* sub-types of the quadrants, 0 unless kind is 4:
+                                        0 8x8, 1 8x4, 2 4x8, 3 4x4, width by height */
+    uint32_t class_;
+    uint32_t column, row; /* first base column and row that are read; 0 outside */
+} SpiewomirMacroblock;
+
+typedef struct {
+    uint32_t refusal, place, rule; /* place and rule are 0 but for refusal 8 */
+    uint32_t inherited, intra, outside; /* macroblocks by the kind of their answers; 0 in a refusal */
+} SpiewomirPicture;
+
+/* One macroblock. `base` has the base picture's records in raster order, `out`
+ * has 77 words. Refusals 1 to 8; only the records that the macroblock reads are
+ * checked by 8, none of them outside the window. Answered, all 77 words at `out`
+ * are written: the inherited record, or one of type 0 (intra) or 5 (outside) with
+ * sub-types 0, references -1 and vectors 0. The records that are not read may hold
+ * any words and change nothing. */
+SpiewomirMacroblock spiewomir_macroblock(SpiewomirGeometry geometry, const int16_t *base, size_t base_len,
+                                         int32_t column, int32_t row, int16_t *out, size_t out_len);
+
+/* The whole picture. `out` has 77 words for each macroblock of the full picture.
+ * Refusals 1 to 6 and 8; all base records are checked by 8. Answered, all words at
+ * `out` are written in raster order, for each macroblock those that
+ * spiewomir_macroblock writes for it, and the counts are the numbers of its answers
+ * of each sort. */
+SpiewomirPicture spiewomir_picture(SpiewomirGeometry geometry, const int16_t *base, size_t base_len,
+                                   int16_t *out, size_t out_len);
+
+#ifdef __cplusplus
+}
+#endif
+
+#endif

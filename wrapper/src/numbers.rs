@@ -1,0 +1,106 @@
+//! The C interface as `include/spiewomir.h` declares it, and its calls on
+//! slices. Answers are the interface's own numbers.
+
+/// The geometry's eight numbers in luma samples, not yet judged.
+#[repr(C)]
+#[derive(Clone, Copy, Debug, Default, PartialEq, Eq)]
+pub struct Geometry {
+    pub base_width: i32,
+    pub base_height: i32,
+    pub scaled_width: i32,
+    pub scaled_height: i32,
+    pub offset_x: i32,
+    pub offset_y: i32,
+    pub full_width: i32,
+    pub full_height: i32,
+}
+
+/// Answer of the one-macroblock call; `refusal` 0 means answered.
+#[repr(C)]
+#[derive(Clone, Copy, Debug, Default, PartialEq, Eq)]
+pub struct Macroblock {
+    pub refusal: u32,
+    pub place: u32,
+    pub rule: u32,
+    /// Word 0 of the written record.
+    pub kind: u32,
+    /// Sub-types of quadrants 0 to 3, 0 unless `kind` is 4.
+    pub sub0: u32,
+    pub sub1: u32,
+    pub sub2: u32,
+    pub sub3: u32,
+    pub class: u32,
+    /// First base column and row.
+    pub column: u32,
+    pub row: u32,
+}
+
+/// Answer of the picture call; `refusal` 0 means answered.
+#[repr(C)]
+#[derive(Clone, Copy, Debug, Default, PartialEq, Eq)]
+pub struct Picture {
+    pub refusal: u32,
+    pub place: u32,
+    pub rule: u32,
+    pub inherited: u32,
+    pub intra: u32,
+    pub outside: u32,
+}
+
+extern "C" {
+    fn spiewomir_macroblock(
+        geometry: Geometry,
+        base: *const i16,
+        base_len: usize,
+        column: i32,
+        row: i32,
+        out: *mut i16,
+        out_len: usize,
+    ) -> Macroblock;
+
+    fn spiewomir_picture(
+        geometry: Geometry,
+        base: *const i16,
+        base_len: usize,
+        out: *mut i16,
+        out_len: usize,
+    ) -> Picture;
+}
+
+/// The one-macroblock call.
+pub fn macroblock(
+    geometry: Geometry,
+    base: &[i16],
+    column: i32,
+    row: i32,
+    out: &mut [i16],
+) -> Macroblock {
+    // SAFETY: the function asks nothing of its numbers, reads `base_len` words
+    // at `base`, and reads and writes `out_len` words at `out`. Two slices lend
+    // them, and they cannot overlap.
+    unsafe {
+        spiewomir_macroblock(
+            geometry,
+            base.as_ptr(),
+            base.len(),
+            column,
+            row,
+            out.as_mut_ptr(),
+            out.len(),
+        )
+    }
+}
+
+/// The picture call.
+pub fn picture(geometry: Geometry, base: &[i16], out: &mut [i16]) -> Picture {
+    // SAFETY: as in `macroblock`.
+    unsafe {
+        spiewomir_picture(
+            geometry,
+            base.as_ptr(),
+            base.len(),
+            out.as_mut_ptr(),
+            out.len(),
+        )
+    }
+}
