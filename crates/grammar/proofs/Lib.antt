@@ -1,0 +1,8 @@
+-- Laws of the grammar: the machine goes by it. Each file says in its first line what it is about.
+pub mod Cats
+pub mod Bytes
+pub mod Residue
+pub mod Forward
+pub mod Backward
+pub mod Live
+pub mod Runs

@@ -1,0 +1,2 @@
+-- The machine that reads the text, and what the readers promise by its states.
+pub mod Machine
