@@ -6,3 +6,5 @@ pub mod Forward
 pub mod Backward
 pub mod Live
 pub mod Runs
+pub mod Steps
+pub mod Signs

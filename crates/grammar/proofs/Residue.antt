@@ -6,7 +6,7 @@ use mathlib.Core.Logic.{_⊎_, inl, inr}
 use mathlib.Core.List.{List, [], _∷_, _++_}
 use lib.IntN.{ℤ, pos, negsuc}
 use Rattle.definitions.specs.Text.{Letter, Digit, All, valued, Plain, Number, Rest, Item, Note, Notes, Part, Form, Kind, LineOf, RecordKind, kindOf}
-use Rattle.grammar.specs.Machine.{Follow, gap, shut, inList, Sym, lit, first, letters, rest, field, dashed, zeroed, figures, line, opened, entry, Ev, num, rec, Delta, halt, go, emit, Cfg, dead, live, limit, signed}
+use Rattle.grammar.specs.Machine.{Follow, gap, shut, inList, Sym, lit, first, letters, rest, field, dashed, zeroed, figures, line, opened, entry, Ev, num, rec, Delta, halt, go, emit, Cfg, dead, live, limit, signed, nums}
 use Rattle.grammar.proofs.Cats.{Cat}
 
 -- texts, with the numbers that stand in them
@@ -32,11 +32,6 @@ Fol (inList d) z B ws = Cat (Rest (Item d)) (B ws)
 pub record Figures (a n : ℕ) (t : List ℕ) : Type 0 where
   pub all : All Digit t
   pub worth : valued a t ≡ n
-
--- these numbers, and then ws
-abbrev pub nums : List ℤ → List Ev → List Ev
-nums [] ws = ws
-nums (z ∷ vs) ws = num z ∷ nums vs ws
 
 pub record Line (k : Kind) (B : Lang) (ws : List Ev) (u : List ℕ) : Type 0 where
   pub before : List ℕ

@@ -14,17 +14,12 @@ use lib.Seq.{take-suc}
 use borrow.Author.Tests.{eqb-true, eq-eqb}
 use Rattle.definitions.specs.Text.{Note, note, Notes, Form, isByte, Kind, letter, LineOf, Heads, noHead, head, RecordKind, kindOf, Entry, Records, noRecord, aNote, aRecord, Text, Belongs, CanGoOn, headNumbers, Part, byte, spaced, ended, nothing, isSpaced, isEnded, tailOf, baseLine, scaledLine, atLine, fullLine}
 use Rattle.definitions.specs.declared.Numbers.{Numbers}
-use Rattle.grammar.specs.Machine.{Sym, line, entry, Ev, num, rec, Delta, halt, go, emit, push, δ, stepK, Cfg, dead, live, enter, step, runs, start, stateAt, Alive}
+use Rattle.grammar.specs.Machine.{Sym, line, entry, Ev, num, rec, Delta, halt, go, emit, push, δ, stepK, Cfg, dead, live, enter, step, runs, start, stateAt, Alive, nums, flat}
 use Rattle.grammar.proofs.Cats.{Cat, no-cons, heads, tails}
-use Rattle.grammar.proofs.Residue.{Lang, Gives, nums, Line, RecLine, EntryOf, L, Seq, Next}
+use Rattle.grammar.proofs.Residue.{Lang, Gives, Line, RecLine, EntryOf, L, Seq, Next}
 use Rattle.grammar.proofs.Forward.{forward, note-first}
 use Rattle.grammar.proofs.Backward.{Sound, backward}
 use Rattle.grammar.proofs.Live.{Some, Sounds, SoundD, at-halt, at-go, at-emit, inhabit, seq-some, not-none, sound-step}
-
--- what the record lines leave in the machine
-abbrev pub flat : List Entry → List Ev
-flat [] = []
-flat (e ∷ rs) = rec (e .kind) ∷ nums (e .fields) (flat rs)
 
 -- with nothing more asked: notes and record lines
 record Base (ws : List Ev) (u : List ℕ) : Type 0 where

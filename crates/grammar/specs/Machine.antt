@@ -6,7 +6,7 @@ use mathlib.Core.Bool.{Bool, true, false, cond}
 use mathlib.Core.List.{List, [], _∷_, _++_}
 use lib.ListN.{length, take, getD}
 use lib.IntN.{ℤ, pos, negsuc}
-use Rattle.definitions.specs.Text.{Part, byte, spaced, ended, Kind, baseLine, scaledLine, atLine, fullLine, intraLine, wholeLine, mbLine, letter, tailOf, RecordKind, intra, whole, mb}
+use Rattle.definitions.specs.Text.{Part, byte, spaced, ended, Kind, baseLine, scaledLine, atLine, fullLine, intraLine, wholeLine, mbLine, letter, tailOf, RecordKind, intra, whole, mb, Entry}
 use lib.Dec.{leb, eqb}
 use Rattle.grammar.specs.declared.Class.{Class}
 use Rattle.grammar.specs.declared.Class.the-variants.{Alpha, Nought, Nonzero, Dash, Open, Close, Space, Other}
@@ -44,6 +44,17 @@ pub data Ev : Type 0 where
   num : ℤ → Ev
   rec : RecordKind → Ev
 
+-- these numbers, and then ws
+abbrev pub nums : List ℤ → List Ev → List Ev
+nums [] ws = ws
+nums (z ∷ vs) ws = num z ∷ nums vs ws
+
+-- what the record lines leave in the machine
+abbrev pub flat : List Entry → List Ev
+flat [] = []
+flat (e ∷ rs) = rec (e .kind) ∷ nums (e .fields) (flat rs)
+
+-- what a byte does to the symbol on top: it may not come; symbols take its place; and something that stands in the text is told
 pub data Delta : Type 0 where
   halt : Delta
   go : List Sym → Delta
