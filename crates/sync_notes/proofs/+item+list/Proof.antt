@@ -14,6 +14,11 @@ use Rattle.grammar.proofs.Steps.{item-end, item-bad, item-letters, item-field, 
 use Prim.Native.Nat.{ℕ, _<_}
 use borrow.Fn.Kinds.{In}
 use borrow.Fn.PlainCycle.{Measures, is, falls, and}
+use Rattle.sync_notes.proofs.item.Reads as item
+use Rattle.sync_notes.proofs.list.Reads as list
+use Rattle.sync_notes.proofs.letters.Reads as letters-reads
+use Rattle.sync_numbers.proofs.class_of.Reads as class-of-reads
+use Rattle.sync_numbers.proofs.number.Reads as number-reads
 use Rattle.sync_notes.proofs.item.Kinds as item-kinds
 use Rattle.sync_notes.proofs.+item+list.Lts-item as item-lts
 use Rattle.sync_notes.proofs.list.Kinds as list-kinds
