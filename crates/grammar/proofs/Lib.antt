@@ -8,3 +8,5 @@ pub mod Live
 pub mod Runs
 pub mod Steps
 pub mod Signs
+pub mod Storing
+pub mod Openings
