@@ -10,3 +10,4 @@ pub mod Steps
 pub mod Signs
 pub mod Storing
 pub mod Openings
+pub mod Whole

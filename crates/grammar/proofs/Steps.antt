@@ -349,10 +349,3 @@ field-as s i f g k here = as-of s i g (field f ∷ k) here tt
 pub note-ends : (s : List ℕ) (i a e : ℕ) → WordTo s i (111 ∷ 116 ∷ 101 ∷ []) (At a) → Takes s a (λ (k : List Sym). rest 7 ∷ k) (At e) → (r : Got) → WordTo s e (10 ∷ []) r → Takes s i noteTail r
 note-ends s i a e v w (At p) h = (omega arith, h .1, λ g k q. h .2 g k (w .2 g (lit 10 ∷ k) (v .2 g (rest 7 ∷ lit 10 ∷ k) q)))
 note-ends s i a e v w (Bad p) h = λ g k q. h g k (w .2 g (lit 10 ∷ k) (v .2 g (rest 7 ∷ lit 10 ∷ k) q))
-
--- `pair_of`: the bytes of w and two numbers
-pub two-fields : (s w : List ℕ) (i a d e : ℕ) (x y : ℤ) (g : List Ev) (k : List Sym) → WordTo s i w (At a) → FieldTo s a false (Value x d) → FieldTo s d true (Value y e) → stateAt s i ≡ live g (pairOf w k) → stateAt s e ≡ live (g ++ (num x ∷ num y ∷ [])) (lit 10 ∷ k)
-two-fields s w i a d e x y g k o m n h =
-    n .2 (g ++ (num x ∷ [])) (lit 10 ∷ k) (m .2 g (field shut ∷ lit 10 ∷ k) (o .2 g (field gap ∷ field shut ∷ lit 10 ∷ k) h))
-    ∙ ap (λ (g : List Ev). live g (lit 10 ∷ k)) (append-assoc g (num x ∷ []) (num y ∷ []))
-

@@ -4,8 +4,8 @@ use mathlib.Core.Path.{_≡_, refl, sym, _∙_, ap, subst}
 use mathlib.Core.Bool.{true, false}
 use mathlib.Core.List.{List, [], _∷_, _++_, append-assoc, append-nil}
 use native.Mathlib.Omega.{arith}
-use lib.IntN.{ℤ}
-use lib.ListN.{length, drop, set, length-append, drop-of-length-le}
+use lib.IntN.{ℤ, pos}
+use lib.ListN.{length, drop, getD, set, length-append, drop-of-length-le}
 use lib.Seq.{sets, sets-eq, length-sets}
 use Rattle.definitions.specs.Record.{recordWords}
 use Rattle.definitions.specs.Answer.{unusedMotion}
@@ -14,8 +14,9 @@ use Rattle.definitions.proofs.Records.{laid-length}
 use Rattle.grammar.specs.declared.Got.{Got}
 use Rattle.grammar.specs.declared.Got.the-variants.{At, Bad}
 use Rattle.grammar.specs.declared.Num.the-variants.{Value, Wrong}
+use Rattle.grammar.specs.declared.Pair.the-variants.{Both}
 use Rattle.grammar.specs.Machine.{Sym, field, gap, shut, lits, Ev, num, nums, live, stateAt}
-use Rattle.grammar.specs.Promises.{Stuck, WordTo, FieldTo, fields, Touched, Stored, StoresTo, Stores, Within, ThenWordTo, ThenWord, ThenStoresTo, ThenStores, tail, TailRead, TailTo}
+use Rattle.grammar.specs.Promises.{Stuck, WordTo, FieldTo, pairOf, TwoTo, fields, Touched, Stored, StoresTo, Stores, Within, ThenWordTo, ThenWord, ThenStoresTo, ThenStores, tail, TailRead, TailTo}
 
 sets-append : (l : List ℤ) (i : ℕ) (xs ys : List ℤ) → sets l i (xs ++ ys) ≡ sets (sets l i xs) (i + length xs) ys
 sets-append l i [] ys = ap (λ (x : ℕ). sets l x ys) (let q : i ≡ i + 0 = omega arith in q)
@@ -238,6 +239,21 @@ filled : (old new found : List ℤ) → length found ≡ length old → new ≡ 
 filled old new found e w =
     let d : drop (0 + length found) old ≡ [] = drop-of-length-le old {i = 0 + length found} (omega arith) in
     w ∙ sets-eq found old 0 (omega arith) ∙ ap (λ (o : List ℤ). found ++ o) d ∙ append-nil found
+
+-- a line's two numbers
+two-numbers : (vs : List ℤ) → length vs ≡ 2 → nums vs [] ≡ num (getD vs 0 (pos 0)) ∷ num (getD vs 1 (pos 0)) ∷ []
+two-numbers [] e = absurd (omega arith)
+two-numbers (a ∷ []) e = absurd (omega arith)
+two-numbers (a ∷ b ∷ []) e = refl
+two-numbers (a ∷ b ∷ c ∷ vs) e = absurd (omega arith)
+
+pub two-read :
+    (s w : List ℕ) (i : ℕ) (zeros two : List ℤ) (e : ℕ) → length zeros ≡ 2 → Stored s (pairOf w) 2 i zeros 0 two e
+    → TwoTo s i w (Both (getD two 0 (pos 0)) (getD two 1 (pos 0)) e)
+two-read s w i zeros two e n v =
+    let f : two ≡ v .found = filled zeros two (v .found) (v .many ∙ sym n) (v .stored) in
+    let t : nums (v .found) [] ≡ num (getD two 0 (pos 0)) ∷ num (getD two 1 (pos 0)) ∷ [] = rw f (two-numbers (v .found) (v .many)) in
+    (v .up, v .within, λ g k h. v .so g k h ∙ ap (λ (o : List Ev). live (g ++ o) k) t)
 
 pub whole-tail :
     (s : List ℕ) (i : ℕ) (old : List ℤ) (from : ℕ) (new zeros six : List ℤ) (q : Got) → length zeros ≡ 6 → new ≡ sets old from (wordsFor whole six)

@@ -102,7 +102,7 @@ abbrev pub pairOf : List ℕ → List Sym → List Sym
 pairOf w k = lits w (field gap ∷ field shut ∷ lit 10 ∷ k)
 
 abbrev pub TwoTo : List ℕ → ℕ → List ℕ → Pair → Type 0
-TwoTo s i w (Both x y e) = (i < e) × (e ≤ length s) × ((g : List Ev) (k : List Sym) → stateAt s i ≡ live g (pairOf w k) → stateAt s e ≡ live (g ++ (num x ∷ num y ∷ [])) k)
+TwoTo s i w (Both x y e) = (i ≤ e) × (e ≤ length s) × ((g : List Ev) (k : List Sym) → stateAt s i ≡ live g (pairOf w k) → stateAt s e ≡ live (g ++ (num x ∷ num y ∷ [])) k)
 TwoTo s i w (Broken p) = (g : List Ev) (k : List Sym) → stateAt s i ≡ live g (pairOf w k) → Stuck s p
 
 -- a kind's letter is c, and its line goes on with w and two numbers
@@ -113,13 +113,13 @@ pub record Begins (d : Kind) (c : ℕ) (w : List ℕ) : Type 0 where
 -- notes, and such a line
 abbrev pub PairTo : List ℕ → ℕ → ℕ → List ℕ → Pair → Type 0
 PairTo s i c w (Both x y e) =
-    (i < e) × (e ≤ length s) × ((d : Kind) (g : List Ev) (k : List Sym) → Begins d c w → stateAt s i ≡ live g (line d ∷ k) → stateAt s e ≡ live (g ++ (num x ∷ num y ∷ [])) k)
+    (i ≤ e) × (e ≤ length s) × ((d : Kind) (g : List Ev) (k : List Sym) → Begins d c w → stateAt s i ≡ live g (line d ∷ k) → stateAt s e ≡ live (g ++ (num x ∷ num y ∷ [])) k)
 PairTo s i c w (Broken p) = (d : Kind) (g : List Ev) (k : List Sym) → Begins d c w → stateAt s i ≡ live g (line d ∷ k) → Stuck s p
 
 -- two such lines
 abbrev pub FourTo : List ℕ → ℕ → ℕ → List ℕ → ℕ → List ℕ → Four → Type 0
 FourTo s i c w c′ w′ (Each x y x′ y′ e) =
-    (i < e) × (e ≤ length s)
+    (i ≤ e) × (e ≤ length s)
     × ((d d′ : Kind) (g : List Ev) (k : List Sym) → Begins d c w → Begins d′ c′ w′ → stateAt s i ≡ live g (line d ∷ line d′ ∷ k) → stateAt s e ≡ live (g ++ (num x ∷ num y ∷ num x′ ∷ num y′ ∷ [])) k)
 FourTo s i c w c′ w′ (Cut p) =
     (d d′ : Kind) (g : List Ev) (k : List Sym) → Begins d c w → Begins d′ c′ w′ → stateAt s i ≡ live g (line d ∷ line d′ ∷ k) → Stuck s p

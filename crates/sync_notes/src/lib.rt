@@ -5,8 +5,11 @@ ghost use lib.ListN.{length};
 ghost use mathlib.Core.List.{List, _∷_};
 ghost use Rattle.grammar.specs.Machine.{Sym, rest, noteTail};
 ghost use Rattle.grammar.specs.Promises.{LettersTo, ItemTo, ListTo, Takes, WordTo};
-use grammar::{Class, Got, Num};
-use sync_numbers::{class_of, number};
+use grammar::Class;
+use grammar::Got;
+use grammar::Num;
+use sync_numbers::class_of;
+use sync_numbers::number;
 
 // The end of the letters that start at at.
 fn letters(s: &[u8], at: usize) -> usize

@@ -4,7 +4,9 @@ ghost use Prim.Native.Nat.{_≤_};
 ghost use lib.ListN.{length};
 ghost use Rattle.grammar.specs.Machine.{classOf};
 ghost use Rattle.grammar.specs.Promises.{DigitsTo, DashedTo, NumberTo, FieldTo};
-use grammar::{Class, Digits, Num};
+use grammar::Class;
+use grammar::Digits;
+use grammar::Num;
 
 pub fn class_of(b: u8) -> Class
     ensures { λ r. ⌜ r ≡ classOf b ⌝ }

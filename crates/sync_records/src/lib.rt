@@ -9,8 +9,10 @@ ghost use Rattle.definitions.specs.Record.{recordWords, laidOut};
 ghost use Rattle.definitions.specs.Text.{intra, whole, mb, wordsFor};
 ghost use Rattle.grammar.specs.Machine.{Sym, field, gap};
 ghost use Rattle.grammar.specs.Promises.{fields, RecordTo, StoresTo, TailTo, ThenStores, ThenWord, Within};
-use definitions::{Motion, Prediction};
-use grammar::{Got, Num};
+use definitions::Motion;
+use definitions::Prediction;
+use grammar::Got;
+use grammar::Num;
 use sync_notes::word_at;
 use sync_numbers::field;
 use write::write_record;
@@ -48,7 +50,7 @@ fn store_fields(s: &[u8], at: usize, n: usize, out: &mut [i16], from: usize) -> 
 }
 
 // After r, the bytes of w.
-fn then_word(s: &[u8], r: Got, w: &[u8]) -> Got
+pub fn then_word(s: &[u8], r: Got, w: &[u8]) -> Got
     requires { ⌜ Within (now s) r ⌝ }
     ensures { λ q. ⌜ ThenWord (now (s .entry)) (now (w .entry)) r q ⌝ }
 {
@@ -59,7 +61,7 @@ fn then_word(s: &[u8], r: Got, w: &[u8]) -> Got
 }
 
 // After r, n + 1 numbers and the closing bracket.
-fn then_fields(s: &[u8], r: Got, n: usize, out: &mut [i16], from: usize) -> Got
+pub fn then_fields(s: &[u8], r: Got, n: usize, out: &mut [i16], from: usize) -> Got
     requires { ⌜ Within (now s) r × (from + n < length (now out)) ⌝ }
     ensures { λ q. ⌜ ThenStores (now (s .entry)) (λ (k : List Sym). fields n k) (n + 1) r (now (out .entry)) from (now (out .exit)) q ⌝ }
 {
@@ -112,9 +114,25 @@ fn put_whole(out: &mut [i16], from: usize, six: [i16; 6])
     let y0 = six[3];
     let x1 = six[4];
     let y1 = six[5];
-    let list0 = Prediction { reference: r0, x: x0, y: y0 };
-    let list1 = Prediction { reference: r1, x: x1, y: y1 };
-    put_record(out, from, 1, Motion { list0: list0, list1: list1 });
+    let list0 = Prediction {
+        reference: r0,
+        x: x0,
+        y: y0,
+    };
+    let list1 = Prediction {
+        reference: r1,
+        x: x1,
+        y: y1,
+    };
+    put_record(
+        out,
+        from,
+        1,
+        Motion {
+            list0: list0,
+            list1: list1,
+        },
+    );
 }
 
 // What comes after the letter of a line (intra).
@@ -122,8 +140,20 @@ fn intra_tail(s: &[u8], at: usize, out: &mut [i16], from: usize) -> Got
     requires { ⌜ (at ≤ length (now s)) × (from + recordWords ≤ length (now out)) ⌝ }
     ensures { λ r. ⌜ TailTo intra (now (s .entry)) at (now (out .entry)) from (now (out .exit)) r ⌝ }
 {
-    let unused = Prediction { reference: -1, x: 0, y: 0 };
-    put_record(out, from, 0, Motion { list0: unused, list1: unused });
+    let unused = Prediction {
+        reference: -1,
+        x: 0,
+        y: 0,
+    };
+    put_record(
+        out,
+        from,
+        0,
+        Motion {
+            list0: unused,
+            list1: unused,
+        },
+    );
     word_at(s, at, b"ntra)\n")
 }
 

@@ -25,7 +25,7 @@ same-length c = search needs
 
 -- src/lib.rt:105:1
 returns : tie.Need-returns
-returns c = 
+returns c =
     let a = c .before .before .before .before .before .before .args in
     intra-tail (a .s .now) (a .at) (a .out .now) (a .from) _ (c .word-at .result) (c .before .before .before .put-record .ensures) (c .word-at .ensures)
 

@@ -83,7 +83,7 @@ same-length c = search needs
 
 -- src/lib.rt:131:1
 returns : tie.Need-returns
-returns c = 
+returns c =
     let o = c .before .before .before .before .before .before .before .before .before .before .before .before .before .before .before .before .before .before .before .before .before .before .before in
     let a = o .args in
     let v0 = stores-first (a .s .now) (a .at) (a .out .now) (a .from) (o .pre .0) in

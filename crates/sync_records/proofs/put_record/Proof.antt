@@ -36,7 +36,7 @@ same-length c = search needs
 
 -- src/lib.rt:93:1
 returns : tie.Need-returns
-returns c = 
+returns c =
     let a = c .before .before .before .args in
     record-put (a .out .now) (a .from) (c .before .before .before .pre) (a .kind) (a .m) _ (c .before .write-record .ensures)
 

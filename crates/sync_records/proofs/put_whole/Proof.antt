@@ -44,7 +44,7 @@ same-length c = search needs
 
 -- src/lib.rt:105:1
 returns : tie.Need-returns
-returns c = 
+returns c =
     let six = c .before .before .before .before .before .before .before .before .before .args .t3 in
     let q0 : toZ w16 (ofZ w16 (getD six 0 (pos 0))) ≡ getD six 0 (pos 0) = search needs in
     let q1 : toZ w16 (ofZ w16 (getD six 1 (pos 0))) ≡ getD six 1 (pos 0) = search needs in

@@ -26,7 +26,7 @@ same-length c = search needs
 
 -- src/lib.rt:152:9
 returns : tie.Need-returns
-returns c = 
+returns c =
     let o = c .before .before .before .before .before in
     let a = o .args in
     record-of (a .s .now) (a .at) (o .pre .0) intra (o .pre .1 ∙ c .before .before .before .if1 .taken) (a .out .now) (a .from) _ (c .before .intra-tail .result) (c .before .intra-tail .ensures)
@@ -45,7 +45,7 @@ same-length-2 c = search needs
 
 -- src/lib.rt:155:9
 returns-2 : tie.Need-returns-2
-returns-2 c = 
+returns-2 c =
     let o = c .before .before .before .before .before .before in
     let a = o .args in
     record-of (a .s .now) (a .at) (o .pre .0) whole (o .pre .1 ∙ c .before .before .before .if2 .taken) (a .out .now) (a .from) _ (c .before .whole-tail .result) (c .before .whole-tail .ensures)
@@ -64,19 +64,21 @@ same-length-3 c = search needs
 
 -- src/lib.rt:158:9
 returns-3 : tie.Need-returns-3
-returns-3 c = 
+returns-3 c =
     let o = c .before .before .before .before .before .before .before in
     let a = o .args in
     record-of (a .s .now) (a .at) (o .pre .0) mb (o .pre .1 ∙ c .before .before .before .if3 .taken) (a .out .now) (a .from) _ (c .before .mb-tail .result) (c .before .mb-tail .ensures)
 
 -- src/lib.rt:147:1
 returns-4 : tie.Need-returns-4
-returns-4 c = 
+returns-4 c =
     let o = c .before .before .before .before in
     let a = o .args in
-    let e = o .pre .1 in
-    (untouched (a .out .now) (a .from) 77, λ g k h.
-    entry-bad (a .s .now) (a .at) g k h (omega arith) (λ z. o .pre .2 (sym e ∙ z)) (λ z. c .before .before .if1 .left (sym e ∙ z)) (λ z. c .before .if2 .left (sym e ∙ z)) (λ z. c .if3 .left (sym e ∙ z)))
+    let e = o .pre .1 in (
+      untouched (a .out .now) (a .from) 77,
+      λ g k h.
+          entry-bad (a .s .now) (a .at) g k h (omega arith) (λ z. o .pre .2 (sym e ∙ z)) (λ z. c .before .before .if1 .left (sym e ∙ z)) (λ z. c .before .if2 .left (sym e ∙ z)) (λ z. c .if3 .left (sym e ∙ z)),
+    )
 
 pub record-line-spec : {M : Type 1} → statement M
 record-line-spec =

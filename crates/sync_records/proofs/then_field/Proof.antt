@@ -43,7 +43,7 @@ same-length c = search needs
 
 -- src/lib.rt:73:1
 returns : tie.Need-returns
-returns c = 
+returns c =
     let a = c .before .before .before .before .before .before .before .before .args in
     let z = c .before .v .given .0 .0 in
     let q : toZ w16 (ofZ w16 z) ≡ z = search needs in
@@ -53,14 +53,14 @@ returns c =
 
 -- src/lib.rt:73:1
 returns-2 : tie.Need-returns-2
-returns-2 c = 
+returns-2 c =
     let a = c .before .before .before .before .before .before .before .before .args in
     then-stores (a .s .now) _ 1 (a .r) (a .out .now) (a .from) (a .out .now) _ _ (c .before .before .before .before .before .r .given .1)
     (untouched (a .out .now) (a .from) 1, rw (c .before .v2 .given .1) at (c .before .before .before .field .ensures))
 
 -- src/lib.rt:73:1
 returns-3 : tie.Need-returns-3
-returns-3 c = 
+returns-3 c =
     let a = c .before .before .before .before .args in
     then-stores-bad (a .s .now) _ 1 (a .r) (a .out .now) (a .from) _ (c .before .r2 .given .1)
 

@@ -24,13 +24,13 @@ same-length c = search needs
 
 -- src/lib.rt:62:1
 returns : tie.Need-returns
-returns c = 
+returns c =
     let a = c .before .before .before .before .before .before .before .args in
     then-stores (a .s .now) _ _ (a .r) (a .out .now) (a .from) _ (c .before .store-fields .result) _ (c .before .before .before .before .r .given .1) (c .before .store-fields .ensures)
 
 -- src/lib.rt:62:1
 returns-2 : tie.Need-returns-2
-returns-2 c = 
+returns-2 c =
     let a = c .before .before .before .before .args in
     then-stores-bad (a .s .now) _ _ (a .r) (a .out .now) (a .from) _ (c .before .r2 .given .1)
 

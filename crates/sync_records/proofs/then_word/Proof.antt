@@ -20,13 +20,13 @@ enum-known-r-2 c = search needs
 
 -- src/lib.rt:51:1
 returns : tie.Need-returns
-returns c = 
+returns c =
     let a = c .before .before .before .before .before .before .args in
     then-word (a .s .now) (a .w .now) (a .r) (c .word-at .result) _ (c .before .before .r .given .1) (c .word-at .ensures)
 
 -- src/lib.rt:51:1
 returns-2 : tie.Need-returns-2
-returns-2 c = 
+returns-2 c =
     let a = c .before .before .before .before .before .args in
     then-word-bad (a .s .now) (a .w .now) (a .r) _ (c .before .r2 .given .1)
 
