@@ -11,3 +11,5 @@ pub mod Signs
 pub mod Storing
 pub mod Openings
 pub mod Whole
+pub mod Again
+pub mod Once

@@ -326,7 +326,7 @@ alive-can {p} h =
     after-text (runs-backward p start (g .fin) (g .text) fine-start (g .is))
     (λ n rs e t. record { rest = g .text; belongs = record { numbers = n; entries = rs; text = t } })
 
-runs-append : (t u : List ℕ) (c : Cfg) → runs c (t ++ u) ≡ runs (runs c t) u
+pub runs-append : (t u : List ℕ) (c : Cfg) → runs c (t ++ u) ≡ runs (runs c t) u
 unfolding runs
 runs-append [] u c = refl
 runs-append (b ∷ t) u c = runs-append t u (step c b)
@@ -366,7 +366,7 @@ same-nums (z ∷ g) (y ∷ h) rs qs e =
     let i : z ≡ y = cc in
     (cc, t .1)
 
-same-flat : (rs qs : List Entry) → flat rs ≡ flat qs → rs ≡ qs
+pub same-flat : (rs qs : List Entry) → flat rs ≡ flat qs → rs ≡ qs
 same-flat [] [] e = refl
 same-flat [] (q ∷ qs) e = apart e
 same-flat (r ∷ rs) [] e = apart (sym e)

@@ -1,12 +1,13 @@
 -- What the readers of the text promise, by the machine's states. `g` is what the machine was told so far, `k` what has yet to come after.
-use Prim.Native.Nat.{ℕ, zero, suc, _+_, _≤_, _<_}
+use Prim.Native.Nat.{ℕ, zero, suc, _+_, _*_, _≤_, _<_}
 use mathlib.Core.Path.{_≡_}
 use mathlib.Core.Bool.{Bool, true, false}
 use mathlib.Core.List.{List, [], _∷_, _++_}
-use lib.ListN.{length, getD}
+use lib.ListN.{length, getD, drop}
 use lib.Seq.{sets}
 use lib.IntN.{ℤ}
 use Rattle.definitions.specs.declared.Numbers.{Numbers}
+use Rattle.definitions.specs.Tests.{forEach}
 use Rattle.definitions.specs.Record.{recordWords}
 use Rattle.definitions.specs.Text.{Kind, letter, tailOf, RecordKind, kindOf, Entry, wordsFor, wordsOf, headNumbers, Text, BreaksAt}
 use Rattle.grammar.specs.declared.Got.{Got}
@@ -228,6 +229,17 @@ pub record Bottom (s : List ℕ) (i : ℕ) (g : List Ev) (entries : List Entry) 
   pub within : i ≤ length s
   pub begins : stateAt s i ≡ live g []
   pub ends : stateAt s (length s) ≡ live (g ++ flat entries) []
+
+-- the words have room for these record lines
+pub record Room (s : List ℕ) (i : ℕ) (words : List ℤ) : Type 0 where
+  pub told : List Ev
+  pub entries : List Entry
+  pub lines : Bottom s i told entries
+  pub fits : recordWords * length entries ≤ length words
+
+-- the record lines' words stand first, the rest unchanged
+abbrev pub AllStored : List ℕ → ℕ → List ℤ → List ℤ → Type 0
+AllStored s i old new = (g : List Ev) (entries : List Entry) → Bottom s i g entries → new ≡ forEach entries wordsOf ++ drop (recordWords * length entries) old
 
 pub record Judgement (s : List ℕ) (n : Numbers) (at count : ℕ) : Type 0 where
   pub entries : List Entry
