@@ -25,17 +25,25 @@ fn store_records(s: &[u8], at: usize, words: &mut [i16])
         let b = s[q];
         if b == b'n' {
             let t = note(s, q + 1);
-            let Got::At(e) = t else {
-                return;
-            };
-            p = e;
+            match t {
+                Got::At(e) => {
+                    p = e;
+                }
+                Got::Bad(_) => {
+                    return;
+                }
+            }
         } else {
             let t = record_line(s, q, b, words, from);
-            let Got::At(e) = t else {
-                return;
-            };
-            p = e;
-            from += RECORD_WORDS;
+            match t {
+                Got::At(e) => {
+                    p = e;
+                    from += RECORD_WORDS;
+                }
+                Got::Bad(_) => {
+                    return;
+                }
+            }
         }
     }
 }

@@ -1,0 +1,98 @@
+use borrow.Author.Needs.{needs}
+use Rattle.sync_text.proofs.read_text.Statement.{statement}
+use Rattle.sync_text.proofs.read_text.Tie as tie
+use Rattle.sync_text.proofs.read_text.Reads as reads
+use Rattle.sync_text.proofs.read_text.Lts as lts
+use Rattle.sync_read.proofs.judge.Reads as judge-reads
+use Rattle.sync_text.proofs.refused.Reads as refused-reads
+use Rattle.sync_text.proofs.store_records.Reads as store-records-reads
+
+-- src/lib.rt:62:23
+mul-if1 : tie.Need-mul-if1
+mul-if1 c = search needs
+
+-- src/lib.rt:63:9
+refused-requires : tie.Need-refused-requires
+refused-requires c κs = search needs
+
+-- src/lib.rt:63:9
+returns : tie.Need-returns
+returns c = ?
+
+-- src/lib.rt:66:9
+refused-requires-2 : tie.Need-refused-requires-2
+refused-requires-2 c κs = search needs
+
+-- src/lib.rt:66:9
+returns-2 : tie.Need-returns-2
+returns-2 c = ?
+
+-- src/lib.rt:68:9
+judge-requires : tie.Need-judge-requires
+judge-requires c κs = search needs
+
+-- src/lib.rt:70:23
+enum-known-t : tie.Need-enum-known-t
+enum-known-t c = search needs
+
+-- src/lib.rt:72:17
+refused-requires-3 : tie.Need-refused-requires-3
+refused-requires-3 c κs = search needs
+
+-- src/lib.rt:72:17
+returns-3 : tie.Need-returns-3
+returns-3 c = ?
+
+-- src/lib.rt:74:13
+store-records-requires : tie.Need-store-records-requires
+store-records-requires c κs = ?
+
+-- src/lib.rt:75:65
+cast-t16 : tie.Need-cast-t16
+cast-t16 c = search needs
+
+-- src/lib.rt:77:23
+enum-known-t-2 : tie.Need-enum-known-t-2
+enum-known-t-2 c = search needs
+
+-- src/lib.rt:77:40
+cast-refused : tie.Need-cast-refused
+cast-refused c = ?
+
+-- src/lib.rt:77:29
+refused-requires-4 : tie.Need-refused-requires-4
+refused-requires-4 c κs = search needs
+
+-- src/lib.rt:59:1
+same-length : tie.Need-same-length
+same-length c = search needs
+
+-- src/lib.rt:59:1
+returns-4 : tie.Need-returns-4
+returns-4 c = ?
+
+-- src/lib.rt:59:1
+returns-5 : tie.Need-returns-5
+returns-5 c = ?
+
+pub read-text-spec : {M : Type 1} → statement M
+read-text-spec =
+    tie.close
+    (tie.spec
+    mul-if1
+    refused-requires
+    returns
+    refused-requires-2
+    returns-2
+    judge-requires
+    enum-known-t
+    refused-requires-3
+    returns-3
+    store-records-requires
+    cast-t16
+    enum-known-t-2
+    cast-refused
+    refused-requires-4
+    same-length
+    returns-4
+    returns-5)
