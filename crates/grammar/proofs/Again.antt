@@ -187,7 +187,7 @@ module _ (s : List ℕ) (p : ℕ) (g : List Ev) (from : ℕ) (old new : List ℤ
       let t : take from new ≡ a = ap (take from) (h .words) ∙ take-at a (drop from old) from m in
       let r : drop from new ≡ drop from old = ap (drop from) (h .words) ∙ drop-at a (drop from old) from m in
       let d : drop (from + length b) new ≡ drop (from + recordWords) old =
-          sym (drop-drop (length b) from new) ∙ ap (drop (length b)) r ∙ drop-drop (length b) from old ∙ ap (λ (j : ℕ). drop (from + j) old) n in
+      sym (drop-drop (length b) from new) ∙ ap (drop (length b)) r ∙ drop-drop (length b) from old ∙ ap (λ (j : ℕ). drop (from + j) old) n in
       let j : forEach (h .done ++ (one ∷ [])) wordsOf ≡ a ++ b = joined-each wordsOf (h .done) (one ∷ []) ∙ ap (λ (o : List ℤ). a ++ o) (append-nil b) in
       record {
         done = h .done ++ (one ∷ []);

@@ -20,8 +20,8 @@ use Rattle.grammar.proofs.Runs.{one-reading}
 goes-shorter : (t : List ℕ) (m n : ℕ) → m ≤ n → CanGoOn (take n t) → CanGoOn (take m t)
 goes-shorter t m n l h =
     let e : take n t ++ h .rest ≡ take m t ++ (drop m (take n t) ++ h .rest) =
-        ap (λ (o : List ℕ). o ++ h .rest) (sym (take-append-drop m (take n t)) ∙ ap (λ (o : List ℕ). o ++ drop m (take n t)) (take-take m n t l))
-        ∙ append-assoc (take m t) (drop m (take n t)) (h .rest) in
+    ap (λ (o : List ℕ). o ++ h .rest) (sym (take-append-drop m (take n t)) ∙ ap (λ (o : List ℕ). o ++ drop m (take n t)) (take-take m n t l))
+    ∙ append-assoc (take m t) (drop m (take n t)) (h .rest) in
     record { rest = drop m (take n t) ++ h .rest; belongs = subst Belongs e (h .belongs) }
 
 -- a text does not go on after its place

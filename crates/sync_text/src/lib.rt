@@ -2,15 +2,20 @@
 ghost use mathlib.Core.Path.{_≡_};
 ghost use Rattle.definitions.specs.Text.{TextAnswer};
 ghost use Rattle.grammar.specs.Promises.{AllStored, Room};
-use definitions::{Refusal, TextRead, TextReply};
-use grammar::{Got, Judged};
+use definitions::Refusal;
+use definitions::TextRead;
+use definitions::TextReply;
+use grammar::Got;
+use grammar::Judged;
 use sync_notes::note;
 use sync_read::judge;
 use sync_records::record_line;
 
 // A record's words; the records whose words are lent; and the bytes of the longest text.
 const RECORD_WORDS: usize = 77;
+
 const RECORDS: usize = 99;
+
 const BYTES: usize = 65536;
 
 // The words of the record lines of a text that was judged, from where they begin. No line is bad any more.
@@ -51,7 +56,11 @@ fn store_records(s: &[u8], at: usize, words: &mut [i16])
 fn refused(number: u32, place: u32) -> TextReply
     ensures { λ r. ⌜ r ≡ TextReply.Refused (record { number = number; place = place; rule = 0 }) ⌝ }
 {
-    TextReply::Refused(Refusal { number: number, place: place, rule: 0 })
+    TextReply::Refused(Refusal {
+        number: number,
+        place: place,
+        rule: 0,
+    })
 }
 
 // Text: the bytes, and the words of 99 records to write. It tests 6, then 10 by length, 9, and 10 by lines, and refused leaves every word. Else it
@@ -72,7 +81,10 @@ pub fn read_text(bytes: &[u8], words: &mut [i16]) -> TextReply
                 return refused(10, 0);
             }
             store_records(bytes, at, words);
-            TextReply::Read(TextRead { numbers: numbers, lines: lines as u32 })
+            TextReply::Read(TextRead {
+                numbers: numbers,
+                lines: lines as u32,
+            })
         }
         Judged::Wrong(p) => refused(9, p as u32),
     }

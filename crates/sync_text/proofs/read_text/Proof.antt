@@ -1,3 +1,6 @@
+use Rattle.sync_text.proofs.Reply.{too-many, has-room, text-read}
+use Rattle.definitions.specs.Text.{wrongWords, tooLong, broken}
+use native.Mathlib.Omega.{arith}
 use borrow.Author.Needs.{needs}
 use Rattle.sync_text.proofs.read_text.Statement.{statement}
 use Rattle.sync_text.proofs.read_text.Tie as tie
@@ -17,7 +20,7 @@ refused-requires c κs = search needs
 
 -- src/lib.rt:63:9
 returns : tie.Need-returns
-returns c = ?
+returns c = rw (c .refused .ensures) (wrongWords (c .before .if1 .taken))
 
 -- src/lib.rt:66:9
 refused-requires-2 : tie.Need-refused-requires-2
@@ -25,7 +28,7 @@ refused-requires-2 c κs = search needs
 
 -- src/lib.rt:66:9
 returns-2 : tie.Need-returns-2
-returns-2 c = ?
+returns-2 c = rw (c .refused2 .ensures) (tooLong (c .before .before .if1 .left) (c .before .if2 .taken))
 
 -- src/lib.rt:68:9
 judge-requires : tie.Need-judge-requires
@@ -41,11 +44,21 @@ refused-requires-3 c κs = search needs
 
 -- src/lib.rt:72:17
 returns-3 : tie.Need-returns-3
-returns-3 c = ?
+returns-3 c =
+    let a = c .before .before .before .before .before .before .before .before .before .args in
+    let j = rw (c .before .before .before .t .given .1) at (c .before .before .before .before .before .judge .ensures) in
+    let e = c .before .before .before .before .before .before .before .if1 .left in
+    let l = c .before .before .before .before .before .before .if2 .left in
+    rw (c .refused3 .ensures) (too-many (a .bytes .now) (a .words .now) _ _ _ e l j (c .before .if3 .taken))
 
 -- src/lib.rt:74:13
 store-records-requires : tie.Need-store-records-requires
-store-records-requires c κs = ?
+store-records-requires c κs =
+    let a = c .before .before .before .before .before .before .before .before .before .args in
+    let j = rw (c .before .before .before .t .given .1) at (c .before .before .before .before .before .judge .ensures) in
+    let e = c .before .before .before .before .before .before .before .if1 .left in
+    let l = c .before .before .before .before .before .before .if2 .left in
+    has-room (a .bytes .now) (a .words .now) _ _ _ e l j (c .before .if3 .left)
 
 -- src/lib.rt:75:65
 cast-t16 : tie.Need-cast-t16
@@ -57,7 +70,11 @@ enum-known-t-2 c = search needs
 
 -- src/lib.rt:77:40
 cast-refused : tie.Need-cast-refused
-cast-refused c = ?
+cast-refused c =
+    let j = rw (c .before .t2 .given .1) at (c .before .before .before .judge .ensures) in
+    let l = c .before .before .before .before .if2 .left in
+    let w = j .within in
+    search needs
 
 -- src/lib.rt:77:29
 refused-requires-4 : tie.Need-refused-requires-4
@@ -69,11 +86,21 @@ same-length c = search needs
 
 -- src/lib.rt:59:1
 returns-4 : tie.Need-returns-4
-returns-4 c = ?
+returns-4 c =
+    let a = c .before .before .before .before .before .before .before .before .before .before .before .args in
+    let j = rw (c .before .before .before .before .before .t .given .1) at (c .before .before .before .before .before .before .before .judge .ensures) in
+    let e = c .before .before .before .before .before .before .before .before .before .if1 .left in
+    let l = c .before .before .before .before .before .before .before .before .if2 .left in
+    text-read (a .bytes .now) (a .words .now) _ _ _ e l j (c .before .before .before .if3 .left) _ (c .before .store-records .ensures)
 
 -- src/lib.rt:59:1
 returns-5 : tie.Need-returns-5
-returns-5 c = ?
+returns-5 c =
+    let a = c .before .before .before .before .before .before .before .before .args in
+    let j = rw (c .before .before .t2 .given .1) at (c .before .before .before .before .judge .ensures) in
+    let e = c .before .before .before .before .before .before .if1 .left in
+    let l = c .before .before .before .before .before .if2 .left in
+    rw (c .refused4 .ensures) (broken e l j)
 
 pub read-text-spec : {M : Type 1} → statement M
 read-text-spec =

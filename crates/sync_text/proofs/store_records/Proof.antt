@@ -31,7 +31,7 @@ add-q c = search needs
 
 -- src/lib.rt:25:17
 shared-slice-read-b : tie.Need-shared-slice-read-b Inv-loop μ-loop
-shared-slice-read-b c = 
+shared-slice-read-b c =
     let a = c .before .before .before .before .args in
     let r = c .before .before .before .before .pre in
     let l = c .before .before .loop in
@@ -42,7 +42,7 @@ shared-slice-read-b c =
 
 -- src/lib.rt:27:29
 add-note : tie.Need-add-note Inv-loop μ-loop
-add-note c = 
+add-note c =
     let a = c .before .before .before .before .before .args in
     let r = c .before .before .before .before .before .pre in
     let l = c .before .before .before .loop in
@@ -54,7 +54,7 @@ add-note c =
 
 -- src/lib.rt:27:17
 note-requires : tie.Need-note-requires Inv-loop μ-loop
-note-requires c κs = 
+note-requires c κs =
     let a = c .before .before .before .before .before .args in
     let r = c .before .before .before .before .before .pre in
     let l = c .before .before .before .loop in
@@ -70,25 +70,28 @@ enum-known-t c = search needs
 
 -- src/lib.rt:23:5
 loop-less : tie.Need-loop-less Inv-loop μ-loop
-loop-less c = 
+loop-less c =
     let l = c .before .before .before .before .before .before .before .loop in
     let v = rw (c .before .t .given .1) at (c .before .before .before .note .ensures) in
     omega arith
 
 -- src/lib.rt:23:5
 loop-again : tie.Need-loop-again Inv-loop μ-loop
-loop-again c = 
+loop-again c =
     let a = c .before .before .before .before .before .before .before .before .before .args in
     let r = c .before .before .before .before .before .before .before .before .before .pre in
     let l = c .before .before .before .before .before .before .before .loop in
     let t = c .before .before .before .before .before .before .loop-test .taken in
     let f = r .told ++ flat (r .entries) in
-    let v = rw (c .before .t .given .1) at (c .before .before .before .note .ensures) in
-    (v .1, l .inv .1, λ g h.
-    let w = l .inv .2 g h in
-    let o = line-begins (a .s .now) f (r .lines .ends) (l .p) (g ++ flat (w .done)) (w .state) t in
-    let n = entry-note (a .s .now) (l .p + 1) (g ++ flat (w .done)) [] o (letter-there (a .s .now) f (r .lines .ends) (l .p) (g ++ flat (w .done)) (w .state) t) (c .before .before .before .before .if1 .taken) in
-    held-note (a .s .now) (l .p) g (l .from) (a .words .now) (l .words) w _ (v .2 (g ++ flat (w .done)) [] n))
+    let v = rw (c .before .t .given .1) at (c .before .before .before .note .ensures) in (
+      v .1,
+      l .inv .1,
+      λ g h.
+          let w = l .inv .2 g h in
+          let o = line-begins (a .s .now) f (r .lines .ends) (l .p) (g ++ flat (w .done)) (w .state) t in
+          let n = entry-note (a .s .now) (l .p + 1) (g ++ flat (w .done)) [] o (letter-there (a .s .now) f (r .lines .ends) (l .p) (g ++ flat (w .done)) (w .state) t) (c .before .before .before .before .if1 .taken) in
+          held-note (a .s .now) (l .p) g (l .from) (a .words .now) (l .words) w _ (v .2 (g ++ flat (w .done)) [] n),
+    )
 
 -- src/lib.rt:33:21
 enum-told : tie.Need-enum-told Inv-loop μ-loop
@@ -100,7 +103,7 @@ same-length c = c .before .before .before .before .before .before .loop .inv .1
 
 -- src/lib.rt:33:21
 returns : tie.Need-returns Inv-loop μ-loop
-returns c = 
+returns c =
     let a = c .before .before .before .before .before .before .before .before .args in
     let r = c .before .before .before .before .before .before .before .before .pre in
     let l = c .before .before .before .before .before .before .loop in
@@ -116,7 +119,7 @@ returns c =
 
 -- src/lib.rt:37:17
 record-line-requires : tie.Need-record-line-requires Inv-loop μ-loop
-record-line-requires c κs = 
+record-line-requires c κs =
     let a = c .before .before .before .before .before .before .args in
     let r = c .before .before .before .before .before .before .pre in
     let l = c .before .before .before .before .loop in
@@ -131,7 +134,7 @@ enum-known-t-2 c = search needs
 
 -- src/lib.rt:41:21
 add-from : tie.Need-add-from Inv-loop μ-loop
-add-from c = 
+add-from c =
     let a = c .before .before .before .before .before .before .before .before .before .before .before .args in
     let r = c .before .before .before .before .before .before .before .before .before .before .before .pre in
     let l = c .before .before .before .before .before .before .before .before .before .loop in
@@ -143,7 +146,7 @@ add-from c =
 
 -- src/lib.rt:23:5
 loop-less-2 : tie.Need-loop-less-2 Inv-loop μ-loop
-loop-less-2 c = 
+loop-less-2 c =
     let l = c .before .before .before .before .before .before .before .before .before .loop in
     let v = rw (c .before .t2 .given .1) at (c .before .before .before .before .record-line .ensures) in
     let u = v .up in
@@ -152,7 +155,7 @@ loop-less-2 c =
 
 -- src/lib.rt:23:5
 loop-again-2 : tie.Need-loop-again-2 Inv-loop μ-loop
-loop-again-2 c = 
+loop-again-2 c =
     let a = c .before .before .before .before .before .before .before .before .before .before .before .args in
     let r = c .before .before .before .before .before .before .before .before .before .before .before .pre in
     let l = c .before .before .before .before .before .before .before .before .before .loop in
@@ -160,11 +163,14 @@ loop-again-2 c =
     let f = r .told ++ flat (r .entries) in
     let v = rw (c .before .t2 .given .1) at (c .before .before .before .before .record-line .ensures) in
     let k : l .from + recordWords ≤ length (l .words) =
-        let w = l .inv .2 (r .told) (r .lines .begins) in omega (arith, held-room (a .s .now) (l .p) (r .told) (l .from) (a .words .now) (l .words) w (r .entries) (r .lines .ends) t (c .before .before .before .before .before .before .if1 .left), r .fits, l .inv .1) in
-    (v .within, c .before .before .before .words .given ∙ l .inv .1, λ g h.
-    let w = l .inv .2 g h in
-    let o = line-begins (a .s .now) f (r .lines .ends) (l .p) (g ++ flat (w .done)) (w .state) t in
-    held-more (a .s .now) (l .p) g (l .from) (a .words .now) (l .words) w _ (v .one) _ k (v .many) (v .stored) (v .so (g ++ flat (w .done)) [] o))
+    let w = l .inv .2 (r .told) (r .lines .begins) in omega (arith, held-room (a .s .now) (l .p) (r .told) (l .from) (a .words .now) (l .words) w (r .entries) (r .lines .ends) t (c .before .before .before .before .before .before .if1 .left), r .fits, l .inv .1) in (
+      v .within,
+      c .before .before .before .words .given ∙ l .inv .1,
+      λ g h.
+          let w = l .inv .2 g h in
+          let o = line-begins (a .s .now) f (r .lines .ends) (l .p) (g ++ flat (w .done)) (w .state) t in
+          held-more (a .s .now) (l .p) g (l .from) (a .words .now) (l .words) w _ (v .one) _ k (v .many) (v .stored) (v .so (g ++ flat (w .done)) [] o),
+    )
 
 -- src/lib.rt:44:21
 enum-told-2 : tie.Need-enum-told-2 Inv-loop μ-loop
@@ -176,7 +182,7 @@ same-length-2 c = c .before .before .words .given ∙ c .before .before .before 
 
 -- src/lib.rt:44:21
 returns-2 : tie.Need-returns-2 Inv-loop μ-loop
-returns-2 c = 
+returns-2 c =
     let a = c .before .before .before .before .before .before .before .before .before .before .args in
     let r = c .before .before .before .before .before .before .before .before .before .before .pre in
     let l = c .before .before .before .before .before .before .before .before .loop in
@@ -195,7 +201,7 @@ same-length-3 c = c .before .loop .inv .1
 
 -- src/lib.rt:17:1
 returns-3 : tie.Need-returns-3 Inv-loop μ-loop
-returns-3 c = 
+returns-3 c =
     let a = c .before .before .before .args in
     let l = c .before .loop in
     λ g es b. held-all (a .s .now) (l .p) g (l .from) (a .words .now) (l .words) (l .inv .2 g (b .begins)) es (b .ends) (c .loop-test .left) (l .inv .0)
