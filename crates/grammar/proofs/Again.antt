@@ -1,8 +1,8 @@
 -- A text that was judged is read again: each reader reaches the end of what it reads, and the words of all record lines have room.
 use Prim.Native.Nat.{ℕ, suc, _≤_, _<_, _+_, _*_}
-use mathlib.Core.Path.{_≡_, refl, sym, _∙_, ap, subst}
+use mathlib.Core.Path.{_≡_, refl, sym, _∙_, ap}
 use mathlib.Core.Bool.{Bool, true, false}
-use mathlib.Core.Logic.{_⊎_, inl, inr, ⊎-elim}
+use mathlib.Core.Logic.{⊎-elim}
 use mathlib.Core.List.{List, [], _∷_, _++_, append-assoc, append-nil}
 use native.Mathlib.Omega.{arith}
 use native.Mathlib.Nat.{eq-or-lt-of-le}
@@ -15,11 +15,10 @@ use Rattle.definitions.specs.Tests.{forEach}
 use Rattle.definitions.specs.Record.{recordWords}
 use Rattle.definitions.specs.Text.{letter, RecordKind, intra, whole, mb, kindOf, Entry, wordsOf}
 use Rattle.definitions.proofs.RecordLists.{joined-each}
-use Rattle.grammar.specs.declared.Got.the-variants.{At, Bad}
-use Rattle.grammar.specs.Machine.{Sym, entry, Ev, num, rec, nums, flat, Delta, halt, go, emit, stepK, noteTail, Cfg, dead, live, enter, step, runs, start, stateAt, Waiting, Alive}
-use Rattle.grammar.specs.Promises.{Stuck, Takes, tail, RecordRead, RecordTo, Ended, Bottom, Room, AllStored}
+use Rattle.grammar.specs.Machine.{Sym, entry, Ev, num, rec, nums, flat, Delta, halt, go, emit, stepK, Cfg, dead, live, enter, step, runs, start, stateAt, Waiting}
+use Rattle.grammar.specs.Promises.{Stuck, tail, Ended}
 use Rattle.grammar.proofs.Runs.{runs-append, same-flat}
-use Rattle.grammar.proofs.Openings.{entry-end, entry-note, entry-go, entry-bad, base-go, base-bad, stuck-ended, told-one-more}
+use Rattle.grammar.proofs.Openings.{entry-end, entry-go, entry-bad, base-go, base-bad, stuck-ended, told-one-more}
 
 -- ---- what the machine was told only grows
 record Grown (g h : List Ev) : Type 0 where

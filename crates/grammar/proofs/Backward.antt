@@ -1,19 +1,18 @@
 -- What may come after the step by b may, after b, come after the symbol; and each symbol leaves something to come.
-use Prim.Native.Nat.{ℕ, zero, suc, _≤_, _<_, _+_, _*_, _-_}
-use mathlib.Core.Path.{_≡_, refl, sym, _∙_, ap, subst}
+use Prim.Native.Nat.{ℕ, zero, suc, _≤_, _+_, _*_, _-_}
+use mathlib.Core.Path.{_≡_, refl, _∙_, ap}
 use mathlib.Core.Bool.{Bool, true, false, cond}
-use mathlib.Core.Logic.{_⊎_, inl, inr, ⊎-elim, ⊎-map}
+use mathlib.Core.Logic.{inl, inr}
 use mathlib.Core.List.{List, [], _∷_, _++_, append-assoc}
-use native.Mathlib.Nat.{eq-or-lt-of-le}
 use native.Mathlib.Omega.{arith}
 use lib.IntN.{ℤ, pos, negsuc}
 use lib.Dec.{leb, eqb}
-use borrow.Author.Tests.{leb-true, eqb-true}
+use borrow.Author.Tests.{eqb-true}
 use Rattle.grammar.specs.declared.Class.{Class}
 use Rattle.grammar.specs.declared.Class.the-variants.{Alpha, Nought, Nonzero, Dash, Open, Close, Space, Other}
-use Rattle.definitions.specs.Text.{Letter, Digit, All, none, each, Word, word, valued, Plain, nought, digits, Number, unsigned, negative, Rest, close, item, Listed, listed, Simple, isWord, isNumber, Item, Note, note, Notes, more, Part, byte, spaced, ended, Form, nothing, isByte, isSpaced, isEnded, Kind, baseLine, scaledLine, atLine, fullLine, intraLine, wholeLine, mbLine, letter, tailOf, LineOf, RecordKind, intra, whole, mb, kindOf}
-use Rattle.grammar.specs.Machine.{Follow, gap, shut, inList, Sym, lit, first, letters, rest, field, dashed, zeroed, figures, line, opened, entry, Ev, num, rec, Delta, halt, go, emit, limit, signed, choose, classOf, shuts, gaps, grow, opens, noteTail, syms, δ, nums}
-use Rattle.grammar.proofs.Cats.{Cat, cat, cat-cons, cons-cat, cat-either, cat-empty, cat-with, cat-map, cat-right, cat-left, no-cons, heads, tails}
+use Rattle.definitions.specs.Text.{Letter, Digit, none, each, word, nought, digits, Number, unsigned, negative, Rest, close, item, listed, Simple, isWord, isNumber, Item, Note, note, more, Part, byte, spaced, ended, Form, nothing, isByte, isSpaced, isEnded, Kind, letter, tailOf, RecordKind, intra, whole, mb, kindOf}
+use Rattle.grammar.specs.Machine.{Follow, gap, shut, inList, Sym, lit, first, letters, rest, field, dashed, zeroed, figures, line, opened, entry, Ev, rec, Delta, halt, limit, signed, choose, classOf, shuts, gaps, grow, opens, syms, δ, nums}
+use Rattle.grammar.proofs.Cats.{Cat, cons-cat, cat-with}
 use Rattle.grammar.proofs.Bytes.{class-in}
 use Rattle.grammar.proofs.Forward.{valued-grows}
 use Rattle.grammar.proofs.Residue.{Lang, Lit, Gives, Fol, Figures, Line, RecLine, EntryOf, L, Seq, Next}
@@ -69,7 +68,7 @@ module _ {P B : List ℕ → Type 0} {b : ℕ} {u : List ℕ} where
         cut = cc (append-assoc (h .left) (h .then .left) (h .then .right));
       }
 
-pub note-close : {B : List ℕ → Type 0} {b : ℕ} {u : List ℕ} → b ≡ 110 → Lit 111 (Lit 116 (Lit 101 (Cat (Rest (Item 7)) (Lit 10 B)))) u → Cat Note B (40 ∷ b ∷ u)
+note-close : {B : List ℕ → Type 0} {b : ℕ} {u : List ℕ} → b ≡ 110 → Lit 111 (Lit 116 (Lit 101 (Cat (Rest (Item 7)) (Lit 10 B)))) u → Cat Note B (40 ∷ b ∷ u)
 note-close e h =
     let r = h .then .then .then in
     record {
@@ -80,7 +79,7 @@ note-close e h =
       cut = cc (h .is, h .then .is, h .then .then .is, r .cut, r .then .is, append-assoc (r .left) (10 ∷ []) (r .then .more));
     }
 
-pub note-line : {k : Kind} {B : Lang} {ws : List Ev} {u : List ℕ} → Cat Note (Line k B ws) u → Line k B ws u
+note-line : {k : Kind} {B : Lang} {ws : List Ev} {u : List ℕ} → Cat Note (Line k B ws) u → Line k B ws u
 note-line h =
     let n = h .then in
     record {
@@ -143,7 +142,7 @@ pub formed-line : {k : Kind} {B : Lang} {ws : List Ev} {b : ℕ} {u : List ℕ} 
 formed-line {k} e f =
     record { before = []; here = 40 ∷ letter k ∷ f .here; after = f .after; found = f .found; others = f .others; notes = none; this = isByte (isByte (f .this)); gives = f .gives; then = f .then; cut = cc (e, f .cut) }
 
-pub formed-rec : {B : Lang} {ws : List Ev} {b : ℕ} {u : List ℕ} (r : RecordKind) → b ≡ letter (kindOf r) → Gives (rec r) (Seq (syms (tailOf (kindOf r))) B) ws u → RecLine B ws (40 ∷ b ∷ u)
+formed-rec : {B : Lang} {ws : List Ev} {b : ℕ} {u : List ℕ} (r : RecordKind) → b ≡ letter (kindOf r) → Gives (rec r) (Seq (syms (tailOf (kindOf r))) B) ws u → RecLine B ws (40 ∷ b ∷ u)
 formed-rec {B} {ws} {b} {u} r e h =
     let f = seq-form (tailOf (kindOf r)) B (h .others) u (h .then) in
     record {

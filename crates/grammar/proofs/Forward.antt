@@ -1,19 +1,17 @@
 -- If a text that may come after a symbol begins with b, then what is left of it may come after the step by b.
-use Prim.Native.Nat.{ℕ, zero, suc, _≤_, _<_, _+_, _*_, _-_}
-use mathlib.Core.Path.{_≡_, refl, sym, _∙_, ap, subst}
-use mathlib.Core.Bool.{Bool, true, false, cond}
+use Prim.Native.Nat.{ℕ, zero, suc, _≤_, _+_, _*_, _-_}
+use mathlib.Core.Path.{_≡_, refl, sym, _∙_, ap}
+use mathlib.Core.Bool.{Bool, false}
 use mathlib.Core.Logic.{_⊎_, inl, inr, ⊎-elim, ⊎-map}
 use mathlib.Core.List.{List, [], _∷_, _++_, append-assoc}
 use native.Mathlib.Nat.{eq-or-lt-of-le}
 use native.Mathlib.Omega.{arith}
-use lib.IntN.{ℤ, pos, negsuc}
-use lib.Dec.{leb, eqb}
-use borrow.Author.Tests.{le-leb, lt-leb, eq-eqb, ne-eqb}
-use Rattle.grammar.specs.declared.Class.{Class}
-use Rattle.grammar.specs.declared.Class.the-variants.{Alpha, Nought, Nonzero, Dash, Open, Close, Space, Other}
-use Rattle.definitions.specs.Text.{Letter, Digit, All, none, each, Word, word, valued, Plain, nought, digits, Number, unsigned, negative, Rest, close, item, Listed, listed, Simple, isWord, isNumber, Item, Note, note, Notes, more, Part, byte, spaced, ended, Form, nothing, isByte, isSpaced, isEnded, Kind, baseLine, scaledLine, atLine, fullLine, intraLine, wholeLine, mbLine, letter, tailOf, LineOf, RecordKind, intra, whole, mb, kindOf}
-use Rattle.grammar.specs.Machine.{Follow, gap, shut, inList, Sym, lit, first, letters, rest, field, dashed, zeroed, figures, line, opened, entry, Ev, num, rec, Delta, halt, go, emit, limit, signed, choose, classOf, shuts, gaps, grow, opens, noteTail, syms, δ, nums}
-use Rattle.grammar.proofs.Cats.{Cat, cat, cat-cons, cons-cat, cat-either, cat-empty, cat-with, cat-map, cat-right, cat-left, no-cons, heads, tails}
+use lib.IntN.{ℤ, pos}
+use lib.Dec.{eqb}
+use borrow.Author.Tests.{le-leb, eq-eqb, ne-eqb}
+use Rattle.definitions.specs.Text.{All, none, each, Word, word, valued, Plain, nought, digits, Number, unsigned, negative, Rest, close, item, Listed, listed, Simple, isWord, isNumber, Item, Note, note, Notes, more, Part, byte, Form, nothing, isByte, isSpaced, isEnded, Kind, baseLine, scaledLine, atLine, fullLine, intraLine, wholeLine, mbLine, letter, tailOf, RecordKind, intra, whole, mb, kindOf}
+use Rattle.grammar.specs.Machine.{Follow, gap, shut, inList, Sym, lit, first, letters, rest, field, dashed, zeroed, figures, line, opened, entry, Ev, rec, Delta, halt, go, limit, signed, choose, classOf, shuts, gaps, grow, syms, δ, nums}
+use Rattle.grammar.proofs.Cats.{Cat, cat-cons, cat-either, cat-empty, cat-with, cat-right, no-cons, heads, tails}
 use Rattle.grammar.proofs.Bytes.{class-alpha, class-nonzero, class-nought, class-dash, class-open, class-close, class-space}
 use Rattle.grammar.proofs.Residue.{Lang, Lit, Gives, Fol, Figures, Line, RecLine, EntryOf, L, Seq, Next}
 
@@ -25,14 +23,14 @@ rest-none {P} h = by-text h refl
     by-text close e = no-cons e
     by-text (item p r) e = no-cons e
 
-pub rest-cons : {P : List ℕ → Type 0} {C : Type 0} {b : ℕ} {u : List ℕ} → Rest P (b ∷ u) → (b ≡ 41 → u ≡ [] → C) → (b ≡ 32 → Cat P (Rest P) u → C) → C
+rest-cons : {P : List ℕ → Type 0} {C : Type 0} {b : ℕ} {u : List ℕ} → Rest P (b ∷ u) → (b ≡ 41 → u ≡ [] → C) → (b ≡ 32 → Cat P (Rest P) u → C) → C
 rest-cons {P} {C} {b} {u} h f g = by-text h refl
   where
     by-text : {t : List ℕ} → Rest P t → b ∷ u ≡ t → C
     by-text close e = f (heads e) (tails e)
     by-text (item {w = w} {t = t} p r) e = g (heads e) (record { left = w; right = t; is = p; then = r; cut = tails e })
 
-pub rest-split : {P B : List ℕ → Type 0} {C : Type 0} {b : ℕ} {u : List ℕ} → Cat (Rest P) B (b ∷ u) → (b ≡ 41 → B u → C) → (b ≡ 32 → Cat P (Cat (Rest P) B) u → C) → C
+rest-split : {P B : List ℕ → Type 0} {C : Type 0} {b : ℕ} {u : List ℕ} → Cat (Rest P) B (b ∷ u) → (b ≡ 41 → B u → C) → (b ≡ 32 → Cat P (Cat (Rest P) B) u → C) → C
 rest-split h f g =
     let k = cat-cons rest-none h in
     rest-cons (k .is) (λ e n. f e (cat-empty k n)) (λ e n. g e (cat-right (cat-with k n)))
@@ -145,7 +143,7 @@ module _ (B : Lang) (ws : List Ev) (b : ℕ) (u : List ℕ) where
   figures-end sg a f n e h = fol-forward f (signed sg a) _ _ _ _ _ (rw e h)
 
 -- a pattern's text, and after it B
-pub form-seq : {ps : List Part} {vs : List ℤ} {t : List ℕ} → Form ps vs t → (B : Lang) (others : List Ev) (r : List ℕ) → B others r → Seq (syms ps) B (nums vs others) (t ++ r)
+form-seq : {ps : List Part} {vs : List ℤ} {t : List ℕ} → Form ps vs t → (B : Lang) (others : List Ev) (r : List ℕ) → B others r → Seq (syms ps) B (nums vs others) (t ++ r)
 form-seq nothing B os r h = h
 form-seq (isByte {t = t} f) B os r h = record { more = t ++ r; is = refl; then = form-seq f B os r h }
 form-seq (isSpaced {z = z} {w = w} {vs = vs} {t = t} n f) B os r h =

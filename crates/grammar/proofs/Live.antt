@@ -1,23 +1,22 @@
 -- Each symbol leaves something to come, and never nothing; and a step keeps the digits read so far within their limit.
-use Prim.Native.Nat.{ℕ, zero, suc, _≤_, _<_, _+_, _*_, _-_}
-use mathlib.Core.Path.{_≡_, refl, sym, _∙_, ap, subst}
+use Prim.Native.Nat.{ℕ, zero, suc, _≤_, _-_}
+use mathlib.Core.Path.{_≡_, refl}
 use mathlib.Core.Bool.{Bool, true, false, cond}
-use mathlib.Core.Logic.{_⊎_, inl, inr, ⊎-elim, ⊎-map}
-use mathlib.Core.List.{List, [], _∷_, _++_, append-assoc}
-use native.Mathlib.Nat.{eq-or-lt-of-le}
+use mathlib.Core.Logic.{inl, inr}
+use mathlib.Core.List.{List, [], _∷_, _++_}
 use native.Mathlib.Omega.{arith}
 use lib.IntN.{ℤ, pos, negsuc}
 use lib.Dec.{leb, eqb}
-use borrow.Author.Tests.{leb-true, eqb-true}
+use borrow.Author.Tests.{leb-true}
 use Rattle.grammar.specs.declared.Class.{Class}
 use Rattle.grammar.specs.declared.Class.the-variants.{Alpha, Nought, Nonzero, Dash, Open, Close, Space, Other}
-use Rattle.definitions.specs.Text.{Letter, Digit, All, none, each, Word, word, valued, Plain, nought, digits, Number, unsigned, negative, Rest, close, item, Listed, listed, Simple, isWord, isNumber, Item, Note, note, Notes, more, Part, byte, spaced, ended, Form, nothing, isByte, isSpaced, isEnded, Kind, baseLine, scaledLine, atLine, fullLine, intraLine, wholeLine, mbLine, letter, tailOf, LineOf, RecordKind, intra, whole, mb, kindOf}
-use Rattle.grammar.specs.Machine.{Follow, gap, shut, inList, Sym, lit, first, letters, rest, field, dashed, zeroed, figures, line, opened, entry, Ev, num, rec, Delta, halt, go, emit, limit, signed, choose, classOf, shuts, gaps, grow, opens, noteTail, syms, δ, nums}
-use Rattle.grammar.proofs.Cats.{Cat, cat, cat-cons, cons-cat, cat-either, cat-empty, cat-with, cat-map, cat-right, cat-left, no-cons, heads, tails}
+use Rattle.definitions.specs.Text.{Letter, none, word, Plain, nought, digits, Number, unsigned, close, isWord, Item, Note, note, Notes, more, Part, byte, spaced, ended, isByte, Kind, intraLine, wholeLine, mbLine, letter, tailOf, LineOf, kindOf}
+use Rattle.grammar.specs.Machine.{Follow, gap, shut, inList, Sym, lit, first, letters, rest, field, dashed, zeroed, figures, line, opened, entry, Ev, num, Delta, halt, go, emit, limit, signed, choose, classOf, shuts, gaps, grow, opens, noteTail, syms, δ}
+use Rattle.grammar.proofs.Cats.{Cat, no-cons, tails}
 use Rattle.grammar.proofs.Bytes.{class-in}
-use Rattle.grammar.proofs.Forward.{rest-none, item-none, plain-none, number-none, note-first}
-use Rattle.grammar.proofs.Backward.{Sound, note-close, note-line, seq-form, formed-line, Formed}
-use Rattle.grammar.proofs.Residue.{Lang, Lit, Gives, Fol, Figures, Line, RecLine, EntryOf, L, Seq, Next}
+use Rattle.grammar.proofs.Forward.{rest-none, item-none, plain-none, number-none}
+use Rattle.grammar.proofs.Backward.{Sound, seq-form, formed-line}
+use Rattle.grammar.proofs.Residue.{Lang, Fol, Line, L, Seq}
 
 pub record Some (B : Lang) : Type 0 where
   pub numbers : List Ev
@@ -54,7 +53,7 @@ a-word : (d : ℕ) → Item d (97 ∷ [])
 a-word zero = isWord (word a-letter none)
 a-word (suc d) = inl (isWord (word a-letter none))
 
-pub inhabit : (s : Sym) → Sound s → (B : Lang) → Some B → Some (L s B)
+inhabit : (s : Sym) → Sound s → (B : Lang) → Some B → Some (L s B)
 inhabit (lit c) ok B h = record { numbers = h .numbers; text = c ∷ h .text; is = record { more = h .text; is = refl; then = h .is } }
 inhabit (first d) ok B h =
     let k = fol-some B h (inList d) (pos 0) in
@@ -105,12 +104,6 @@ fol-none : (f : Follow) (z : ℤ) (B : Lang) (ws : List Ev) → Fol f z B ws [] 
 fol-none gap z B ws h = no-cons (h .is)
 fol-none shut z B ws h = no-cons (h .is)
 fol-none (inList d) z B ws h = cat-none h (λ p q. rest-none p)
-
-note-none : Note [] → ⊥
-note-none h = by-text h refl
-  where
-    by-text : {t : List ℕ} → Note t → [] ≡ t → ⊥
-    by-text (note r) e = no-cons e
 
 line-none : {k : Kind} {B : Lang} {ws : List Ev} → Line k B ws [] → ⊥
 line-none {k} h = by-notes (h .notes) (h .cut)

@@ -6,10 +6,9 @@ use native.Mathlib.Omega.{arith}
 use lib.IntN.{ℤ}
 use lib.ListN.{length, getD, length-append}
 use borrow.Author.Tests.{eq-eqb, ne-eqb}
-use Rattle.definitions.specs.Text.{Kind, letter, tailOf, RecordKind, intra, whole, mb, kindOf, Entry, wordsOf}
+use Rattle.definitions.specs.Text.{Kind, letter, tailOf, RecordKind, intra, whole, mb, kindOf, Entry}
 use Rattle.grammar.specs.declared.Pair.{Pair}
 use Rattle.grammar.specs.declared.Pair.the-variants.{Both, Broken}
-use Rattle.grammar.specs.declared.Four.{Four}
 use Rattle.grammar.specs.declared.Four.the-variants.{Each, Cut}
 use Rattle.grammar.specs.declared.Got.{Got}
 use Rattle.grammar.specs.declared.Got.the-variants.{At, Bad}

@@ -1,12 +1,11 @@
 -- What may come after a state of the machine: a language for each symbol, over the language B of what comes after it.
-use Prim.Native.Nat.{ℕ, zero, suc, _≤_}
+use Prim.Native.Nat.{ℕ, suc, _≤_}
 use mathlib.Core.Path.{_≡_}
-use mathlib.Core.Bool.{Bool, true, false}
-use mathlib.Core.Logic.{_⊎_, inl, inr}
+use mathlib.Core.Logic.{_⊎_}
 use mathlib.Core.List.{List, [], _∷_, _++_}
 use lib.IntN.{ℤ, pos, negsuc}
-use Rattle.definitions.specs.Text.{Letter, Digit, All, valued, Plain, Number, Rest, Item, Note, Notes, Part, Form, Kind, LineOf, RecordKind, kindOf}
-use Rattle.grammar.specs.Machine.{Follow, gap, shut, inList, Sym, lit, first, letters, rest, field, dashed, zeroed, figures, line, opened, entry, Ev, num, rec, Delta, halt, go, emit, Cfg, dead, live, limit, signed, nums}
+use Rattle.definitions.specs.Text.{Letter, Digit, All, valued, Plain, Number, Rest, Item, Note, Notes, Kind, LineOf, RecordKind, kindOf}
+use Rattle.grammar.specs.Machine.{Follow, gap, shut, inList, Sym, lit, first, letters, rest, field, dashed, zeroed, figures, line, opened, entry, Ev, num, rec, Delta, halt, go, emit, limit, signed, nums}
 use Rattle.grammar.proofs.Cats.{Cat}
 
 -- texts, with the numbers that stand in them

@@ -1,25 +1,25 @@
 -- The machine goes by the grammar: a text is the grammar's exactly when the machine ends with nothing more asked, and a text begins
 -- some text of the grammar exactly when the machine is alive after it.
-use Prim.Native.Nat.{ℕ, zero, suc, _≤_, _<_, _+_}
+use Prim.Native.Nat.{ℕ, suc, _<_, _+_}
 use mathlib.Core.Path.{_≡_, refl, sym, _∙_, ap, subst}
 use mathlib.Core.Bool.{Bool, true, false, cond}
-use mathlib.Core.Logic.{_⊎_, inl, inr}
+use mathlib.Core.Logic.{inl, inr}
 use mathlib.Core.List.{List, [], _∷_, _++_, append-assoc, append-nil}
 use native.Mathlib.Omega.{arith}
 use native.Mathlib.Numerals.{add-one}
 use lib.IntN.{ℤ}
-use lib.Dec.{leb, eqb}
-use lib.ListN.{length, take, getD, length-append}
+use lib.Dec.{eqb}
+use lib.ListN.{length, getD, length-append}
 use lib.Seq.{take-suc}
 use borrow.Author.Tests.{eqb-true, eq-eqb}
-use Rattle.definitions.specs.Text.{Note, note, Notes, Form, isByte, Kind, letter, LineOf, Heads, noHead, head, RecordKind, kindOf, Entry, Records, noRecord, aNote, aRecord, Text, Belongs, CanGoOn, headNumbers, Part, byte, spaced, ended, nothing, isSpaced, isEnded, tailOf, baseLine, scaledLine, atLine, fullLine}
+use Rattle.definitions.specs.Text.{Note, note, Form, isByte, Kind, LineOf, Heads, noHead, head, RecordKind, kindOf, Entry, Records, noRecord, aNote, aRecord, Text, CanGoOn, headNumbers, Part, byte, spaced, ended, nothing, isSpaced, isEnded, tailOf, baseLine, scaledLine, atLine, fullLine}
 use Rattle.definitions.specs.declared.Numbers.{Numbers}
 use Rattle.grammar.specs.Machine.{Sym, line, entry, Ev, num, rec, Delta, halt, go, emit, push, δ, stepK, Cfg, dead, live, enter, step, runs, start, stateAt, Alive, nums, flat}
-use Rattle.grammar.proofs.Cats.{Cat, no-cons, heads, tails}
-use Rattle.grammar.proofs.Residue.{Lang, Gives, Line, RecLine, EntryOf, L, Seq, Next}
+use Rattle.grammar.proofs.Cats.{no-cons, heads}
+use Rattle.grammar.proofs.Residue.{Lang, Gives, EntryOf, L, Seq, Next}
 use Rattle.grammar.proofs.Forward.{forward, note-first}
-use Rattle.grammar.proofs.Backward.{Sound, backward}
-use Rattle.grammar.proofs.Live.{Some, Sounds, SoundD, at-halt, at-go, at-emit, inhabit, seq-some, not-none, sound-step}
+use Rattle.grammar.proofs.Backward.{backward}
+use Rattle.grammar.proofs.Live.{Sounds, SoundD, at-halt, at-go, at-emit, seq-some, not-none, sound-step}
 
 -- with nothing more asked: notes and record lines
 record Base (ws : List Ev) (u : List ℕ) : Type 0 where

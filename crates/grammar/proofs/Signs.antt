@@ -1,11 +1,9 @@
 -- A number of at most 32,768, cast to i32 and taken from 0.
 use Prim.Native.Nat.{ℕ, zero, suc, _<_, _≤_, _-_, _^_}
-use mathlib.Core.Path.{_≡_, refl, ap, sym, subst, _∙_}
-use mathlib.Core.Bool.{true, false}
+use mathlib.Core.Path.{_≡_, ap, sym, subst, _∙_}
+use mathlib.Core.Bool.{true}
 use native.Mathlib.Omega.{arith}
-use lib.Dec.{ltb}
-use lib.IntN.{ℤ, pos, negsuc, subℕ, _-ℤ_}
-use lib.Signed.{mag}
+use lib.IntN.{ℤ, pos, negsuc, _-ℤ_}
 use mir.Syntax.{w16, w32}
 use mir.Val.{SFits, toZ, ofZ}
 use mir.Facts.{toZ-pos, toZ-ofZ}
@@ -36,7 +34,7 @@ module _ (n : ℕ) (l : 1 ≤ n) (h : n ≤ 32768) where
   pub neg-fits : SFits w32 (pos 0 -ℤ toZ w32 n)
   neg-fits = subst (SFits w32) (sym taken) (signed-fits n h)
 
-  pub neg-is : toZ w32 (ofZ w32 (pos 0 -ℤ toZ w32 n)) ≡ signed true n
+  neg-is : toZ w32 (ofZ w32 (pos 0 -ℤ toZ w32 n)) ≡ signed true n
   neg-is = toZ-ofZ neg-fits ∙ taken
 
 pub pos-fits16 : (n : ℕ) → n ≤ 32767 → SFits w16 (pos n)

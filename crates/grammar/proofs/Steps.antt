@@ -1,12 +1,11 @@
 -- The steps that the readers take, byte by byte, as steps of the machine.
 use Prim.Native.Nat.{ℕ, zero, suc, _≤_, _<_, _+_, _*_, _-_}
-use mathlib.Core.Path.{_≡_, refl, sym, _∙_, ap, subst}
-use mathlib.Core.Bool.{Bool, true, false, not, cond}
-use mathlib.Core.Logic.{_⊎_, inl, inr, ⊎-elim}
-use mathlib.Core.List.{List, [], _∷_, _++_, append-assoc, append-nil}
+use mathlib.Core.Path.{_≡_, refl, sym, _∙_, ap}
+use mathlib.Core.Bool.{Bool, true, false, not}
+use mathlib.Core.List.{List, [], _∷_, _++_}
 use native.Mathlib.Omega.{arith}
-use lib.IntN.{ℤ, pos, negsuc}
-use lib.Dec.{T, leb, eqb}
+use lib.IntN.{ℤ, pos}
+use lib.Dec.{T}
 use lib.ListN.{length, getD, drop, drop-of-length-le}
 use lib.Seq.{drop-cons}
 use native.Mathlib.Numerals.{add-one}
@@ -17,19 +16,16 @@ use borrow.Author.Tests.{le-leb, lt-leb, eq-eqb, ne-eqb}
 use Rattle.grammar.specs.declared.Class.{Class}
 use Rattle.grammar.specs.declared.Class.the-variants.{Alpha, Nought, Nonzero, Dash, Open, Close, Space, Other}
 use Rattle.grammar.proofs.Class as class
-use Rattle.grammar.specs.Machine.{Follow, gap, shut, inList, Sym, lit, first, letters, rest, field, dashed, zeroed, figures, line, opened, entry, Ev, num, rec, Delta, halt, go, emit, limit, signed, lits, noteTail, syms, choose, classOf, shuts, gaps, grow, opens, push, δc, δ, stepK, Cfg, dead, live, enter, step, stateAt, Waiting}
+use Rattle.grammar.specs.Machine.{Follow, gap, shut, inList, Sym, lit, first, letters, rest, field, dashed, zeroed, figures, line, Ev, num, Delta, halt, go, limit, signed, lits, noteTail, choose, classOf, shuts, gaps, grow, opens, push, δc, δ, stepK, Cfg, dead, live, enter, step, stateAt, Waiting}
 use Rattle.grammar.specs.declared.Num.{Num}
 use Rattle.grammar.specs.declared.Num.the-variants.{Value, Wrong}
 use Rattle.grammar.specs.declared.Got.{Got}
 use Rattle.grammar.specs.declared.Got.the-variants.{At, Bad}
-use Rattle.grammar.specs.declared.Pair.{Pair}
-use Rattle.grammar.specs.declared.Pair.the-variants.{Both, Broken}
-use Rattle.definitions.specs.Text.{Kind, letter, tailOf}
-use Rattle.grammar.specs.Promises.{As, Stuck, Closes, DashedTo, NumberTo, ItemTo, ListTo, Takes, WordTo, FieldTo, pairOf}
-use Rattle.grammar.proofs.Bytes.{In, class-in, class-close, class-space}
+use Rattle.grammar.specs.Promises.{As, Stuck, Closes, DashedTo, NumberTo, ItemTo, ListTo, Takes, WordTo}
+use Rattle.grammar.proofs.Bytes.{class-in, class-close, class-space}
 use Rattle.grammar.proofs.Runs.{state-next}
 
-abbrev pub tag : Class → ℕ
+abbrev tag : Class → ℕ
 tag c = Declared.tagOf class.the-type c
 
 abbrev pub If : Bool → Type 0 → Type 0
@@ -41,7 +37,7 @@ kept true n h = h
 kept false n h = absurd (n tt)
 
 -- what holds of each class of an arm holds of the class that led there
-pub class-cases : (P : Class → Type 0) (ks : List ℕ) (c : Class) → OneOf ks (tag c) → If (hasKey ks 0) (P Alpha) → If (hasKey ks 1) (P Nought) → If (hasKey ks 2) (P Nonzero) → If (hasKey ks 3) (P Dash) → If (hasKey ks 4) (P Open) → If (hasKey ks 5) (P Close) → If (hasKey ks 6) (P Space) → If (hasKey ks 7) (P Other) → P c
+class-cases : (P : Class → Type 0) (ks : List ℕ) (c : Class) → OneOf ks (tag c) → If (hasKey ks 0) (P Alpha) → If (hasKey ks 1) (P Nought) → If (hasKey ks 2) (P Nonzero) → If (hasKey ks 3) (P Dash) → If (hasKey ks 4) (P Open) → If (hasKey ks 5) (P Close) → If (hasKey ks 6) (P Space) → If (hasKey ks 7) (P Other) → P c
 class-cases P ks Alpha h a n z d o l s t = kept (hasKey ks 0) (λ e. miss ks 0 e h) a
 class-cases P ks Nought h a n z d o l s t = kept (hasKey ks 1) (λ e. miss ks 1 e h) n
 class-cases P ks Nonzero h a n z d o l s t = kept (hasKey ks 2) (λ e. miss ks 2 e h) z
@@ -59,22 +55,22 @@ module _ (s : List ℕ) (i : ℕ) (g : List Ev) (k : List Sym) where
   as-of e w = record { waits = waits-of g k e w; goes = λ h. state-next s i h ∙ ap (λ (c : Cfg). step c (getD s i 0)) e }
 
   module _ (a : As s i g k) where
-    pub stuck-of : i ≤ length s → (i < length s → step (live g k) (getD s i 0) ≡ dead) → Stuck s i
+    stuck-of : i ≤ length s → (i < length s → step (live g k) (getD s i 0) ≡ dead) → Stuck s i
     stuck-of h f = record { within = h; waits = a .waits; stuck = λ l. a .goes l ∙ f l }
 
     pub stuck-end : length s ≤ i → i ≤ length s → Stuck s i
     stuck-end e h = stuck-of h (λ l. absurd (omega arith))
 
     -- another state that goes on in the same way
-    pub as-as : (l : List Sym) → (i < length s → step (live g k) (getD s i 0) ≡ step (live g l) (getD s i 0)) → As s i g l
+    as-as : (l : List Sym) → (i < length s → step (live g k) (getD s i 0) ≡ step (live g l) (getD s i 0)) → As s i g l
     as-as l f = record { waits = a .waits; goes = λ h. a .goes h ∙ f h }
 
 -- a step, by the class of the byte
-pub step-by : (y : Sym) (b : ℕ) (c : Class) → c ≡ classOf b → (g : List Ev) (k : List Sym) → step (live g (y ∷ k)) b ≡ enter g (push (δc y b c) k)
+step-by : (y : Sym) (b : ℕ) (c : Class) → c ≡ classOf b → (g : List Ev) (k : List Sym) → step (live g (y ∷ k)) b ≡ enter g (push (δc y b c) k)
 unfolding step stepK δ
 step-by y b c e g k = rw (← e)
 
-pub step-halts : (y : Sym) (b : ℕ) (c : Class) → c ≡ classOf b → δc y b c ≡ halt → (g : List Ev) (k : List Sym) → step (live g (y ∷ k)) b ≡ dead
+step-halts : (y : Sym) (b : ℕ) (c : Class) → c ≡ classOf b → δc y b c ≡ halt → (g : List Ev) (k : List Sym) → step (live g (y ∷ k)) b ≡ dead
 step-halts y b c e h g k = step-by y b c e g k ∙ ap (λ (x : Delta). enter g (push x k)) h
 
 letters-off : (d b : ℕ) (c : Class) → OneOf (1 ∷ 2 ∷ 3 ∷ 4 ∷ 5 ∷ 6 ∷ 7 ∷ []) (tag c) → δc (letters d) b c ≡ δc (rest d) b c
@@ -148,7 +144,7 @@ pub nonzero-of : (b : ℕ) (c : Class) → c ≡ classOf b → c ≡ Nonzero →
 nonzero-of b c e n = class-in b (sym e ∙ n)
 
 -- `dashed`
-pub dashed-off : (f : Follow) (b : ℕ) (c : Class) → OneOf (0 ∷ 1 ∷ 3 ∷ 4 ∷ 5 ∷ 6 ∷ 7 ∷ []) (tag c) → δc (dashed f) b c ≡ halt
+dashed-off : (f : Follow) (b : ℕ) (c : Class) → OneOf (0 ∷ 1 ∷ 3 ∷ 4 ∷ 5 ∷ 6 ∷ 7 ∷ []) (tag c) → δc (dashed f) b c ≡ halt
 dashed-off f b c h = class-cases (λ (c : Class). δc (dashed f) b c ≡ halt) (0 ∷ 1 ∷ 3 ∷ 4 ∷ 5 ∷ 6 ∷ 7 ∷ []) c h refl refl tt refl refl refl refl refl
 
 module _ (s : List ℕ) (i : ℕ) (f : Follow) (g : List Ev) (k : List Sym) (here : stateAt s i ≡ live g (dashed f ∷ k)) where
@@ -181,7 +177,7 @@ module _ (s : List ℕ) (i : ℕ) (f : Follow) (g : List Ev) (k : List Sym) (her
       pub number-figures : c ≡ Nonzero → stateAt s (i + 1) ≡ live g (figures false (getD s i 0 - 48) f ∷ k)
       number-figures n = take-step s i g (field f) k here l Nonzero (sym n ∙ e)
 
-      pub number-dashed : c ≡ Dash → stateAt s (i + 1) ≡ live g (dashed f ∷ k)
+      number-dashed : c ≡ Dash → stateAt s (i + 1) ≡ live g (dashed f ∷ k)
       number-dashed n = take-step s i g (field f) k here l Dash (sym n ∙ e)
 
       pub number-zero : c ≡ Nought → Closes s (i + 1) f (pos 0) g k
@@ -228,7 +224,7 @@ module _ (s : List ℕ) (i d : ℕ) (g : List Ev) (k : List Sym) (here : stateAt
 pub item-shallow : (s : List ℕ) (i d : ℕ) (g : List Ev) (k : List Sym) → stateAt s i ≡ live g (first d ∷ k) → (c : Class) → c ≡ classOf (getD s i 0) → i ≤ length s → c ≡ Open → d ≡ 0 → Stuck s i
 item-shallow s i d g k here c e l n z = stuck-by s i g (first d) k (item-as s i d g k here) l Open (sym n ∙ e) (rw z)
 
-pub item-open : (s : List ℕ) (i d : ℕ) (g : List Ev) (k : List Sym) → stateAt s i ≡ live g (first d ∷ k) → (c : Class) → c ≡ classOf (getD s i 0) → i < length s → c ≡ Open → (d ≡ 0 → ⊥) → stateAt s (i + 1) ≡ live g (first (d - 1) ∷ rest d ∷ k)
+item-open : (s : List ℕ) (i d : ℕ) (g : List Ev) (k : List Sym) → stateAt s i ≡ live g (first d ∷ k) → (c : Class) → c ≡ classOf (getD s i 0) → i < length s → c ≡ Open → (d ≡ 0 → ⊥) → stateAt s (i + 1) ≡ live g (first (d - 1) ∷ rest d ∷ k)
 item-open s i d g k here c e l n z =
     take-step s i g (first d) k (item-as s i d g k here) l Open (sym n ∙ e) ∙ deeper d z
   where
@@ -254,13 +250,13 @@ module _ (s : List ℕ) (i x : ℕ) (g : List Ev) (k : List Sym) (here : stateAt
   lit-as : As s i g (lit x ∷ k)
   lit-as = as-of s i g (lit x ∷ k) here tt
 
-  pub lit-end : length s ≤ i → i ≤ length s → Stuck s i
+  lit-end : length s ≤ i → i ≤ length s → Stuck s i
   lit-end e l = stuck-end s i g (lit x ∷ k) lit-as e l
 
-  pub lit-go : i < length s → getD s i 0 ≡ x → stateAt s (i + 1) ≡ live g k
+  lit-go : i < length s → getD s i 0 ≡ x → stateAt s (i + 1) ≡ live g k
   lit-go l e = take-step s i g (lit x) k lit-as l (classOf (getD s i 0)) refl ∙ rw (eq-eqb (getD s i 0) x e)
 
-  pub lit-bad : i ≤ length s → (getD s i 0 ≡ x → ⊥) → Stuck s i
+  lit-bad : i ≤ length s → (getD s i 0 ≡ x → ⊥) → Stuck s i
   lit-bad l n = stuck-by s i g (lit x) k lit-as l (classOf (getD s i 0)) refl (rw (ne-eqb (getD s i 0) x n))
 
 -- `word_at`: j bytes of w were read
@@ -298,7 +294,7 @@ module _ (s : List ℕ) (i d : ℕ) (g : List Ev) (k : List Sym) (here : stateAt
     pub rest-shut : i < length s → c ≡ Close → stateAt s (i + 1) ≡ live g k
     rest-shut l n = take-step s i g (rest d) k rest-as l Close (sym n ∙ e)
 
-    pub rest-gap : i < length s → c ≡ Space → stateAt s (i + 1) ≡ live g (first d ∷ k)
+    rest-gap : i < length s → c ≡ Space → stateAt s (i + 1) ≡ live g (first d ∷ k)
     rest-gap l n = take-step s i g (rest d) k rest-as l Space (sym n ∙ e)
 
 pub rest-list : (s : List ℕ) (i d : ℕ) (c : Class) → c ≡ classOf (getD s i 0) → i < length s → c ≡ Space → (r : Got) → ListTo s (i + 1) d r → Takes s i (λ (k : List Sym). rest d ∷ k) r

@@ -16,7 +16,7 @@ use Rattle.grammar.specs.declared.Got.the-variants.{At, Bad}
 use Rattle.grammar.specs.declared.Num.the-variants.{Value, Wrong}
 use Rattle.grammar.specs.declared.Pair.the-variants.{Both}
 use Rattle.grammar.specs.Machine.{Sym, field, gap, shut, lits, Ev, num, nums, live, stateAt}
-use Rattle.grammar.specs.Promises.{Stuck, WordTo, FieldTo, pairOf, TwoTo, fields, Touched, Stored, StoresTo, Stores, Within, ThenWordTo, ThenWord, ThenStoresTo, ThenStores, tail, TailRead, TailTo}
+use Rattle.grammar.specs.Promises.{WordTo, FieldTo, pairOf, TwoTo, fields, Touched, Stored, StoresTo, Stores, Within, ThenWordTo, ThenWord, ThenStoresTo, ThenStores, tail, TailTo}
 
 sets-append : (l : List ℤ) (i : ℕ) (xs ys : List ℤ) → sets l i (xs ++ ys) ≡ sets (sets l i xs) (i + length xs) ys
 sets-append l i [] ys = ap (λ (x : ℕ). sets l x ys) (let q : i ≡ i + 0 = omega arith in q)

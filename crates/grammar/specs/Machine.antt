@@ -1,10 +1,9 @@
 -- A machine that reads the text byte by byte: its state is what has yet to come, as a stack of symbols, and the numbers read so far.
 -- The contracts of the inner functions cite it. That it goes by the grammar is proved in proofs/.
-use Prim.Native.Nat.{ℕ, zero, suc, _+_, _-_, _*_, _≤_, _<_}
-use mathlib.Core.Path.{_≡_}
+use Prim.Native.Nat.{ℕ, zero, suc, _+_, _-_, _*_}
 use mathlib.Core.Bool.{Bool, true, false, cond}
 use mathlib.Core.List.{List, [], _∷_, _++_}
-use lib.ListN.{length, take, getD}
+use lib.ListN.{take}
 use lib.IntN.{ℤ, pos, negsuc}
 use Rattle.definitions.specs.Text.{Part, byte, spaced, ended, Kind, baseLine, scaledLine, atLine, fullLine, intraLine, wholeLine, mbLine, letter, tailOf, RecordKind, intra, whole, mb, Entry}
 use lib.Dec.{leb, eqb}

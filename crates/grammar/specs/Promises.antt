@@ -24,7 +24,7 @@ use Rattle.grammar.specs.declared.Lines.{Lines}
 use Rattle.grammar.specs.declared.Lines.the-variants.{Count, Faulty}
 use Rattle.grammar.specs.declared.Judged.{Judged}
 use Rattle.grammar.specs.declared.Judged.the-variants.{Right, Wrong as NotRight}
-use Rattle.grammar.specs.Machine.{Follow, gap, shut, Sym, lit, first, rest, letters, field, line, dashed, figures, lits, noteTail, syms, Delta, halt, choose, classOf, shuts, gaps, push, limit, signed, Ev, num, rec, nums, flat, entry, Alive, dead, live, enter, step, stateAt, Waiting}
+use Rattle.grammar.specs.Machine.{Follow, gap, shut, Sym, lit, first, rest, letters, field, line, dashed, figures, lits, syms, Delta, halt, choose, classOf, shuts, gaps, push, limit, signed, Ev, num, nums, flat, entry, Alive, dead, live, enter, step, stateAt, Waiting}
 
 -- after i bytes the machine goes on as it does with g and k
 pub record As (s : List ℕ) (i : ℕ) (g : List Ev) (k : List Sym) : Type 0 where

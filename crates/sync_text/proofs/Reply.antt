@@ -1,6 +1,6 @@
 -- The reply of a text that was judged and whose words are stored.
 use Prim.Native.Nat.{ℕ, _≤_, _<_, _*_}
-use mathlib.Core.Path.{_≡_, sym, ap}
+use mathlib.Core.Path.{_≡_, sym}
 use mathlib.Core.List.{List}
 use native.Mathlib.Omega.{arith}
 use lib.IntN.{ℤ}

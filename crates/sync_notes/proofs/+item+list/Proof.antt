@@ -1,17 +1,13 @@
-use Prim.Native.Nat.{_≤_, _-_, _+_, _*_}
-use mathlib.Core.Path.{_≡_, sym, refl, _∙_}
-use mathlib.Core.Bool.{Bool, true, false}
+-- `sync_notes::+item+list` meets its contract. Assumes nothing.
+use Prim.Native.Nat.{_≤_, _-_, _+_, ℕ}
+use mathlib.Core.Path.{_≡_, sym, _∙_}
 use mathlib.Core.List.{List, _∷_}
 use native.Mathlib.Omega.{arith}
 use borrow.Author.Needs.{needs}
 use lib.ListN.{length, getD}
-use lib.IntN.{ℤ}
-use Rattle.grammar.specs.Machine.{Ev, num}
+use Rattle.grammar.specs.Machine.{Ev, inList, Sym, first, rest, stateAt, live}
 use Rattle.grammar.specs.declared.Class.the-variants.{Close, Space}
-use Rattle.grammar.specs.Machine.{Follow, inList, Sym, first, rest, stateAt, live}
-use Rattle.grammar.specs.Promises.{As, NumberTo, ItemTo, ListTo}
 use Rattle.grammar.proofs.Steps.{item-end, item-bad, item-letters, item-field, item-shallow, item-of-number, item-of-list, stuck-end, stuck-by, take-step, rest-off}
-use Prim.Native.Nat.{ℕ, _<_}
 use borrow.Fn.Kinds.{In}
 use borrow.Fn.PlainCycle.{Measures, is, falls, and}
 use Rattle.sync_notes.proofs.item.Reads as item

@@ -1,14 +1,12 @@
-use Prim.Native.Nat.{ℕ, _≤_, _<_, _-_, _+_}
-use mathlib.Core.Path.{_≡_, sym, refl, _∙_}
+-- `sync_notes::letters` meets its contract. Assumes nothing.
+use Prim.Native.Nat.{ℕ, _≤_, _-_}
+use mathlib.Core.Path.{_≡_}
 use mathlib.Core.List.{List, _∷_}
 use native.Mathlib.Omega.{arith}
 use borrow.Author.Needs.{needs}
-use lib.ListN.{length, getD}
-use lib.IntN.{ℤ}
-use Rattle.grammar.specs.Machine.{Ev, num}
-use Rattle.grammar.specs.Machine.{Sym, letters, rest, stateAt, live}
+use lib.ListN.{length}
+use Rattle.grammar.specs.Machine.{Ev, Sym, letters, stateAt, live}
 use Rattle.grammar.proofs.Steps.{letters-more, letters-stop, letters-end}
-use Rattle.grammar.specs.Promises.{As, LettersTo}
 use Rattle.sync_notes.proofs.letters.Statement.{statement}
 use Rattle.sync_notes.proofs.letters.Tie as tie
 

@@ -1,15 +1,6 @@
-use Prim.Native.Nat.{ℕ, _≤_, _<_, _-_, _+_, _*_}
-use mathlib.Core.Path.{_≡_, sym, refl, _∙_}
-use mathlib.Core.Bool.{Bool, true, false}
-use mathlib.Core.List.{List, [], _∷_, _++_}
-use native.Mathlib.Omega.{arith}
-use lib.ListN.{length, getD, drop}
-use lib.IntN.{ℤ}
-use Rattle.grammar.specs.Machine.{Ev, num}
-use mir.Syntax.{w32}
-use mir.Val.{toZ, ofZ}
-use Rattle.grammar.specs.Machine.{Follow, gap, shut, inList, Sym, lit, first, rest, field, lits, noteTail, stateAt, live}
-use Rattle.grammar.specs.Promises.{Takes, WordTo}
+-- `sync_notes::note` meets its contract. Assumes nothing.
+use mathlib.Core.List.{_∷_}
+use Rattle.grammar.specs.Machine.{lit, rest}
 use Rattle.grammar.proofs.Steps.{note-ends}
 use borrow.Author.Needs.{needs}
 use Rattle.sync_notes.proofs.note.Statement.{statement}

@@ -1,13 +1,5 @@
-use Prim.Native.Nat.{ℕ, _≤_, _<_, _-_, _+_, _*_}
-use mathlib.Core.Path.{_≡_, sym, refl, _∙_}
-use mathlib.Core.Bool.{Bool, true, false}
-use mathlib.Core.List.{List, [], _∷_, _++_}
+-- `sync_notes::rest_of` meets its contract. Assumes nothing.
 use native.Mathlib.Omega.{arith}
-use lib.ListN.{length, getD, drop}
-use lib.IntN.{ℤ}
-use Rattle.grammar.specs.Machine.{Ev, num}
-use Rattle.grammar.specs.Machine.{Follow, gap, shut, inList, Sym, lit, first, rest, field, lits, noteTail, stateAt, live}
-use Rattle.grammar.specs.Promises.{Takes}
 use Rattle.grammar.proofs.Steps.{rest-end, rest-bad, rest-shut, rest-list}
 use borrow.Author.Needs.{needs}
 use Rattle.sync_notes.proofs.rest_of.Statement.{statement}

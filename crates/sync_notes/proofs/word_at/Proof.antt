@@ -1,14 +1,11 @@
-use Prim.Native.Nat.{ℕ, _≤_, _<_, _-_, _+_, _*_}
-use mathlib.Core.Path.{_≡_, sym, refl, _∙_}
-use mathlib.Core.Bool.{Bool, true, false}
-use mathlib.Core.List.{List, [], _∷_, _++_}
+-- `sync_notes::word_at` meets its contract. Assumes nothing.
+use Prim.Native.Nat.{_≤_, _-_}
+use mathlib.Core.Path.{_≡_}
+use mathlib.Core.List.{List}
 use native.Mathlib.Omega.{arith}
-use lib.ListN.{length, getD, drop}
-use lib.IntN.{ℤ}
-use Rattle.grammar.specs.Machine.{Ev, num}
-use Rattle.grammar.specs.Machine.{Follow, gap, shut, inList, Sym, lit, first, rest, field, lits, noteTail, stateAt, live}
+use lib.ListN.{length, drop}
+use Rattle.grammar.specs.Machine.{Ev, Sym, lits, stateAt, live}
 use borrow.Author.Needs.{needs}
-use Rattle.grammar.specs.Promises.{WordTo}
 use Rattle.grammar.proofs.Steps.{word-end, word-bad, word-more, word-done}
 use Rattle.sync_notes.proofs.word_at.Statement.{statement}
 use Rattle.sync_notes.proofs.word_at.Tie as tie

@@ -1,14 +1,9 @@
-use Prim.Native.Nat.{ℕ, _≤_, _<_, _-_, _+_, _*_}
-use mathlib.Core.Path.{_≡_, sym, refl, _∙_}
-use mathlib.Core.Bool.{Bool, true, false}
-use mathlib.Core.List.{List, _∷_}
+-- `sync_numbers::dashed` meets its contract. Assumes nothing.
+use mathlib.Core.Path.{refl}
+use mathlib.Core.Bool.{true}
 use native.Mathlib.Omega.{arith}
-use lib.ListN.{length, getD}
-use lib.IntN.{ℤ}
-use Rattle.grammar.specs.Machine.{Ev, num}
-use Rattle.grammar.specs.Machine.{Follow, Sym, figures, stateAt, live, limit}
-use Rattle.grammar.proofs.Signs.{pos-fits, neg-fits, neg-is, pos-is, neg-is16, neg-fits16}
-use Rattle.grammar.specs.Promises.{DashedTo, DigitsTo}
+use Rattle.grammar.specs.Machine.{figures}
+use Rattle.grammar.proofs.Signs.{pos-fits, neg-fits, neg-is16, neg-fits16}
 use Rattle.grammar.proofs.Steps.{nonzero-of, dashed-end, dashed-go, dashed-bad}
 use borrow.Author.Needs.{needs}
 use Rattle.sync_numbers.proofs.dashed.Statement.{statement}

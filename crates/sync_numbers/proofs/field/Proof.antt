@@ -1,15 +1,10 @@
-use Prim.Native.Nat.{ℕ, _≤_, _<_, _-_, _+_, _*_}
-use mathlib.Core.Path.{_≡_, sym, refl, _∙_}
-use mathlib.Core.Bool.{Bool, true, false}
-use mathlib.Core.List.{List, [], _∷_, _++_}
+-- `sync_numbers::field` meets its contract. Assumes nothing.
+use mathlib.Core.Path.{_≡_}
 use native.Mathlib.Omega.{arith}
-use lib.ListN.{length, getD, drop}
-use lib.IntN.{ℤ}
-use Rattle.grammar.specs.Machine.{Ev, num}
+use Rattle.grammar.specs.Machine.{gap, shut}
 use mir.Syntax.{w16}
 use mir.Val.{toZ, ofZ}
-use Rattle.grammar.specs.Machine.{Follow, gap, shut, inList, Sym, lit, first, rest, field, lits, noteTail, stateAt, live}
-use Rattle.grammar.specs.Promises.{NumberTo, FieldTo, followOf}
+use Rattle.grammar.specs.Promises.{followOf}
 use Rattle.grammar.proofs.Steps.{field-as, closes-end, shut-go, shut-bad, gap-go, gap-bad}
 use borrow.Author.Needs.{needs}
 use Rattle.sync_numbers.proofs.field.Statement.{statement}

@@ -1,14 +1,12 @@
-use Prim.Native.Nat.{ℕ, _≤_, _<_, _-_, _+_, _*_}
-use mathlib.Core.Path.{_≡_, sym, refl, _∙_}
+-- `sync_numbers::figures` meets its contract. Assumes nothing.
+use Prim.Native.Nat.{_≤_, _-_}
+use mathlib.Core.Path.{_≡_}
 use mathlib.Core.Bool.{Bool}
 use mathlib.Core.List.{List, _∷_}
 use native.Mathlib.Omega.{arith}
 use borrow.Author.Needs.{needs}
-use lib.ListN.{length, getD}
-use lib.IntN.{ℤ}
-use Rattle.grammar.specs.Machine.{Ev, num}
-use Rattle.grammar.specs.Machine.{Follow, Sym, figures, stateAt, live, limit}
-use Rattle.grammar.specs.Promises.{DigitsTo}
+use lib.ListN.{length}
+use Rattle.grammar.specs.Machine.{Ev, Follow, Sym, figures, stateAt, live, limit}
 use Rattle.grammar.proofs.Steps.{digit-of, figures-more, figures-over, figures-stop, figures-end}
 use Rattle.sync_numbers.proofs.figures.Statement.{statement}
 use Rattle.sync_numbers.proofs.figures.Tie as tie

@@ -1,15 +1,10 @@
-use Prim.Native.Nat.{ℕ, _≤_, _<_, _-_, _+_, _*_}
-use mathlib.Core.Path.{_≡_, sym, refl, _∙_}
-use mathlib.Core.Bool.{Bool, true, false}
-use mathlib.Core.List.{List, _∷_}
+-- `sync_numbers::number` meets its contract. Assumes nothing.
+use mathlib.Core.Path.{refl}
+use mathlib.Core.Bool.{false}
 use native.Mathlib.Omega.{arith}
-use lib.ListN.{length, getD}
-use lib.IntN.{ℤ}
-use Rattle.grammar.specs.Machine.{Ev, num}
-use Rattle.grammar.specs.Machine.{Follow, Sym, figures, stateAt, live, limit}
-use Rattle.grammar.proofs.Signs.{pos-fits16, pos-fits, neg-fits, neg-is, pos-is}
-use Rattle.grammar.specs.Promises.{NumberTo, DigitsTo}
-use Rattle.grammar.proofs.Steps.{nonzero-of, number-end, number-bad, number-figures, number-dashed, number-zero, number-dash}
+use Rattle.grammar.specs.Machine.{figures}
+use Rattle.grammar.proofs.Signs.{pos-fits16, pos-is}
+use Rattle.grammar.proofs.Steps.{nonzero-of, number-end, number-bad, number-figures, number-zero, number-dash}
 use borrow.Author.Needs.{needs}
 use Rattle.sync_numbers.proofs.number.Statement.{statement}
 use Rattle.sync_numbers.proofs.number.Tie as tie

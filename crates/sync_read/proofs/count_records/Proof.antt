@@ -1,3 +1,4 @@
+-- `sync_read::count_records` meets its contract. Assumes nothing.
 use Rattle.grammar.proofs.Openings.{entry-end, entry-note, stuck-ended, base-go, base-bad, counted-none, counted-more, counted-end}
 use Rattle.grammar.specs.Promises.{Counted}
 use Rattle.grammar.specs.Machine.{Ev, flat, stateAt, live}
@@ -9,10 +10,6 @@ use Prim.Native.Nat.{_≤_, _-_, _+_}
 use borrow.Author.Needs.{needs}
 use Rattle.sync_read.proofs.count_records.Statement.{statement}
 use Rattle.sync_read.proofs.count_records.Tie as tie
-use Rattle.sync_read.proofs.count_records.Reads as reads
-use Rattle.sync_read.proofs.count_records.Lts as lts
-use Rattle.sync_notes.proofs.note.Reads as note-reads
-use Rattle.sync_records.proofs.record_line.Reads as record-line-reads
 
 abbrev Inv-loop : tie.InvT-loop
 Inv-loop s at own₀ p₀ n₀ own p n = (length own ≡ 77) × (p ≤ length s) × (n ≤ p) × ((g : List Ev) → stateAt s at ≡ live g [] → Counted s p g n)
@@ -20,15 +17,12 @@ Inv-loop s at own₀ p₀ n₀ own p n = (length own ≡ 77) × (p ≤ length s)
 abbrev μ-loop : tie.MeasureT-loop
 μ-loop s at own₀ p₀ n₀ own p n = length s - p
 
--- src/lib.rt:99:5
 loop-holds : tie.Need-loop-holds Inv-loop μ-loop
 loop-holds c = (refl, c .before .pre, omega arith, λ g h. counted-none _ _ g h)
 
--- src/lib.rt:100:12
 shared-slice-read-if1 : tie.Need-shared-slice-read-if1 Inv-loop μ-loop
 shared-slice-read-if1 c = search needs
 
--- src/lib.rt:101:13
 returns : tie.Need-returns Inv-loop μ-loop
 returns c =
     let a = c .before .before .before .before .before .args in
@@ -36,11 +30,9 @@ returns c =
     let t = c .before .before .loop-test in
     λ g h. let w = l .inv .3 g h in base-bad (a .s .now) (l .p) (g ++ flat (w .lines)) (w .state) (t .taken) (c .if1 .taken)
 
--- src/lib.rt:103:17
 add-q : tie.Need-add-q Inv-loop μ-loop
 add-q c = search needs
 
--- src/lib.rt:105:13
 returns-2 : tie.Need-returns-2 Inv-loop μ-loop
 returns-2 c =
     let a = c .before .before .before .before .before .before .args in
@@ -51,23 +43,18 @@ returns-2 c =
     let o = base-go (a .s .now) (l .p) (g ++ flat (w .lines)) (w .state) (t .taken) (c .before .if1 .left) in
     stuck-ended (a .s .now) (l .p + 1) (entry-end (a .s .now) (l .p + 1) (g ++ flat (w .lines)) [] o (c .if2 .taken) (omega arith))
 
--- src/lib.rt:107:17
 shared-slice-read-b : tie.Need-shared-slice-read-b Inv-loop μ-loop
 shared-slice-read-b c = search needs
 
--- src/lib.rt:109:29
 add-note : tie.Need-add-note Inv-loop μ-loop
 add-note c = search needs
 
--- src/lib.rt:109:17
 note-requires : tie.Need-note-requires Inv-loop μ-loop
 note-requires c κs = search needs
 
--- src/lib.rt:111:25
 enum-known-t : tie.Need-enum-known-t Inv-loop μ-loop
 enum-known-t c = search needs
 
--- src/lib.rt:99:5
 loop-less : tie.Need-loop-less Inv-loop μ-loop
 loop-less c =
     let a = c .before .before .before .before .before .before .before .before .before .before .before .before .args in
@@ -76,7 +63,6 @@ loop-less c =
     let v = rw (c .before .t .given .1) at (c .before .before .before .note .ensures) in
     omega arith
 
--- src/lib.rt:99:5
 loop-again : tie.Need-loop-again Inv-loop μ-loop
 loop-again c =
     let a = c .before .before .before .before .before .before .before .before .before .before .before .before .args in
@@ -93,11 +79,9 @@ loop-again c =
           record { lines = w .lines; many = w .many; state = v .2 (g ++ flat (w .lines)) [] n },
     )
 
--- src/lib.rt:114:26
 enum-known-t-2 : tie.Need-enum-known-t-2 Inv-loop μ-loop
 enum-known-t-2 c = search needs
 
--- src/lib.rt:115:21
 returns-3 : tie.Need-returns-3 Inv-loop μ-loop
 returns-3 c =
     let a = c .before .before .before .before .before .before .before .before .before .before .before .before .args in
@@ -110,21 +94,17 @@ returns-3 c =
     let n = entry-note (a .s .now) (l .p + 1) (g ++ flat (w .lines)) [] o (c .before .before .before .before .before .before .if2 .left) (c .before .before .before .before .if3 .taken) in
     stuck-ended (a .s .now) _ (v (g ++ flat (w .lines)) [] n)
 
--- src/lib.rt:119:42
 slice-aggregate-record-line : tie.Need-slice-aggregate-record-line Inv-loop μ-loop
 slice-aggregate-record-line c = search needs
 
--- src/lib.rt:119:17
 record-line-requires : tie.Need-record-line-requires Inv-loop μ-loop
 record-line-requires c κs =
     let l = c .before .before .before .before .before .before .before .loop in
     (c .before .before .before .if2 .left, refl, c .before .if3 .left, omega (arith, l .inv .0))
 
--- src/lib.rt:121:25
 enum-known-t-3 : tie.Need-enum-known-t-3 Inv-loop μ-loop
 enum-known-t-3 c = search needs
 
--- src/lib.rt:123:21
 add-n : tie.Need-add-n Inv-loop μ-loop
 add-n c =
     let a = c .before .before .before .before .before .before .before .before .before .before .before .before .before .before .args in
@@ -135,7 +115,6 @@ add-n c =
     let b = v .within in
     search needs
 
--- src/lib.rt:99:5
 loop-less-2 : tie.Need-loop-less-2 Inv-loop μ-loop
 loop-less-2 c =
     let a = c .before .before .before .before .before .before .before .before .before .before .before .before .before .before .args in
@@ -146,7 +125,6 @@ loop-less-2 c =
     let b = v .within in
     omega arith
 
--- src/lib.rt:99:5
 loop-again-2 : tie.Need-loop-again-2 Inv-loop μ-loop
 loop-again-2 c =
     let a = c .before .before .before .before .before .before .before .before .before .before .before .before .before .before .args in
@@ -163,11 +141,9 @@ loop-again-2 c =
           counted-more (a .s .now) (l .p) _ g (l .n) w (v .one) (v .so (g ++ flat (w .lines)) [] o),
     )
 
--- src/lib.rt:125:26
 enum-known-t-4 : tie.Need-enum-known-t-4 Inv-loop μ-loop
 enum-known-t-4 c = search needs
 
--- src/lib.rt:126:21
 returns-4 : tie.Need-returns-4 Inv-loop μ-loop
 returns-4 c =
     let a = c .before .before .before .before .before .before .before .before .before .before .before .before .before .before .args in
@@ -179,7 +155,6 @@ returns-4 c =
     let o = base-go (a .s .now) (l .p) (g ++ flat (w .lines)) (w .state) (t .taken) (c .before .before .before .before .before .before .before .before .before .if1 .left) in
     stuck-ended (a .s .now) _ (v .1 (g ++ flat (w .lines)) [] o)
 
--- src/lib.rt:92:1
 returns-5 : tie.Need-returns-5 Inv-loop μ-loop
 returns-5 c =
     let a = c .before .before .before .args in

@@ -1,69 +1,51 @@
+-- `sync_read::judge` meets its contract. Assumes nothing.
 use Rattle.grammar.proofs.Whole.{sizes-bad, window-bad, lines-bad, lines-read}
 use mir.Val.{toZ, ofZ}
 use mir.Syntax.{w32}
-use lib.IntN.{ℤ}
 use mathlib.Core.Path.{_≡_}
 use borrow.Author.Needs.{needs}
 use Rattle.sync_read.proofs.judge.Statement.{statement}
 use Rattle.sync_read.proofs.judge.Tie as tie
-use Rattle.sync_read.proofs.judge.Reads as reads
-use Rattle.sync_read.proofs.judge.Lts as lts
-use Rattle.sync_read.proofs.count_records.Reads as count-records-reads
-use Rattle.sync_read.proofs.two_lines.Reads as two-lines-reads
 
--- src/lib.rt:138:35
 slice-aggregate-two-lines : tie.Need-slice-aggregate-two-lines
 slice-aggregate-two-lines c = search needs
 
--- src/lib.rt:138:50
 slice-aggregate-two-lines-2 : tie.Need-slice-aggregate-two-lines-2
 slice-aggregate-two-lines-2 c = search needs
 
--- src/lib.rt:138:9
 two-lines-requires : tie.Need-two-lines-requires
 two-lines-requires c κs = search needs
 
--- src/lib.rt:140:20
 enum-known-a : tie.Need-enum-known-a
 enum-known-a c = search needs
 
--- src/lib.rt:141:43
 slice-aggregate-two-lines-3 : tie.Need-slice-aggregate-two-lines-3
 slice-aggregate-two-lines-3 c = search needs
 
--- src/lib.rt:141:56
 slice-aggregate-two-lines-4 : tie.Need-slice-aggregate-two-lines-4
 slice-aggregate-two-lines-4 c = search needs
 
--- src/lib.rt:141:17
 two-lines-requires-2 : tie.Need-two-lines-requires-2
 two-lines-requires-2 c κs = (rw (c .before .before .before .a .given .1) at (c .before .before .before .before .before .two-lines .ensures)) .1
 
--- src/lib.rt:143:28
 enum-known-b : tie.Need-enum-known-b
 enum-known-b c = search needs
 
--- src/lib.rt:144:25
 count-records-requires : tie.Need-count-records-requires
 count-records-requires c κs = (rw (c .before .b .given .1) at (c .before .before .before .two-lines2 .ensures)) .1
 
--- src/lib.rt:146:38
 enum-known-l : tie.Need-enum-known-l
 enum-known-l c = search needs
 
--- src/lib.rt:168:39
 enum-known-l-2 : tie.Need-enum-known-l-2
 enum-known-l-2 c = search needs
 
--- src/lib.rt:171:27
 enum-known-b-2 : tie.Need-enum-known-b-2
 enum-known-b-2 c = search needs
 
--- src/lib.rt:174:19
 enum-known-a-2 : tie.Need-enum-known-a-2
 enum-known-a-2 c = search needs
 
--- src/lib.rt:135:1
 returns : tie.Need-returns
 returns c =
     let s = c .before .before .before .before .before .before .before .before .before .before .before .before .before .before .before .before .before .args .s .now in
@@ -81,7 +63,6 @@ returns c =
     let q3 : toZ w32 (ofZ w32 (g .1 .1 .1 .0)) ≡ g .1 .1 .1 .0 = search (needs, c .before .before .before .before .known-told2 .given) in
     rw (p0, p1, p2, p3, q0, q1, q2, q3) (lines-read s (f .0) (f .1 .0) (f .1 .1 .0) (f .1 .1 .1 .0) (f .1 .1 .1 .1 .0) h (g .0) (g .1 .0) (g .1 .1 .0) (g .1 .1 .1 .0) (g .1 .1 .1 .1 .0) k _ (rw (c .before .l .given .1) at (c .before .before .before .count-records .ensures)))
 
--- src/lib.rt:135:1
 returns-2 : tie.Need-returns-2
 returns-2 c =
     let s = c .before .before .before .before .before .before .before .before .before .before .before .before .before .before .before .before .before .args .s .now in
@@ -91,7 +72,6 @@ returns-2 c =
     let k = rw (c .before .before .before .before .before .b .given .1) at (c .before .before .before .before .before .before .before .two-lines2 .ensures) in
     lines-bad s (f .0) (f .1 .0) (f .1 .1 .0) (f .1 .1 .1 .0) (f .1 .1 .1 .1 .0) h (g .0) (g .1 .0) (g .1 .1 .0) (g .1 .1 .1 .0) (g .1 .1 .1 .1 .0) k _ (rw (c .before .l2 .given .1) at (c .before .before .before .count-records .ensures))
 
--- src/lib.rt:135:1
 returns-3 : tie.Need-returns-3
 returns-3 c =
     let s = c .before .before .before .before .before .before .before .before .before .before .before .before .before .args .s .now in
@@ -99,7 +79,6 @@ returns-3 c =
     let h = rw (c .before .before .before .before .before .before .before .a .given .1) at (c .before .before .before .before .before .before .before .before .before .two-lines .ensures) in
     window-bad s (f .0) (f .1 .0) (f .1 .1 .0) (f .1 .1 .1 .0) (f .1 .1 .1 .1 .0) h _ (rw (c .before .b2 .given .1) at (c .before .before .before .two-lines2 .ensures))
 
--- src/lib.rt:135:1
 returns-4 : tie.Need-returns-4
 returns-4 c = sizes-bad (c .before .before .before .before .before .before .before .args .s .now) _ (rw (c .before .a2 .given .1) at (c .before .before .before .two-lines .ensures))
 

@@ -1,13 +1,12 @@
-use Prim.Native.Nat.{ℕ, zero, suc, _≤_, _<_, _-_, _+_, _*_}
-use mathlib.Core.Path.{_≡_, sym, refl, _∙_, ap}
-use mathlib.Core.Bool.{Bool, true, false}
-use mathlib.Core.List.{List, [], _∷_, _++_, append-assoc}
+-- `sync_read::pair_line` meets its contract. Assumes nothing.
+use Prim.Native.Nat.{_≤_, _-_, _+_}
+use mathlib.Core.Path.{_≡_, _∙_}
+use mathlib.Core.List.{List, _∷_}
 use native.Mathlib.Omega.{arith}
 use borrow.Author.Needs.{needs}
-use lib.ListN.{length, getD, drop}
-use Rattle.definitions.specs.Text.{Kind, letter, tailOf}
-use Rattle.grammar.specs.Machine.{Ev, num, gap, shut, Sym, lit, field, line, opened, lits, syms, noteTail, stateAt, live}
-use Rattle.grammar.specs.Promises.{Takes, TwoTo, PairTo}
+use lib.ListN.{length}
+use Rattle.definitions.specs.Text.{Kind}
+use Rattle.grammar.specs.Machine.{Ev, Sym, line, stateAt, live}
 use Rattle.grammar.proofs.Openings.{line-end, line-go, line-bad, opened-end, opened-note, opened-bad, pair-line-of}
 use Rattle.sync_read.proofs.pair_line.Statement.{statement}
 use Rattle.sync_read.proofs.pair_line.Tie as tie

@@ -1,3 +1,4 @@
+-- `sync_read::pair_of` meets its contract. Assumes nothing.
 use Rattle.grammar.proofs.Storing.{stores-first, stores-word, stores-more, two-read}
 use mir.Facts.{toZ-ofZ}
 use mir.Val.{toZ, ofZ}
@@ -10,57 +11,40 @@ use mathlib.Core.Path.{_≡_, refl, _∙_}
 use borrow.Author.Needs.{needs}
 use Rattle.sync_read.proofs.pair_of.Statement.{statement}
 use Rattle.sync_read.proofs.pair_of.Tie as tie
-use Rattle.sync_read.proofs.pair_of.Reads as reads
-use Rattle.sync_read.proofs.pair_of.Lts as lts
-use Rattle.sync_read.proofs.widened.Reads as widened-reads
-use Rattle.sync_records.proofs.then_fields.Reads as then-fields-reads
-use Rattle.sync_records.proofs.then_word.Reads as then-word-reads
 
--- src/lib.rt:30:9
 then-word-requires : tie.Need-then-word-requires
 then-word-requires c κs = search needs
 
--- src/lib.rt:31:34
 slice-aggregate-then-fields : tie.Need-slice-aggregate-then-fields
 slice-aggregate-then-fields c = search needs
 
--- src/lib.rt:31:9
 then-fields-requires : tie.Need-then-fields-requires
 then-fields-requires c κs = search needs
 
--- src/lib.rt:32:29
 slice-aggregate-then-word : tie.Need-slice-aggregate-then-word
 slice-aggregate-then-word c = search needs
 
--- src/lib.rt:32:9
 then-word-requires-2 : tie.Need-then-word-requires-2
 then-word-requires-2 c κs = search needs
 
--- src/lib.rt:34:17
 enum-known-c : tie.Need-enum-known-c
 enum-known-c c = search needs
 
--- src/lib.rt:34:42
 array-copy-out-widened : tie.Need-array-copy-out-widened
 array-copy-out-widened c = search needs
 
--- src/lib.rt:34:34
 widened-requires : tie.Need-widened-requires
 widened-requires c κs = search needs
 
--- src/lib.rt:34:59
 array-copy-out-widened-2 : tie.Need-array-copy-out-widened-2
 array-copy-out-widened-2 c = search needs
 
--- src/lib.rt:34:51
 widened-requires-2 : tie.Need-widened-requires-2
 widened-requires-2 c κs = search needs
 
--- src/lib.rt:35:18
 enum-known-c-2 : tie.Need-enum-known-c-2
 enum-known-c-2 c = search needs
 
--- src/lib.rt:25:1
 returns : tie.Need-returns
 returns c =
     let o = c .before .before .before .before .before .before .before .before .before .before .before .before .before .before .before in
@@ -76,7 +60,6 @@ returns c =
     let y : toZ w32 (ofZ w32 (c .widened2 .result)) ≡ getD two 1 (pos 0) = toZ-ofZ (search needs) ∙ c .widened2 .ensures ∙ toZ-ofZ (search needs) in
     rw (x, y) (two-read (a .s .now) (a .w .now) (a .at) zeros two _ refl st)
 
--- src/lib.rt:25:1
 returns-2 : tie.Need-returns-2
 returns-2 c =
     let o = c .before .before .before .before .before .before .before .before .before .before .before in

@@ -1,3 +1,4 @@
+-- `sync_read::two_lines` meets its contract. Assumes nothing.
 use mir.Val.{toZ, ofZ}
 use mir.Syntax.{w32}
 use mathlib.Core.Path.{_≡_}
@@ -5,35 +6,25 @@ use Rattle.grammar.proofs.Openings.{four-first-bad, four-bad, four-done}
 use borrow.Author.Needs.{needs}
 use Rattle.sync_read.proofs.two_lines.Statement.{statement}
 use Rattle.sync_read.proofs.two_lines.Tie as tie
-use Rattle.sync_read.proofs.two_lines.Reads as reads
-use Rattle.sync_read.proofs.two_lines.Lts as lts
-use Rattle.sync_read.proofs.pair_line.Reads as pair-line-reads
 
--- src/lib.rt:78:9
 pair-line-requires : tie.Need-pair-line-requires
 pair-line-requires c κs = search needs
 
--- src/lib.rt:80:20
 enum-known-a : tie.Need-enum-known-a
 enum-known-a c = search needs
 
--- src/lib.rt:81:17
 pair-line-requires-2 : tie.Need-pair-line-requires-2
 pair-line-requires-2 c κs = (rw (c .before .a .given .1) at (c .before .before .before .pair-line .ensures)) .1
 
--- src/lib.rt:83:28
 enum-known-b : tie.Need-enum-known-b
 enum-known-b c = search needs
 
--- src/lib.rt:84:30
 enum-known-b-2 : tie.Need-enum-known-b-2
 enum-known-b-2 c = search needs
 
--- src/lib.rt:87:22
 enum-known-a-2 : tie.Need-enum-known-a-2
 enum-known-a-2 c = search needs
 
--- src/lib.rt:74:1
 returns : tie.Need-returns
 returns c =
     let r = c .before .before .before .before .before .before .before .before .before .before .before .args in
@@ -47,7 +38,6 @@ returns c =
     let w : toZ w32 (ofZ w32 (g .1 .0)) ≡ g .1 .0 = search needs in
     rw (x, y, z, w) (four-done (r .s .now) (r .at) (r .c) (r .w .now) (r .d) (r .v .now) (f .0) (f .1 .0) (f .1 .1 .0) h (g .0) (g .1 .0) _ k)
 
--- src/lib.rt:74:1
 returns-2 : tie.Need-returns-2
 returns-2 c =
     let r = c .before .before .before .before .before .before .before .before .before .before .before .args in
@@ -56,7 +46,6 @@ returns-2 c =
     let k = rw (c .before .b2 .given .1) at (c .before .before .before .pair-line2 .ensures) in
     four-bad (r .s .now) (r .at) (r .c) (r .w .now) (r .d) (r .v .now) (f .0) (f .1 .0) (f .1 .1 .0) h _ k
 
--- src/lib.rt:74:1
 returns-3 : tie.Need-returns-3
 returns-3 c =
     let r = c .before .before .before .before .before .before .before .args in

@@ -1,87 +1,64 @@
+-- `sync_records::mb_tail` meets its contract. Assumes nothing.
 use Rattle.grammar.proofs.Storing.{stores-first, stores-word, stores-more, mb-tail}
 use native.Mathlib.Omega.{arith}
 use borrow.Author.Needs.{needs}
 use Rattle.sync_records.proofs.mb_tail.Statement.{statement}
 use Rattle.sync_records.proofs.mb_tail.Tie as tie
-use Rattle.sync_records.proofs.mb_tail.Reads as reads
-use Rattle.sync_records.proofs.mb_tail.Lts as lts
-use Rattle.sync_records.proofs.then_field.Reads as then-field-reads
-use Rattle.sync_records.proofs.then_fields.Reads as then-fields-reads
-use Rattle.sync_records.proofs.then_word.Reads as then-word-reads
 
--- src/lib.rt:135:21
 add-sub-types : tie.Need-add-sub-types
 add-sub-types c = search needs
 
--- src/lib.rt:136:22
 add-references : tie.Need-add-references
 add-references c = search needs
 
--- src/lib.rt:137:19
 add-vectors : tie.Need-add-vectors
 add-vectors c = search needs
 
--- src/lib.rt:138:39
 slice-aggregate-then-word : tie.Need-slice-aggregate-then-word
 slice-aggregate-then-word c = search needs
 
--- src/lib.rt:138:9
 then-word-requires : tie.Need-then-word-requires
 then-word-requires c κs = search needs
 
--- src/lib.rt:139:9
 then-field-requires : tie.Need-then-field-requires
 then-field-requires c κs = search needs
 
--- src/lib.rt:140:29
 slice-aggregate-then-word-2 : tie.Need-slice-aggregate-then-word-2
 slice-aggregate-then-word-2 c = search needs
 
--- src/lib.rt:140:9
 then-word-requires-2 : tie.Need-then-word-requires-2
 then-word-requires-2 c κs = search needs
 
--- src/lib.rt:141:9
 then-fields-requires : tie.Need-then-fields-requires
 then-fields-requires c κs = (c .before .then-word2 .ensures .within, omega (arith, c .before .before .before .out .given, c .before .before .before .before .before .before .before .before .before .pre .1))
 
--- src/lib.rt:142:29
 slice-aggregate-then-word-3 : tie.Need-slice-aggregate-then-word-3
 slice-aggregate-then-word-3 c = search needs
 
--- src/lib.rt:142:9
 then-word-requires-3 : tie.Need-then-word-requires-3
 then-word-requires-3 c κs = search needs
 
--- src/lib.rt:143:9
 then-fields-requires-2 : tie.Need-then-fields-requires-2
 then-fields-requires-2 c κs = (c .before .then-word3 .ensures .within, omega (arith, c .before .before .before .out2 .given, c .before .before .before .before .before .before .before .before .out .given, c .before .before .before .before .before .before .before .before .before .before .before .before .before .before .pre .1))
 
--- src/lib.rt:144:29
 slice-aggregate-then-word-4 : tie.Need-slice-aggregate-then-word-4
 slice-aggregate-then-word-4 c = search needs
 
--- src/lib.rt:144:9
 then-word-requires-4 : tie.Need-then-word-requires-4
 then-word-requires-4 c κs = search needs
 
--- src/lib.rt:145:9
 then-fields-requires-3 : tie.Need-then-fields-requires-3
 then-fields-requires-3 c κs = (c .before .then-word4 .ensures .within, omega (arith, c .before .before .before .out3 .given, c .before .before .before .before .before .before .before .before .out2 .given, c .before .before .before .before .before .before .before .before .before .before .before .before .before .out .given, c .before .before .before .before .before .before .before .before .before .before .before .before .before .before .before .before .before .before .before .pre .1))
 
--- src/lib.rt:146:21
 slice-aggregate-then-word-5 : tie.Need-slice-aggregate-then-word-5
 slice-aggregate-then-word-5 c = search needs
 
--- src/lib.rt:146:5
 then-word-requires-5 : tie.Need-then-word-requires-5
 then-word-requires-5 c κs = search needs
 
--- src/lib.rt:131:1
 same-length : tie.Need-same-length
 same-length c = search needs
 
--- src/lib.rt:131:1
 returns : tie.Need-returns
 returns c =
     let o = c .before .before .before .before .before .before .before .before .before .before .before .before .before .before .before .before .before .before .before .before .before .before .before in

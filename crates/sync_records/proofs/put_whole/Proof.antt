@@ -1,48 +1,37 @@
+-- `sync_records::put_whole` meets its contract. Assumes nothing.
 use mir.Val.{toZ, ofZ}
 use mir.Syntax.{w16}
 use lib.ListN.{getD}
-use lib.IntN.{ℤ, pos}
+use lib.IntN.{pos}
 use mathlib.Core.Path.{_≡_}
 use borrow.Author.Needs.{needs}
 use Rattle.sync_records.proofs.put_whole.Statement.{statement}
 use Rattle.sync_records.proofs.put_whole.Tie as tie
-use Rattle.sync_records.proofs.put_whole.Reads as reads
-use Rattle.sync_records.proofs.put_whole.Lts as lts
-use Rattle.sync_records.proofs.put_record.Reads as put-record-reads
 
--- src/lib.rt:109:14
 array-copy-out-r0 : tie.Need-array-copy-out-r0
 array-copy-out-r0 c = search needs
 
--- src/lib.rt:110:14
 array-copy-out-r1 : tie.Need-array-copy-out-r1
 array-copy-out-r1 c = search needs
 
--- src/lib.rt:111:14
 array-copy-out-x0 : tie.Need-array-copy-out-x0
 array-copy-out-x0 c = search needs
 
--- src/lib.rt:112:14
 array-copy-out-y0 : tie.Need-array-copy-out-y0
 array-copy-out-y0 c = search needs
 
--- src/lib.rt:113:14
 array-copy-out-x1 : tie.Need-array-copy-out-x1
 array-copy-out-x1 c = search needs
 
--- src/lib.rt:114:14
 array-copy-out-y1 : tie.Need-array-copy-out-y1
 array-copy-out-y1 c = search needs
 
--- src/lib.rt:117:5
 put-record-requires : tie.Need-put-record-requires
 put-record-requires c κs = search needs
 
--- src/lib.rt:105:1
 same-length : tie.Need-same-length
 same-length c = search needs
 
--- src/lib.rt:105:1
 returns : tie.Need-returns
 returns c =
     let six = c .before .before .before .before .before .before .before .before .before .args .t3 in

@@ -1,3 +1,4 @@
+-- `sync_records::record_line` meets its contract. Assumes nothing.
 use Rattle.grammar.proofs.Storing.{untouched}
 use Rattle.grammar.proofs.Openings.{record-of, entry-bad}
 use Rattle.definitions.specs.Text.{intra, whole, mb}
@@ -6,70 +7,52 @@ use mathlib.Core.Path.{sym, _∙_}
 use borrow.Author.Needs.{needs}
 use Rattle.sync_records.proofs.record_line.Statement.{statement}
 use Rattle.sync_records.proofs.record_line.Tie as tie
-use Rattle.sync_records.proofs.record_line.Reads as reads
-use Rattle.sync_records.proofs.record_line.Lts as lts
-use Rattle.sync_records.proofs.intra_tail.Reads as intra-tail-reads
-use Rattle.sync_records.proofs.mb_tail.Reads as mb-tail-reads
-use Rattle.sync_records.proofs.whole_tail.Reads as whole-tail-reads
 
--- src/lib.rt:152:30
 add-intra-tail : tie.Need-add-intra-tail
 add-intra-tail c = search needs
 
--- src/lib.rt:152:9
 intra-tail-requires : tie.Need-intra-tail-requires
 intra-tail-requires c κs = search needs
 
--- src/lib.rt:152:9
 same-length : tie.Need-same-length
 same-length c = search needs
 
--- src/lib.rt:152:9
 returns : tie.Need-returns
 returns c =
     let o = c .before .before .before .before .before in
     let a = o .args in
     record-of (a .s .now) (a .at) (o .pre .0) intra (o .pre .1 ∙ c .before .before .before .if1 .taken) (a .out .now) (a .from) _ (c .before .intra-tail .result) (c .before .intra-tail .ensures)
 
--- src/lib.rt:155:30
 add-whole-tail : tie.Need-add-whole-tail
 add-whole-tail c = search needs
 
--- src/lib.rt:155:9
 whole-tail-requires : tie.Need-whole-tail-requires
 whole-tail-requires c κs = search needs
 
--- src/lib.rt:155:9
 same-length-2 : tie.Need-same-length-2
 same-length-2 c = search needs
 
--- src/lib.rt:155:9
 returns-2 : tie.Need-returns-2
 returns-2 c =
     let o = c .before .before .before .before .before .before in
     let a = o .args in
     record-of (a .s .now) (a .at) (o .pre .0) whole (o .pre .1 ∙ c .before .before .before .if2 .taken) (a .out .now) (a .from) _ (c .before .whole-tail .result) (c .before .whole-tail .ensures)
 
--- src/lib.rt:158:27
 add-mb-tail : tie.Need-add-mb-tail
 add-mb-tail c = search needs
 
--- src/lib.rt:158:9
 mb-tail-requires : tie.Need-mb-tail-requires
 mb-tail-requires c κs = search needs
 
--- src/lib.rt:158:9
 same-length-3 : tie.Need-same-length-3
 same-length-3 c = search needs
 
--- src/lib.rt:158:9
 returns-3 : tie.Need-returns-3
 returns-3 c =
     let o = c .before .before .before .before .before .before .before in
     let a = o .args in
     record-of (a .s .now) (a .at) (o .pre .0) mb (o .pre .1 ∙ c .before .before .before .if3 .taken) (a .out .now) (a .from) _ (c .before .mb-tail .result) (c .before .mb-tail .ensures)
 
--- src/lib.rt:147:1
 returns-4 : tie.Need-returns-4
 returns-4 c =
     let o = c .before .before .before .before in

@@ -1,3 +1,4 @@
+-- `sync_records::then_field` meets its contract. Assumes nothing.
 use Rattle.grammar.proofs.Storing.{one-stored, then-stores, then-stores-bad, untouched}
 use mir.Val.{toZ, ofZ}
 use mir.Syntax.{w16}
@@ -5,43 +6,31 @@ use mathlib.Core.Path.{_≡_}
 use borrow.Author.Needs.{needs}
 use Rattle.sync_records.proofs.then_field.Statement.{statement}
 use Rattle.sync_records.proofs.then_field.Tie as tie
-use Rattle.sync_records.proofs.then_field.Reads as reads
-use Rattle.sync_records.proofs.then_field.Lts as lts
-use Rattle.sync_numbers.proofs.field.Reads as field-reads
 
--- src/lib.rt:78:17
 enum-known-r : tie.Need-enum-known-r
 enum-known-r c = search needs
 
--- src/lib.rt:79:17
 field-requires : tie.Need-field-requires
 field-requires c κs = (rw (c .before .r .given .1) at (c .before .before .before .before .pre .0))
 
--- src/lib.rt:81:28
 enum-known-v : tie.Need-enum-known-v
 enum-known-v c = search needs
 
--- src/lib.rt:82:21
 mul-z : tie.Need-mul-z
 mul-z c = search needs
 
--- src/lib.rt:82:21
 slice-set-from-z : tie.Need-slice-set-from-z
 slice-set-from-z c = search needs
 
--- src/lib.rt:85:28
 enum-known-v-2 : tie.Need-enum-known-v-2
 enum-known-v-2 c = search needs
 
--- src/lib.rt:88:18
 enum-known-r-2 : tie.Need-enum-known-r-2
 enum-known-r-2 c = search needs
 
--- src/lib.rt:73:1
 same-length : tie.Need-same-length
 same-length c = search needs
 
--- src/lib.rt:73:1
 returns : tie.Need-returns
 returns c =
     let a = c .before .before .before .before .before .before .before .before .args in
@@ -51,14 +40,12 @@ returns c =
     (then-stores (a .s .now) _ 1 (a .r) (a .out .now) (a .from) _ _ _ (c .before .before .before .before .before .r .given .1)
     (one-stored (a .s .now) _ (a .out .now) (a .from) z _ (rw (c .before .v .given .1) at (c .before .before .before .field .ensures))))
 
--- src/lib.rt:73:1
 returns-2 : tie.Need-returns-2
 returns-2 c =
     let a = c .before .before .before .before .before .before .before .before .args in
     then-stores (a .s .now) _ 1 (a .r) (a .out .now) (a .from) (a .out .now) _ _ (c .before .before .before .before .before .r .given .1)
     (untouched (a .out .now) (a .from) 1, rw (c .before .v2 .given .1) at (c .before .before .before .field .ensures))
 
--- src/lib.rt:73:1
 returns-3 : tie.Need-returns-3
 returns-3 c =
     let a = c .before .before .before .before .args in

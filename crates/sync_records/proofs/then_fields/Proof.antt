@@ -1,34 +1,26 @@
+-- `sync_records::then_fields` meets its contract. Assumes nothing.
 use Rattle.grammar.proofs.Storing.{then-stores, then-stores-bad}
 use borrow.Author.Needs.{needs}
 use Rattle.sync_records.proofs.then_fields.Statement.{statement}
 use Rattle.sync_records.proofs.then_fields.Tie as tie
-use Rattle.sync_records.proofs.then_fields.Reads as reads
-use Rattle.sync_records.proofs.then_fields.Lts as lts
-use Rattle.sync_records.proofs.store_fields.Reads as store-fields-reads
 
--- src/lib.rt:67:17
 enum-known-r : tie.Need-enum-known-r
 enum-known-r c = search needs
 
--- src/lib.rt:67:23
 store-fields-requires : tie.Need-store-fields-requires
 store-fields-requires c κs = (rw (c .before .before .r .given .1) at (c .before .before .before .before .before .pre .0), c .before .before .before .before .before .pre .1)
 
--- src/lib.rt:68:18
 enum-known-r-2 : tie.Need-enum-known-r-2
 enum-known-r-2 c = search needs
 
--- src/lib.rt:62:1
 same-length : tie.Need-same-length
 same-length c = search needs
 
--- src/lib.rt:62:1
 returns : tie.Need-returns
 returns c =
     let a = c .before .before .before .before .before .before .before .args in
     then-stores (a .s .now) _ _ (a .r) (a .out .now) (a .from) _ (c .before .store-fields .result) _ (c .before .before .before .before .r .given .1) (c .before .store-fields .ensures)
 
--- src/lib.rt:62:1
 returns-2 : tie.Need-returns-2
 returns-2 c =
     let a = c .before .before .before .before .args in

@@ -1,30 +1,23 @@
+-- `sync_records::then_word` meets its contract. Assumes nothing.
 use Rattle.grammar.proofs.Storing.{then-word, then-word-bad}
 use borrow.Author.Needs.{needs}
 use Rattle.sync_records.proofs.then_word.Statement.{statement}
 use Rattle.sync_records.proofs.then_word.Tie as tie
-use Rattle.sync_records.proofs.then_word.Reads as reads
-use Rattle.sync_records.proofs.then_word.Lts as lts
-use Rattle.sync_notes.proofs.word_at.Reads as word-at-reads
 
--- src/lib.rt:56:17
 enum-known-r : tie.Need-enum-known-r
 enum-known-r c = search needs
 
--- src/lib.rt:56:23
 word-at-requires : tie.Need-word-at-requires
 word-at-requires c κs = rw (c .before .r .given .1) at (c .before .before .before .before .before .pre)
 
--- src/lib.rt:57:18
 enum-known-r-2 : tie.Need-enum-known-r-2
 enum-known-r-2 c = search needs
 
--- src/lib.rt:51:1
 returns : tie.Need-returns
 returns c =
     let a = c .before .before .before .before .before .before .args in
     then-word (a .s .now) (a .w .now) (a .r) (c .word-at .result) _ (c .before .before .r .given .1) (c .word-at .ensures)
 
--- src/lib.rt:51:1
 returns-2 : tie.Need-returns-2
 returns-2 c =
     let a = c .before .before .before .before .before .args in

@@ -1,3 +1,4 @@
+-- `sync_records::whole_tail` meets its contract. Assumes nothing.
 use Rattle.grammar.proofs.Storing.{stores-first, stores-word, stores-more, whole-tail}
 use native.Mathlib.Omega.{arith}
 use lib.IntN.{pos}
@@ -6,61 +7,43 @@ use mathlib.Core.Path.{refl}
 use borrow.Author.Needs.{needs}
 use Rattle.sync_records.proofs.whole_tail.Statement.{statement}
 use Rattle.sync_records.proofs.whole_tail.Tie as tie
-use Rattle.sync_records.proofs.whole_tail.Reads as reads
-use Rattle.sync_records.proofs.whole_tail.Lts as lts
-use Rattle.sync_records.proofs.put_whole.Reads as put-whole-reads
-use Rattle.sync_records.proofs.then_fields.Reads as then-fields-reads
-use Rattle.sync_records.proofs.then_word.Reads as then-word-reads
 
--- src/lib.rt:136:39
 slice-aggregate-then-word : tie.Need-slice-aggregate-then-word
 slice-aggregate-then-word c = search needs
 
--- src/lib.rt:136:9
 then-word-requires : tie.Need-then-word-requires
 then-word-requires c κs = search needs
 
--- src/lib.rt:137:34
 slice-aggregate-then-fields : tie.Need-slice-aggregate-then-fields
 slice-aggregate-then-fields c = search needs
 
--- src/lib.rt:137:9
 then-fields-requires : tie.Need-then-fields-requires
 then-fields-requires c κs = search needs
 
--- src/lib.rt:138:29
 slice-aggregate-then-word-2 : tie.Need-slice-aggregate-then-word-2
 slice-aggregate-then-word-2 c = search needs
 
--- src/lib.rt:138:9
 then-word-requires-2 : tie.Need-then-word-requires-2
 then-word-requires-2 c κs = search needs
 
--- src/lib.rt:139:34
 slice-aggregate-then-fields-2 : tie.Need-slice-aggregate-then-fields-2
 slice-aggregate-then-fields-2 c = search needs
 
--- src/lib.rt:139:9
 then-fields-requires-2 : tie.Need-then-fields-requires-2
 then-fields-requires-2 c κs = search needs
 
--- src/lib.rt:140:5
 put-whole-requires : tie.Need-put-whole-requires
 put-whole-requires c κs = search needs
 
--- src/lib.rt:141:21
 slice-aggregate-then-word-3 : tie.Need-slice-aggregate-then-word-3
 slice-aggregate-then-word-3 c = search needs
 
--- src/lib.rt:141:5
 then-word-requires-3 : tie.Need-then-word-requires-3
 then-word-requires-3 c κs = search needs
 
--- src/lib.rt:131:1
 same-length : tie.Need-same-length
 same-length c = search needs
 
--- src/lib.rt:131:1
 returns : tie.Need-returns
 returns c =
     let o = c .before .before .before .before .before .before .before .before .before .before .before .before .before .before .before .before in

@@ -1,48 +1,34 @@
+-- `sync_text::read_text` meets its contract. Assumes nothing.
 use Rattle.sync_text.proofs.Reply.{too-many, has-room, text-read}
 use Rattle.definitions.specs.Text.{wrongWords, tooLong, broken}
-use native.Mathlib.Omega.{arith}
 use borrow.Author.Needs.{needs}
 use Rattle.sync_text.proofs.read_text.Statement.{statement}
 use Rattle.sync_text.proofs.read_text.Tie as tie
-use Rattle.sync_text.proofs.read_text.Reads as reads
-use Rattle.sync_text.proofs.read_text.Lts as lts
-use Rattle.sync_read.proofs.judge.Reads as judge-reads
-use Rattle.sync_text.proofs.refused.Reads as refused-reads
-use Rattle.sync_text.proofs.store_records.Reads as store-records-reads
 
--- src/lib.rt:62:23
 mul-if1 : tie.Need-mul-if1
 mul-if1 c = search needs
 
--- src/lib.rt:63:9
 refused-requires : tie.Need-refused-requires
 refused-requires c κs = search needs
 
--- src/lib.rt:63:9
 returns : tie.Need-returns
 returns c = rw (c .refused .ensures) (wrongWords (c .before .if1 .taken))
 
--- src/lib.rt:66:9
 refused-requires-2 : tie.Need-refused-requires-2
 refused-requires-2 c κs = search needs
 
--- src/lib.rt:66:9
 returns-2 : tie.Need-returns-2
 returns-2 c = rw (c .refused2 .ensures) (tooLong (c .before .before .if1 .left) (c .before .if2 .taken))
 
--- src/lib.rt:68:9
 judge-requires : tie.Need-judge-requires
 judge-requires c κs = search needs
 
--- src/lib.rt:70:23
 enum-known-t : tie.Need-enum-known-t
 enum-known-t c = search needs
 
--- src/lib.rt:72:17
 refused-requires-3 : tie.Need-refused-requires-3
 refused-requires-3 c κs = search needs
 
--- src/lib.rt:72:17
 returns-3 : tie.Need-returns-3
 returns-3 c =
     let a = c .before .before .before .before .before .before .before .before .before .args in
@@ -51,7 +37,6 @@ returns-3 c =
     let l = c .before .before .before .before .before .before .if2 .left in
     rw (c .refused3 .ensures) (too-many (a .bytes .now) (a .words .now) _ _ _ e l j (c .before .if3 .taken))
 
--- src/lib.rt:74:13
 store-records-requires : tie.Need-store-records-requires
 store-records-requires c κs =
     let a = c .before .before .before .before .before .before .before .before .before .args in
@@ -60,15 +45,12 @@ store-records-requires c κs =
     let l = c .before .before .before .before .before .before .if2 .left in
     has-room (a .bytes .now) (a .words .now) _ _ _ e l j (c .before .if3 .left)
 
--- src/lib.rt:75:65
 cast-t16 : tie.Need-cast-t16
 cast-t16 c = search needs
 
--- src/lib.rt:77:23
 enum-known-t-2 : tie.Need-enum-known-t-2
 enum-known-t-2 c = search needs
 
--- src/lib.rt:77:40
 cast-refused : tie.Need-cast-refused
 cast-refused c =
     let j = rw (c .before .t2 .given .1) at (c .before .before .before .judge .ensures) in
@@ -76,15 +58,12 @@ cast-refused c =
     let w = j .within in
     search needs
 
--- src/lib.rt:77:29
 refused-requires-4 : tie.Need-refused-requires-4
 refused-requires-4 c κs = search needs
 
--- src/lib.rt:59:1
 same-length : tie.Need-same-length
 same-length c = search needs
 
--- src/lib.rt:59:1
 returns-4 : tie.Need-returns-4
 returns-4 c =
     let a = c .before .before .before .before .before .before .before .before .before .before .before .args in
@@ -93,7 +72,6 @@ returns-4 c =
     let l = c .before .before .before .before .before .before .before .before .if2 .left in
     text-read (a .bytes .now) (a .words .now) _ _ _ e l j (c .before .before .before .if3 .left) _ (c .before .store-records .ensures)
 
--- src/lib.rt:59:1
 returns-5 : tie.Need-returns-5
 returns-5 c =
     let a = c .before .before .before .before .before .before .before .before .args in

@@ -1,3 +1,4 @@
+-- `sync_text::store_records` meets its contract. Assumes nothing.
 use Rattle.grammar.proofs.Again.{never-stuck, line-begins, letter-there, Held, held-none, held-note, held-room, held-all, held-more}
 use Rattle.grammar.proofs.Openings.{entry-note}
 use Rattle.grammar.specs.Machine.{Ev, flat, stateAt, live}
@@ -7,13 +8,9 @@ use borrow.Author.Needs.{needs}
 use native.Mathlib.Omega.{arith}
 use mathlib.Core.List.{List, [], _++_}
 use mathlib.Core.Path.{_≡_, refl, _∙_}
-use Prim.Native.Nat.{_≤_, _<_, _-_, _+_, _*_}
+use Prim.Native.Nat.{_≤_, _-_, _+_}
 use Rattle.sync_text.proofs.store_records.Statement.{statement}
 use Rattle.sync_text.proofs.store_records.Tie as tie
-use Rattle.sync_text.proofs.store_records.Reads as reads
-use Rattle.sync_text.proofs.store_records.Lts as lts
-use Rattle.sync_notes.proofs.note.Reads as note-reads
-use Rattle.sync_records.proofs.record_line.Reads as record-line-reads
 
 abbrev Inv-loop : tie.InvT-loop
 Inv-loop s at words₀ p₀ from₀ words p from = (p ≤ length s) × (length words ≡ length words₀) × ((g : List Ev) → stateAt s at ≡ live g [] → Held s p g from words₀ words)
@@ -21,15 +18,12 @@ Inv-loop s at words₀ p₀ from₀ words p from = (p ≤ length s) × (length w
 abbrev μ-loop : tie.MeasureT-loop
 μ-loop s at words₀ p₀ from₀ words p from = length s - p
 
--- src/lib.rt:23:5
 loop-holds : tie.Need-loop-holds Inv-loop μ-loop
 loop-holds c = (c .before .pre .lines .within, refl, λ g h. held-none _ _ g _ h)
 
--- src/lib.rt:24:17
 add-q : tie.Need-add-q Inv-loop μ-loop
 add-q c = search needs
 
--- src/lib.rt:25:17
 shared-slice-read-b : tie.Need-shared-slice-read-b Inv-loop μ-loop
 shared-slice-read-b c =
     let a = c .before .before .before .before .args in
@@ -40,7 +34,6 @@ shared-slice-read-b c =
     let w = l .inv .2 (r .told) (r .lines .begins) in
     letter-there (a .s .now) f (r .lines .ends) (l .p) (r .told ++ flat (w .done)) (w .state) t
 
--- src/lib.rt:27:29
 add-note : tie.Need-add-note Inv-loop μ-loop
 add-note c =
     let a = c .before .before .before .before .before .args in
@@ -52,7 +45,6 @@ add-note c =
     let q = letter-there (a .s .now) f (r .lines .ends) (l .p) (r .told ++ flat (w .done)) (w .state) t in
     search needs
 
--- src/lib.rt:27:17
 note-requires : tie.Need-note-requires Inv-loop μ-loop
 note-requires c κs =
     let a = c .before .before .before .before .before .args in
@@ -64,18 +56,15 @@ note-requires c κs =
     let q = letter-there (a .s .now) f (r .lines .ends) (l .p) (r .told ++ flat (w .done)) (w .state) t in
     omega arith
 
--- src/lib.rt:29:25
 enum-known-t : tie.Need-enum-known-t Inv-loop μ-loop
 enum-known-t c = search needs
 
--- src/lib.rt:23:5
 loop-less : tie.Need-loop-less Inv-loop μ-loop
 loop-less c =
     let l = c .before .before .before .before .before .before .before .loop in
     let v = rw (c .before .t .given .1) at (c .before .before .before .note .ensures) in
     omega arith
 
--- src/lib.rt:23:5
 loop-again : tie.Need-loop-again Inv-loop μ-loop
 loop-again c =
     let a = c .before .before .before .before .before .before .before .before .before .args in
@@ -93,15 +82,12 @@ loop-again c =
           held-note (a .s .now) (l .p) g (l .from) (a .words .now) (l .words) w _ (v .2 (g ++ flat (w .done)) [] n),
     )
 
--- src/lib.rt:33:21
 enum-told : tie.Need-enum-told Inv-loop μ-loop
 enum-told c = search needs
 
--- src/lib.rt:33:21
 same-length : tie.Need-same-length Inv-loop μ-loop
 same-length c = c .before .before .before .before .before .before .loop .inv .1
 
--- src/lib.rt:33:21
 returns : tie.Need-returns Inv-loop μ-loop
 returns c =
     let a = c .before .before .before .before .before .before .before .before .args in
@@ -117,7 +103,6 @@ returns c =
     let v = rw (c .enum-told .given .1) at (c .before .before .note .ensures) in
     absurd (never-stuck (a .s .now) f (r .lines .ends) _ (v (g ++ flat (w .done)) [] n))
 
--- src/lib.rt:37:17
 record-line-requires : tie.Need-record-line-requires Inv-loop μ-loop
 record-line-requires c κs =
     let a = c .before .before .before .before .before .before .args in
@@ -128,11 +113,9 @@ record-line-requires c κs =
     let w = l .inv .2 (r .told) (r .lines .begins) in
     (letter-there (a .s .now) f (r .lines .ends) (l .p) (r .told ++ flat (w .done)) (w .state) t, refl, c .before .if1 .left, omega (arith, held-room (a .s .now) (l .p) (r .told) (l .from) (a .words .now) (l .words) w (r .entries) (r .lines .ends) t (c .before .if1 .left), r .fits, l .inv .1))
 
--- src/lib.rt:39:25
 enum-known-t-2 : tie.Need-enum-known-t-2 Inv-loop μ-loop
 enum-known-t-2 c = search needs
 
--- src/lib.rt:41:21
 add-from : tie.Need-add-from Inv-loop μ-loop
 add-from c =
     let a = c .before .before .before .before .before .before .before .before .before .before .before .args in
@@ -144,7 +127,6 @@ add-from c =
     let q : l .from + recordWords ≤ length (a .words .now) = omega (arith, held-room (a .s .now) (l .p) (r .told) (l .from) (a .words .now) (l .words) w (r .entries) (r .lines .ends) t (c .before .before .before .before .before .before .if1 .left), r .fits) in
     search needs
 
--- src/lib.rt:23:5
 loop-less-2 : tie.Need-loop-less-2 Inv-loop μ-loop
 loop-less-2 c =
     let l = c .before .before .before .before .before .before .before .before .before .loop in
@@ -153,7 +135,6 @@ loop-less-2 c =
     let b = v .within in
     omega arith
 
--- src/lib.rt:23:5
 loop-again-2 : tie.Need-loop-again-2 Inv-loop μ-loop
 loop-again-2 c =
     let a = c .before .before .before .before .before .before .before .before .before .before .before .args in
@@ -172,15 +153,12 @@ loop-again-2 c =
           held-more (a .s .now) (l .p) g (l .from) (a .words .now) (l .words) w _ (v .one) _ k (v .many) (v .stored) (v .so (g ++ flat (w .done)) [] o),
     )
 
--- src/lib.rt:44:21
 enum-told-2 : tie.Need-enum-told-2 Inv-loop μ-loop
 enum-told-2 c = search needs
 
--- src/lib.rt:44:21
 same-length-2 : tie.Need-same-length-2 Inv-loop μ-loop
 same-length-2 c = c .before .before .words .given ∙ c .before .before .before .before .before .before .before .before .loop .inv .1
 
--- src/lib.rt:44:21
 returns-2 : tie.Need-returns-2 Inv-loop μ-loop
 returns-2 c =
     let a = c .before .before .before .before .before .before .before .before .before .before .args in
@@ -195,11 +173,9 @@ returns-2 c =
     let v = rw (c .enum-told2 .given .1) at (c .before .before .before .record-line .ensures) in
     absurd (never-stuck (a .s .now) f (r .lines .ends) _ (v .1 (g ++ flat (w .done)) [] o))
 
--- src/lib.rt:17:1
 same-length-3 : tie.Need-same-length-3 Inv-loop μ-loop
 same-length-3 c = c .before .loop .inv .1
 
--- src/lib.rt:17:1
 returns-3 : tie.Need-returns-3 Inv-loop μ-loop
 returns-3 c =
     let a = c .before .before .before .args in
