@@ -132,3 +132,14 @@ pub enum PictureReply {
     Counted(Counts),
     Refused(Refusal),
 }
+
+// What a text gives: the geometry's numbers and the count of record lines.
+pub struct TextRead {
+    pub numbers: Numbers,
+    pub lines: u32,
+}
+
+pub enum TextReply {
+    Read(TextRead),
+    Refused(Refusal),
+}

@@ -1,0 +1,229 @@
+-- "Sync text and log" of document 01: the grammar of the text, and the text call.
+-- A text is a list of bytes. The grammar says of a list of bytes what it is, and which numbers stand in it; no reader is described here.
+-- Bytes: 10 is a line feed, 32 a space, 40 and 41 the brackets, 45 a minus, 48 to 57 the digits, 97 to 122 the letters a to z.
+use Prim.Native.Nat.{ℕ, zero, suc, _+_, _-_, _*_, _≤_, _<_}
+use mathlib.Core.Path.{_≡_}
+use mathlib.Core.Logic.{_⊎_}
+use mathlib.Core.List.{List, [], _∷_, _++_}
+use lib.ListN.{length, take, drop}
+use lib.IntN.{ℤ, pos, negsuc}
+use Rattle.definitions.specs.declared.Motion.{Motion}
+use Rattle.definitions.specs.declared.Numbers.{Numbers}
+use Rattle.definitions.specs.declared.Refusal.{Refusal}
+use Rattle.definitions.specs.declared.TextReply.{TextReply}
+use Rattle.definitions.specs.declared.TextReply.the-variants.{Read, Refused}
+use Rattle.definitions.specs.Tests.{forEach}
+use Rattle.definitions.specs.Record.{recordWords, wordOf, laidOut}
+use Rattle.definitions.specs.Answer.{unusedMotion}
+use Rattle.definitions.specs.Refusals.{refusal}
+
+-- ---- Words and numbers
+abbrev pub Letter : ℕ → Type 0
+Letter c = (97 ≤ c) × (c ≤ 122)
+
+abbrev pub Digit : ℕ → Type 0
+Digit c = (48 ≤ c) × (c ≤ 57)
+
+-- each byte of a list is a P
+pub data All (P : ℕ → Type 0) : List ℕ → Type 0 where
+  none : All P []
+  each : {c : ℕ} {t : List ℕ} → P c → All P t → All P (c ∷ t)
+
+-- words (one or more letters a to z)
+pub data Word : List ℕ → Type 0 where
+  word : {c : ℕ} {t : List ℕ} → Letter c → All Letter t → Word (c ∷ t)
+
+-- what decimal digits are worth, read after digits worth a
+abbrev pub valued : ℕ → List ℕ → ℕ
+valued a [] = a
+valued a (c ∷ t) = valued (10 * a + (c - 48)) t
+
+-- no leading zero: `0`, or digits of which the first is no zero; n is what they are worth
+pub data Plain : ℕ → List ℕ → Type 0 where
+  nought : Plain 0 (48 ∷ [])
+  digits : {c : ℕ} {t : List ℕ} → 49 ≤ c → c ≤ 57 → All Digit t → Plain (valued (c - 48) t) (c ∷ t)
+
+-- Numbers: optional minus, no leading zero, no −0, range −32,768..32,767. (negsuc n is −(n + 1).)
+pub data Number : ℤ → List ℕ → Type 0 where
+  unsigned : {n : ℕ} {t : List ℕ} → n ≤ 32767 → Plain n t → Number (pos n) t
+  negative : {n : ℕ} {t : List ℕ} → n ≤ 32767 → Plain (suc n) t → Number (negsuc n) (45 ∷ t)
+
+-- ---- Notes
+-- the rest of a bracket form: items of P, each after one space, and the closing bracket
+pub data Rest (P : List ℕ → Type 0) : List ℕ → Type 0 where
+  close : Rest P (41 ∷ [])
+  item : {w t : List ℕ} → P w → Rest P t → Rest P (32 ∷ (w ++ t))
+
+-- a list, non-empty, of items of P
+pub data Listed (P : List ℕ → Type 0) : List ℕ → Type 0 where
+  listed : {w t : List ℕ} → P w → Rest P t → Listed P (40 ∷ (w ++ t))
+
+-- a word or a number
+pub data Simple : List ℕ → Type 0 where
+  isWord : {t : List ℕ} → Word t → Simple t
+  isNumber : {z : ℤ} {t : List ℕ} → Number z t → Simple t
+
+-- words, numbers and lists, each list holding the same: an item in which lists nest d deep at the most
+abbrev pub Item : ℕ → List ℕ → Type 0
+Item zero t = Simple t
+Item (suc d) t = Simple t ⊎ Listed (Item d) t
+
+-- lines (note ...), to depth 8 with the note at 1: lists nest 7 deep in it
+pub data Note : List ℕ → Type 0 where
+  note : {t : List ℕ} → Rest (Item 7) t → Note (40 ∷ 110 ∷ 111 ∷ 116 ∷ 101 ∷ (t ++ (10 ∷ [])))
+
+pub data Notes : List ℕ → Type 0 where
+  none : Notes []
+  more : {t u : List ℕ} → Note t → Notes u → Notes (t ++ u)
+
+-- ---- Lines
+-- a part of a line's pattern: a byte; a number and one space; a number and a closing bracket
+pub data Part : Type 0 where
+  byte : ℕ → Part
+  spaced ended : Part
+
+-- the lists of bytes of a pattern, with the numbers that stand in them
+pub data Form : List Part → List ℤ → List ℕ → Type 0 where
+  nothing : Form [] [] []
+  isByte : {c : ℕ} {ps : List Part} {vs : List ℤ} {t : List ℕ} → Form ps vs t → Form (byte c ∷ ps) vs (c ∷ t)
+  isSpaced : {z : ℤ} {w : List ℕ} {ps : List Part} {vs : List ℤ} {t : List ℕ} → Number z w → Form ps vs t → Form (spaced ∷ ps) (z ∷ vs) (w ++ (32 ∷ t))
+  isEnded : {z : ℤ} {w : List ℕ} {ps : List Part} {vs : List ℤ} {t : List ℕ} → Number z w → Form ps vs t → Form (ended ∷ ps) (z ∷ vs) (w ++ (41 ∷ t))
+
+-- these bytes, and then ps
+abbrev pub bytes : List ℕ → List Part → List Part
+bytes [] ps = ps
+bytes (c ∷ w) ps = byte c ∷ bytes w ps
+
+-- n + 1 numbers parted by one space, a closing bracket, and then ps
+abbrev pub numbers : ℕ → List Part → List Part
+numbers zero ps = ended ∷ ps
+numbers (suc n) ps = spaced ∷ numbers n ps
+
+-- the kinds of line: each begins with a bracket and a letter of its own, which is not that of a note
+pub data Kind : Type 0 where
+  baseLine scaledLine atLine fullLine intraLine wholeLine mbLine : Kind
+
+abbrev pub letter : Kind → ℕ
+letter baseLine = 98
+letter scaledLine = 115
+letter atLine = 97
+letter fullLine = 102
+letter intraLine = 105
+letter wholeLine = 119
+letter mbLine = 109
+
+-- what comes after the letter: (base W H), (scaled W H), (at X Y), (full W H), (intra), (whole (R0 R1) (X0 Y0 X1 Y1)),
+-- (mb T (4 sub-types) (8 references) (64 vector words)), line feed after each
+abbrev pub tailOf : Kind → List Part
+tailOf baseLine = bytes (97 ∷ 115 ∷ 101 ∷ 32 ∷ []) (numbers 1 (byte 10 ∷ []))
+tailOf scaledLine = bytes (99 ∷ 97 ∷ 108 ∷ 101 ∷ 100 ∷ 32 ∷ []) (numbers 1 (byte 10 ∷ []))
+tailOf atLine = bytes (116 ∷ 32 ∷ []) (numbers 1 (byte 10 ∷ []))
+tailOf fullLine = bytes (117 ∷ 108 ∷ 108 ∷ 32 ∷ []) (numbers 1 (byte 10 ∷ []))
+tailOf intraLine = bytes (110 ∷ 116 ∷ 114 ∷ 97 ∷ 41 ∷ 10 ∷ []) []
+tailOf wholeLine = bytes (104 ∷ 111 ∷ 108 ∷ 101 ∷ 32 ∷ 40 ∷ []) (numbers 1 (bytes (32 ∷ 40 ∷ []) (numbers 3 (bytes (41 ∷ 10 ∷ []) []))))
+tailOf mbLine =
+    bytes (98 ∷ 32 ∷ []) (spaced ∷ bytes (40 ∷ []) (numbers 3 (bytes (32 ∷ 40 ∷ []) (numbers 7 (bytes (32 ∷ 40 ∷ []) (numbers 63 (bytes (41 ∷ 10 ∷ []) [])))))))
+
+-- a line of a kind, with its numbers
+abbrev pub LineOf : Kind → List ℤ → List ℕ → Type 0
+LineOf k = Form (byte 40 ∷ byte (letter k) ∷ tailOf k)
+
+-- lines of these kinds, one of each in this order, with notes before each; the numbers of all
+pub data Heads : List Kind → List ℤ → List ℕ → Type 0 where
+  noHead : Heads [] [] []
+  head : {k : Kind} {ks : List Kind} {vs ws : List ℤ} {n t u : List ℕ} → Notes n → LineOf k vs t → Heads ks ws u → Heads (k ∷ ks) (vs ++ ws) (n ++ (t ++ u))
+
+-- none or more lines, one per base record: their kinds
+pub data RecordKind : Type 0 where
+  intra whole mb : RecordKind
+
+abbrev pub kindOf : RecordKind → Kind
+kindOf intra = intraLine
+kindOf whole = wholeLine
+kindOf mb = mbLine
+
+-- a record line, as its kind and its numbers
+pub record Entry : Type 0 where
+  pub kind : RecordKind
+  pub fields : List ℤ
+
+-- record lines and notes, in any order
+pub data Records : List Entry → List ℕ → Type 0 where
+  noRecord : Records [] []
+  aNote : {rs : List Entry} {t u : List ℕ} → Note t → Records rs u → Records rs (t ++ u)
+  aRecord :
+      {r : RecordKind} {vs : List ℤ} {rs : List Entry} {t u : List ℕ} → LineOf (kindOf r) vs t → Records rs u → Records (record { kind = r; fields = vs } ∷ rs) (t ++ u)
+
+-- ---- The text
+-- the numbers of its first four lines
+abbrev pub headNumbers : Numbers → List ℤ
+headNumbers n =
+    let h = n .horizontal in
+    let v = n .vertical in
+    h .base ∷ v .base ∷ h .scaled ∷ v .scaled ∷ h .offset ∷ v .offset ∷ h .full ∷ v .full ∷ []
+
+-- t is a text of the grammar, with the geometry's numbers and the record lines
+pub record Text (n : Numbers) (entries : List Entry) (t : List ℕ) : Type 0 where
+  pub top : List ℕ
+  pub bottom : List ℕ
+  pub heads : Heads (baseLine ∷ scaledLine ∷ atLine ∷ fullLine ∷ []) (headNumbers n) top
+  pub lines : Records entries bottom
+  pub parts : t ≡ top ++ bottom
+
+-- t belongs to the grammar: there is such a text
+pub record Belongs (t : List ℕ) : Type 0 where
+  pub numbers : Numbers
+  pub entries : List Entry
+  pub text : Text numbers entries t
+
+-- a text can go on after p: some text of the grammar, however long, begins with p
+pub record CanGoOn (p : List ℕ) : Type 0 where
+  pub rest : List ℕ
+  pub belongs : Belongs (p ++ rest)
+
+-- 9: text breaks the grammar; place is the first byte offset at which no text of the grammar can go on (length if the text ends early)
+pub record BreaksAt (t : List ℕ) (place : ℕ) : Type 0 where
+  pub breaks : Belongs t → ⊥
+  pub within : place ≤ length t
+  pub before : CanGoOn (take place t)
+  pub there : place < length t → CanGoOn (take (place + 1) t) → ⊥
+
+-- ---- The words of a record line
+-- the one motion of a line (whole (R0 R1) (X0 Y0 X1 Y1)), by its numbers in order
+abbrev pub wholeMotion : List ℤ → Motion
+wholeMotion v =
+    record {
+      list0 = record { reference = wordOf v 0; x = wordOf v 2; y = wordOf v 3 };
+      list1 = record { reference = wordOf v 1; x = wordOf v 4; y = wordOf v 5 };
+    }
+
+-- (intra) is type 0; (whole ..) is type 1, with its motion in all blocks; the numbers of (mb ..) are the words, in order
+abbrev pub wordsFor : RecordKind → List ℤ → List ℤ
+wordsFor intra v = laidOut 0 (λ q. 0) (λ b. unusedMotion)
+wordsFor whole v = laidOut 1 (λ q. 0) (λ b. wholeMotion v)
+wordsFor mb v = v
+
+abbrev pub wordsOf : Entry → List ℤ
+wordsOf e = wordsFor (e .kind) (e .fields)
+
+-- ---- Text: the bytes, and the words of 99 records to write
+abbrev pub textRecords : ℕ
+textRecords = 99
+
+abbrev pub textBytes : ℕ
+textBytes = 65536
+
+-- What the call hands back, and the words afterwards. It tests 6, then 10 by length, 9, and 10 by lines, and refused leaves every word; else it gives the
+-- geometry's numbers and the count of record lines, whose words stand first, the rest unchanged.
+pub data TextAnswer (t : List ℕ) (words : List ℤ) : TextReply → List ℤ → Type 0 where
+  wrongWords : (length words ≡ recordWords * textRecords → ⊥) → TextAnswer t words (Refused (refusal 6)) words
+  tooLong : length words ≡ recordWords * textRecords → textBytes < length t → TextAnswer t words (Refused (refusal 10)) words
+  broken :
+      {place : ℕ} → length words ≡ recordWords * textRecords → length t ≤ textBytes → BreaksAt t place
+      → TextAnswer t words (Refused (record { number = 9; place = place; rule = 0 })) words
+  tooMany :
+      {n : Numbers} {entries : List Entry} → length words ≡ recordWords * textRecords → length t ≤ textBytes → Text n entries t → textRecords < length entries
+      → TextAnswer t words (Refused (refusal 10)) words
+  read :
+      {n : Numbers} {entries : List Entry} → length words ≡ recordWords * textRecords → length t ≤ textBytes → Text n entries t → length entries ≤ textRecords
+      → TextAnswer t words (Read (record { numbers = n; lines = length entries })) (forEach entries wordsOf ++ drop (recordWords * length entries) words)

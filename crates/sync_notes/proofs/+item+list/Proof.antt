@@ -1,0 +1,522 @@
+-- `sync_notes::+item+list` meets its contract. Assumes nothing.
+use Prim.Native.Nat.{_≤_, _-_, _+_, ℕ}
+use mathlib.Core.Path.{_≡_, sym, _∙_}
+use mathlib.Core.List.{List, _∷_}
+use native.Mathlib.Omega.{arith}
+use borrow.Author.Needs.{needs}
+use lib.ListN.{length, getD}
+use Rattle.grammar.specs.Machine.{Ev, inList, Sym, first, rest, stateAt, live}
+use Rattle.grammar.specs.declared.Class.the-variants.{Close, Space}
+use Rattle.grammar.proofs.Steps.{item-end, item-bad, item-letters, item-field, item-shallow, item-of-number, item-of-list, stuck-end, stuck-by, take-step, rest-off}
+use borrow.Fn.Kinds.{In}
+use borrow.Fn.PlainCycle.{Measures, is, falls, and}
+use Rattle.sync_notes.proofs.item.Reads as item
+use Rattle.sync_notes.proofs.list.Reads as list
+use Rattle.sync_notes.proofs.letters.Reads as letters-reads
+use Rattle.sync_numbers.proofs.class_of.Reads as class-of-reads
+use Rattle.sync_numbers.proofs.number.Reads as number-reads
+use Rattle.sync_notes.proofs.item.Kinds as item-kinds
+use Rattle.sync_notes.proofs.+item+list.Lts-item as item-lts
+use Rattle.sync_notes.proofs.list.Kinds as list-kinds
+use Rattle.sync_notes.proofs.+item+list.Lts-list as list-lts
+use Rattle.sync_notes.proofs.+item+list.{statement}
+use Rattle.sync_notes.proofs.+item+list.Tie.{close}
+
+abbrev μ-item : Measures 1 item-kinds.ps ℕ
+μ-item κs a = a .1 .1 .0 + a .1 .1 .0
+
+abbrev μ-list : Measures 1 list-kinds.ps ℕ
+μ-list κs a = a .1 .1 .0 + a .1 .1 .0 + 1
+
+abbrev item-at : ℕ → In 1 item-kinds.ps
+item-at t = and 1 item-kinds.ps (is 1 item-kinds.ps μ-item t) item.Pre
+
+abbrev item-below : ℕ → In 1 item-kinds.ps
+item-below t = and 1 item-kinds.ps (falls 1 item-kinds.ps _<_ μ-item t) item.Pre
+
+abbrev list-at : ℕ → In 1 list-kinds.ps
+list-at t = and 1 list-kinds.ps (is 1 list-kinds.ps μ-list t) list.Pre
+
+abbrev list-below : ℕ → In 1 list-kinds.ps
+list-below t = and 1 list-kinds.ps (falls 1 list-kinds.ps _<_ μ-list t) list.Pre
+
+item-returns : (t : ℕ) → item-lts.Need-returns (
+  class-of-reads.Asked,
+  class-of-reads.Learnt,
+  letters-reads.Asked,
+  letters-reads.Learnt,
+  number-reads.Asked,
+  number-reads.Learnt,
+  list-below t,
+  list.Post,
+) (item-at t) item.Post
+item-returns t c =
+    let a = c .before .before .args in
+    λ g k e. item-end (a .s .now) (a .at) (a .depth) g k e (c .if1 .taken) (c .before .before .pre .1)
+
+item-shared-slice-read-b : (t : ℕ) → item-lts.Need-shared-slice-read-b (
+  class-of-reads.Asked,
+  class-of-reads.Learnt,
+  letters-reads.Asked,
+  letters-reads.Learnt,
+  number-reads.Asked,
+  number-reads.Learnt,
+  list-below t,
+  list.Post,
+) (item-at t) item.Post
+item-shared-slice-read-b t c = search needs
+
+item-class-of-requires : (t : ℕ) → item-lts.Need-class-of-requires (
+  class-of-reads.Asked,
+  class-of-reads.Learnt,
+  letters-reads.Asked,
+  letters-reads.Learnt,
+  number-reads.Asked,
+  number-reads.Learnt,
+  list-below t,
+  list.Post,
+) (item-at t) item.Post
+item-class-of-requires t c κs = search needs
+
+item-enum-told : (t : ℕ) → item-lts.Need-enum-told (
+  class-of-reads.Asked,
+  class-of-reads.Learnt,
+  letters-reads.Asked,
+  letters-reads.Learnt,
+  number-reads.Asked,
+  number-reads.Learnt,
+  list-below t,
+  list.Post,
+) (item-at t) item.Post
+item-enum-told t c = search needs
+
+item-add-letters : (t : ℕ) → item-lts.Need-add-letters (
+  class-of-reads.Asked,
+  class-of-reads.Learnt,
+  letters-reads.Asked,
+  letters-reads.Learnt,
+  number-reads.Asked,
+  number-reads.Learnt,
+  list-below t,
+  list.Post,
+) (item-at t) item.Post
+item-add-letters t c = search needs
+
+item-letters-requires : (t : ℕ) → item-lts.Need-letters-requires (
+  class-of-reads.Asked,
+  class-of-reads.Learnt,
+  letters-reads.Asked,
+  letters-reads.Learnt,
+  number-reads.Asked,
+  number-reads.Learnt,
+  list-below t,
+  list.Post,
+) (item-at t) item.Post
+item-letters-requires t c κs = search needs
+
+item-number-requires : (t : ℕ) → item-lts.Need-number-requires (
+  class-of-reads.Asked,
+  class-of-reads.Learnt,
+  letters-reads.Asked,
+  letters-reads.Learnt,
+  number-reads.Asked,
+  number-reads.Learnt,
+  list-below t,
+  list.Post,
+) (item-at t) item.Post
+item-number-requires t c κs = search needs
+
+item-enum-known-n : (t : ℕ) → item-lts.Need-enum-known-n (
+  class-of-reads.Asked,
+  class-of-reads.Learnt,
+  letters-reads.Asked,
+  letters-reads.Learnt,
+  number-reads.Asked,
+  number-reads.Learnt,
+  list-below t,
+  list.Post,
+) (item-at t) item.Post
+item-enum-known-n t c = search needs
+
+item-enum-known-n-2 : (t : ℕ) → item-lts.Need-enum-known-n-2 (
+  class-of-reads.Asked,
+  class-of-reads.Learnt,
+  letters-reads.Asked,
+  letters-reads.Learnt,
+  number-reads.Asked,
+  number-reads.Learnt,
+  list-below t,
+  list.Post,
+) (item-at t) item.Post
+item-enum-known-n-2 t c = search needs
+
+item-enum-told-2 : (t : ℕ) → item-lts.Need-enum-told-2 (
+  class-of-reads.Asked,
+  class-of-reads.Learnt,
+  letters-reads.Asked,
+  letters-reads.Learnt,
+  number-reads.Asked,
+  number-reads.Learnt,
+  list-below t,
+  list.Post,
+) (item-at t) item.Post
+item-enum-told-2 t c = search needs
+
+item-returns-2 : (t : ℕ) → item-lts.Need-returns-2 (
+  class-of-reads.Asked,
+  class-of-reads.Learnt,
+  letters-reads.Asked,
+  letters-reads.Learnt,
+  number-reads.Asked,
+  number-reads.Learnt,
+  list-below t,
+  list.Post,
+) (item-at t) item.Post
+item-returns-2 t c =
+    let a = c .before .before .before .before .before .before .before .args in
+    λ g k e. item-shallow (a .s .now) (a .at) (a .depth) g k e _ (c .before .before .before .class-of .ensures) (c .before .before .before .before .before .before .before .pre .1) (c .before .enum-told2 .given .1) (c .if2 .taken)
+
+item-add-list : (t : ℕ) → item-lts.Need-add-list (
+  class-of-reads.Asked,
+  class-of-reads.Learnt,
+  letters-reads.Asked,
+  letters-reads.Learnt,
+  number-reads.Asked,
+  number-reads.Learnt,
+  list-below t,
+  list.Post,
+) (item-at t) item.Post
+item-add-list t c = search needs
+
+item-sub-list : (t : ℕ) → item-lts.Need-sub-list (
+  class-of-reads.Asked,
+  class-of-reads.Learnt,
+  letters-reads.Asked,
+  letters-reads.Learnt,
+  number-reads.Asked,
+  number-reads.Learnt,
+  list-below t,
+  list.Post,
+) (item-at t) item.Post
+item-sub-list t c = search needs
+
+item-list-requires : (t : ℕ) → item-lts.Need-list-requires (
+  class-of-reads.Asked,
+  class-of-reads.Learnt,
+  letters-reads.Asked,
+  letters-reads.Learnt,
+  number-reads.Asked,
+  number-reads.Learnt,
+  list-below t,
+  list.Post,
+) (item-at t) item.Post
+item-list-requires t c κs = search needs
+
+item-returns-3 : (t : ℕ) → item-lts.Need-returns-3 (
+  class-of-reads.Asked,
+  class-of-reads.Learnt,
+  letters-reads.Asked,
+  letters-reads.Learnt,
+  number-reads.Asked,
+  number-reads.Learnt,
+  list-below t,
+  list.Post,
+) (item-at t) item.Post
+item-returns-3 t c =
+    let a = c .before .before .before .before .before .before .before .args in
+    let w = c .letters .ensures in
+    (omega arith, w .within, λ g k e. w .so (a .depth) g k (item-letters (a .s .now) (a .at) (a .depth) g k e _ (c .before .before .before .class-of .ensures) (c .before .before .before .before .before .if1 .left) (c .before .enum-told .given .1)))
+
+item-returns-4 : (t : ℕ) → item-lts.Need-returns-4 (
+  class-of-reads.Asked,
+  class-of-reads.Learnt,
+  letters-reads.Asked,
+  letters-reads.Learnt,
+  number-reads.Asked,
+  number-reads.Learnt,
+  list-below t,
+  list.Post,
+) (item-at t) item.Post
+item-returns-4 t c =
+    let a = c .before .before .before .before .before .before .before .before .before .args in
+    item-of-number (a .s .now) (a .at) (a .depth) _ (c .before .before .before .before .before .class-of .ensures) (c .before .before .before .before .match .keys2) (c .before .n .given .0 .0) (c .before .n .given .0 .1 .0) (rw (c .before .n .given .1) at (c .before .before .before .number .ensures))
+
+item-returns-5 : (t : ℕ) → item-lts.Need-returns-5 (
+  class-of-reads.Asked,
+  class-of-reads.Learnt,
+  letters-reads.Asked,
+  letters-reads.Learnt,
+  number-reads.Asked,
+  number-reads.Learnt,
+  list-below t,
+  list.Post,
+) (item-at t) item.Post
+item-returns-5 t c =
+    let a = c .before .before .before .before .before .before .before .before .before .args in
+    λ g k e. (rw (c .before .n2 .given .1) at (c .before .before .before .number .ensures)) (inList (a .depth)) g k (item-field (a .s .now) (a .at) (a .depth) g k e _ (c .before .before .before .before .before .class-of .ensures) (c .before .before .before .before .match .keys2))
+
+item-returns-6 : (t : ℕ) → item-lts.Need-returns-6 (
+  class-of-reads.Asked,
+  class-of-reads.Learnt,
+  letters-reads.Asked,
+  letters-reads.Learnt,
+  number-reads.Asked,
+  number-reads.Learnt,
+  list-below t,
+  list.Post,
+) (item-at t) item.Post
+item-returns-6 t c =
+    let a = c .before .before .before .before .before .before .before .before .args in
+    item-of-list (a .s .now) (a .at) (a .depth) _ (c .before .before .before .before .class-of .ensures) (c .before .before .before .before .before .before .if1 .left) (c .before .before .enum-told2 .given .1) (c .before .if2 .left) (c .list .result) (c .list .ensures)
+
+item-returns-7 : (t : ℕ) → item-lts.Need-returns-7 (
+  class-of-reads.Asked,
+  class-of-reads.Learnt,
+  letters-reads.Asked,
+  letters-reads.Learnt,
+  number-reads.Asked,
+  number-reads.Learnt,
+  list-below t,
+  list.Post,
+) (item-at t) item.Post
+item-returns-7 t c =
+    let a = c .before .before .before .before .before .args in
+    λ g k e. item-bad (a .s .now) (a .at) (a .depth) g k e _ (c .before .class-of .ensures) (c .before .before .before .before .before .pre .1) (c .match .keys4)
+
+abbrev list-Inv-loop : list-lts.InvT-loop
+list-Inv-loop s at depth p₀ p = (at ≤ p) × (p ≤ length s) × ((g : List Ev) (k : List Sym) → stateAt s at ≡ live g (first depth ∷ k) → stateAt s p ≡ live g (first depth ∷ k))
+
+abbrev list-μ-loop : list-lts.MeasureT-loop
+list-μ-loop s at depth p₀ p = length s - p
+
+list-loop-holds : (t : ℕ) → list-lts.Need-loop-holds (
+  item-below t,
+  item.Post,
+  class-of-reads.Asked,
+  class-of-reads.Learnt,
+) (list-at t) list.Post list-Inv-loop list-μ-loop
+list-loop-holds t c = (omega arith, c .before .pre .1, λ g k e. e)
+
+list-item-requires : (t : ℕ) → list-lts.Need-item-requires (
+  item-below t,
+  item.Post,
+  class-of-reads.Asked,
+  class-of-reads.Learnt,
+) (list-at t) list.Post list-Inv-loop list-μ-loop
+list-item-requires t c κs = search needs
+
+list-enum-known-i : (t : ℕ) → list-lts.Need-enum-known-i (
+  item-below t,
+  item.Post,
+  class-of-reads.Asked,
+  class-of-reads.Learnt,
+) (list-at t) list.Post list-Inv-loop list-μ-loop
+list-enum-known-i t c = search needs
+
+list-returns : (t : ℕ) → list-lts.Need-returns (
+  item-below t,
+  item.Post,
+  class-of-reads.Asked,
+  class-of-reads.Learnt,
+) (list-at t) list.Post list-Inv-loop list-μ-loop
+list-returns t c =
+    let a = c .before .before .before .before .before .before .before .before .args in
+    let l = c .before .before .before .before .before .before .loop in
+    let e = c .before .before .i .given .0 .0 in
+    let w = rw (c .before .before .i .given .1) at (c .before .before .before .before .item .ensures) in
+    λ g k h. stuck-end (a .s .now) e g (rest (a .depth) ∷ k) (w .2 g k (l .inv .2 g k h)) (c .if1 .taken) (w .1)
+
+list-shared-slice-read-b : (t : ℕ) → list-lts.Need-shared-slice-read-b (
+  item-below t,
+  item.Post,
+  class-of-reads.Asked,
+  class-of-reads.Learnt,
+) (list-at t) list.Post list-Inv-loop list-μ-loop
+list-shared-slice-read-b t c = search needs
+
+list-class-of-requires : (t : ℕ) → list-lts.Need-class-of-requires (
+  item-below t,
+  item.Post,
+  class-of-reads.Asked,
+  class-of-reads.Learnt,
+) (list-at t) list.Post list-Inv-loop list-μ-loop
+list-class-of-requires t c κs = search needs
+
+list-enum-told : (t : ℕ) → list-lts.Need-enum-told (
+  item-below t,
+  item.Post,
+  class-of-reads.Asked,
+  class-of-reads.Learnt,
+) (list-at t) list.Post list-Inv-loop list-μ-loop
+list-enum-told t c = search needs
+
+list-add-t16 : (t : ℕ) → list-lts.Need-add-t16 (
+  item-below t,
+  item.Post,
+  class-of-reads.Asked,
+  class-of-reads.Learnt,
+) (list-at t) list.Post list-Inv-loop list-μ-loop
+list-add-t16 t c =
+    let a = c .before .before .before .before .before .before .before .before .before .before .before .before .args in
+    let l = c .before .before .before .before .before .before .before .before .before .before .loop in
+    let e = c .before .before .before .before .before .before .i .given .0 .0 in
+    let w = rw (c .before .before .before .before .before .before .i .given .1) at (c .before .before .before .before .before .before .before .before .item .ensures) in
+    omega arith
+
+list-returns-2 : (t : ℕ) → list-lts.Need-returns-2 (
+  item-below t,
+  item.Post,
+  class-of-reads.Asked,
+  class-of-reads.Learnt,
+) (list-at t) list.Post list-Inv-loop list-μ-loop
+list-returns-2 t c =
+    let a = c .before .before .before .before .before .before .before .before .before .before .before .before .args in
+    let l = c .before .before .before .before .before .before .before .before .before .before .loop in
+    let e = c .before .before .before .before .before .before .i .given .0 .0 in
+    let w = rw (c .before .before .before .before .before .before .i .given .1) at (c .before .before .before .before .before .before .before .before .item .ensures) in
+    (omega arith, omega arith, λ g k h. take-step (a .s .now) e g (rest (a .depth)) k (w .2 g k (l .inv .2 g k h)) (c .before .before .before .before .if1 .left) Close (sym (c .enum-told .given .1) ∙ c .before .before .class-of .ensures))
+
+list-enum-told-2 : (t : ℕ) → list-lts.Need-enum-told-2 (
+  item-below t,
+  item.Post,
+  class-of-reads.Asked,
+  class-of-reads.Learnt,
+) (list-at t) list.Post list-Inv-loop list-μ-loop
+list-enum-told-2 t c = search needs
+
+list-add-p : (t : ℕ) → list-lts.Need-add-p (
+  item-below t,
+  item.Post,
+  class-of-reads.Asked,
+  class-of-reads.Learnt,
+) (list-at t) list.Post list-Inv-loop list-μ-loop
+list-add-p t c =
+    let a = c .before .before .before .before .before .before .before .before .before .before .before .before .args in
+    let l = c .before .before .before .before .before .before .before .before .before .before .loop in
+    let e = c .before .before .before .before .before .before .i .given .0 .0 in
+    let w = rw (c .before .before .before .before .before .before .i .given .1) at (c .before .before .before .before .before .before .before .before .item .ensures) in
+    omega arith
+
+list-loop-less : (t : ℕ) → list-lts.Need-loop-less (
+  item-below t,
+  item.Post,
+  class-of-reads.Asked,
+  class-of-reads.Learnt,
+) (list-at t) list.Post list-Inv-loop list-μ-loop
+list-loop-less t c =
+    let a = c .before .before .before .before .before .before .before .before .before .before .before .before .args in
+    let l = c .before .before .before .before .before .before .before .before .before .before .loop in
+    let e = c .before .before .before .before .before .before .i .given .0 .0 in
+    let w = rw (c .before .before .before .before .before .before .i .given .1) at (c .before .before .before .before .before .before .before .before .item .ensures) in
+    omega arith
+
+list-loop-again : (t : ℕ) → list-lts.Need-loop-again (
+  item-below t,
+  item.Post,
+  class-of-reads.Asked,
+  class-of-reads.Learnt,
+) (list-at t) list.Post list-Inv-loop list-μ-loop
+list-loop-again t c =
+    let a = c .before .before .before .before .before .before .before .before .before .before .before .before .args in
+    let l = c .before .before .before .before .before .before .before .before .before .before .loop in
+    let e = c .before .before .before .before .before .before .i .given .0 .0 in
+    let w = rw (c .before .before .before .before .before .before .i .given .1) at (c .before .before .before .before .before .before .before .before .item .ensures) in
+    (omega arith, omega arith, λ g k h. take-step (a .s .now) e g (rest (a .depth)) k (w .2 g k (l .inv .2 g k h)) (c .before .before .before .before .if1 .left) Space (sym (c .enum-told2 .given .1) ∙ c .before .before .class-of .ensures))
+
+list-returns-3 : (t : ℕ) → list-lts.Need-returns-3 (
+  item-below t,
+  item.Post,
+  class-of-reads.Asked,
+  class-of-reads.Learnt,
+) (list-at t) list.Post list-Inv-loop list-μ-loop
+list-returns-3 t c =
+    let a = c .before .before .before .before .before .before .before .before .before .before .before .args in
+    let l = c .before .before .before .before .before .before .before .before .before .loop in
+    let e = c .before .before .before .before .before .i .given .0 .0 in
+    let w = rw (c .before .before .before .before .before .i .given .1) at (c .before .before .before .before .before .before .before .item .ensures) in
+    λ g k h. stuck-by (a .s .now) e g (rest (a .depth)) k (w .2 g k (l .inv .2 g k h)) (w .1) (c .before .class-of .result) (c .before .class-of .ensures) (rest-off (a .depth) (getD (a .s .now) e 0) (c .before .class-of .result) (c .match2 .keys3))
+
+list-enum-known-i-2 : (t : ℕ) → list-lts.Need-enum-known-i-2 (
+  item-below t,
+  item.Post,
+  class-of-reads.Asked,
+  class-of-reads.Learnt,
+) (list-at t) list.Post list-Inv-loop list-μ-loop
+list-enum-known-i-2 t c = search needs
+
+list-returns-4 : (t : ℕ) → list-lts.Need-returns-4 (
+  item-below t,
+  item.Post,
+  class-of-reads.Asked,
+  class-of-reads.Learnt,
+) (list-at t) list.Post list-Inv-loop list-μ-loop
+list-returns-4 t c =
+    let l = c .before .before .before .before .before .loop in
+    λ g k h. (rw (c .before .i2 .given .1) at (c .before .before .before .item .ensures)) g k (l .inv .2 g k h)
+
+list-returns-5 : (t : ℕ) → list-lts.Need-returns-5 (
+  item-below t,
+  item.Post,
+  class-of-reads.Asked,
+  class-of-reads.Learnt,
+) (list-at t) list.Post list-Inv-loop list-μ-loop
+list-returns-5 t c =
+    let a = c .before .before .before .args in
+    let l = c .before .loop in
+    λ g k h. item-end (a .s .now) (l .p) (a .depth) g k (l .inv .2 g k h) (c .loop-test .left) (l .inv .1)
+
+pub +item+list-spec : {M : Type 1} → statement M
++item+list-spec = close μ-item μ-list (λ t. item-lts.spec (
+  class-of-reads.Asked,
+  class-of-reads.Learnt,
+  letters-reads.Asked,
+  letters-reads.Learnt,
+  number-reads.Asked,
+  number-reads.Learnt,
+  list-below t,
+  list.Post,
+)
+    (item-at t)
+    item.Post
+    (item-returns t)
+    (item-shared-slice-read-b t)
+    (item-class-of-requires t)
+    (item-enum-told t)
+    (item-add-letters t)
+    (item-letters-requires t)
+    (item-number-requires t)
+    (item-enum-known-n t)
+    (item-enum-known-n-2 t)
+    (item-enum-told-2 t)
+    (item-returns-2 t)
+    (item-add-list t)
+    (item-sub-list t)
+    (item-list-requires t)
+    (item-returns-3 t)
+    (item-returns-4 t)
+    (item-returns-5 t)
+    (item-returns-6 t)
+    (item-returns-7 t))
+    λ t. list-lts.spec
+    (item-below t, item.Post, class-of-reads.Asked, class-of-reads.Learnt)
+    (list-at t)
+    list.Post
+    list-Inv-loop
+    list-μ-loop
+    (list-loop-holds t)
+    (list-item-requires t)
+    (list-enum-known-i t)
+    (list-returns t)
+    (list-shared-slice-read-b t)
+    (list-class-of-requires t)
+    (list-enum-told t)
+    (list-add-t16 t)
+    (list-returns-2 t)
+    (list-enum-told-2 t)
+    (list-add-p t)
+    (list-loop-less t)
+    (list-loop-again t)
+    (list-returns-3 t)
+    (list-enum-known-i-2 t)
+    (list-returns-4 t)
+    (list-returns-5 t)

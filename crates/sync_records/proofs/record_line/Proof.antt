@@ -1,0 +1,82 @@
+-- `sync_records::record_line` meets its contract. Assumes nothing.
+use Rattle.grammar.proofs.Storing.{untouched}
+use Rattle.grammar.proofs.Openings.{record-of, entry-bad}
+use Rattle.definitions.specs.Text.{intra, whole, mb}
+use native.Mathlib.Omega.{arith}
+use mathlib.Core.Path.{sym, _∙_}
+use borrow.Author.Needs.{needs}
+use Rattle.sync_records.proofs.record_line.Statement.{statement}
+use Rattle.sync_records.proofs.record_line.Tie as tie
+
+add-intra-tail : tie.Need-add-intra-tail
+add-intra-tail c = search needs
+
+intra-tail-requires : tie.Need-intra-tail-requires
+intra-tail-requires c κs = search needs
+
+same-length : tie.Need-same-length
+same-length c = search needs
+
+returns : tie.Need-returns
+returns c =
+    let o = c .before .before .before .before .before in
+    let a = o .args in
+    record-of (a .s .now) (a .at) (o .pre .0) intra (o .pre .1 ∙ c .before .before .before .if1 .taken) (a .out .now) (a .from) _ (c .before .intra-tail .result) (c .before .intra-tail .ensures)
+
+add-whole-tail : tie.Need-add-whole-tail
+add-whole-tail c = search needs
+
+whole-tail-requires : tie.Need-whole-tail-requires
+whole-tail-requires c κs = search needs
+
+same-length-2 : tie.Need-same-length-2
+same-length-2 c = search needs
+
+returns-2 : tie.Need-returns-2
+returns-2 c =
+    let o = c .before .before .before .before .before .before in
+    let a = o .args in
+    record-of (a .s .now) (a .at) (o .pre .0) whole (o .pre .1 ∙ c .before .before .before .if2 .taken) (a .out .now) (a .from) _ (c .before .whole-tail .result) (c .before .whole-tail .ensures)
+
+add-mb-tail : tie.Need-add-mb-tail
+add-mb-tail c = search needs
+
+mb-tail-requires : tie.Need-mb-tail-requires
+mb-tail-requires c κs = search needs
+
+same-length-3 : tie.Need-same-length-3
+same-length-3 c = search needs
+
+returns-3 : tie.Need-returns-3
+returns-3 c =
+    let o = c .before .before .before .before .before .before .before in
+    let a = o .args in
+    record-of (a .s .now) (a .at) (o .pre .0) mb (o .pre .1 ∙ c .before .before .before .if3 .taken) (a .out .now) (a .from) _ (c .before .mb-tail .result) (c .before .mb-tail .ensures)
+
+returns-4 : tie.Need-returns-4
+returns-4 c =
+    let o = c .before .before .before .before in
+    let a = o .args in
+    let e = o .pre .1 in (
+      untouched (a .out .now) (a .from) 77,
+      λ g k h.
+          entry-bad (a .s .now) (a .at) g k h (omega arith) (λ z. o .pre .2 (sym e ∙ z)) (λ z. c .before .before .if1 .left (sym e ∙ z)) (λ z. c .before .if2 .left (sym e ∙ z)) (λ z. c .if3 .left (sym e ∙ z)),
+    )
+
+pub record-line-spec : {M : Type 1} → statement M
+record-line-spec =
+    tie.close
+    (tie.spec
+    add-intra-tail
+    intra-tail-requires
+    same-length
+    returns
+    add-whole-tail
+    whole-tail-requires
+    same-length-2
+    returns-2
+    add-mb-tail
+    mb-tail-requires
+    same-length-3
+    returns-3
+    returns-4)

@@ -1,0 +1,208 @@
+// Reading the record lines of a text: each reader stores the words in the buffer that it is lent as it reads them. A text is judged with a buffer
+// of its own, so that no lent word changes before all of it is judged.
+ghost use Prim.Native.Nat.{_+_, _<_, _≤_};
+ghost use lib.ListN.{length, getD};
+ghost use lib.Seq.{sets};
+ghost use mathlib.Core.List.{List, _∷_};
+ghost use mathlib.Core.Path.{_≡_};
+ghost use Rattle.definitions.specs.Record.{recordWords, laidOut};
+ghost use Rattle.definitions.specs.Text.{intra, whole, mb, wordsFor};
+ghost use Rattle.grammar.specs.Machine.{Sym, field, gap};
+ghost use Rattle.grammar.specs.Promises.{fields, RecordTo, StoresTo, TailTo, ThenStores, ThenWord, Within};
+use definitions::Motion;
+use definitions::Prediction;
+use grammar::Got;
+use grammar::Num;
+use sync_notes::word_at;
+use sync_numbers::field;
+use write::write_record;
+
+// n + 1 numbers and the closing bracket. The numbers are stored from `from` on.
+fn store_fields(s: &[u8], at: usize, n: usize, out: &mut [i16], from: usize) -> Got
+    requires { ⌜ (at ≤ length (now s)) × (from + n < length (now out)) ⌝ }
+    ensures { λ r. ⌜ StoresTo (now (s .entry)) (λ (k : List Sym). fields n k) (n + 1) at (now (out .entry)) from (now (out .exit)) r ⌝ }
+{
+    let mut p = at;
+    let mut m = n;
+    let mut i = from;
+    while m > 0 {
+        let v = field(s, p, false);
+        match v {
+            Num::Value(z, e) => {
+                out[i] = z;
+                i += 1;
+                p = e;
+                m -= 1;
+            }
+            Num::Wrong(q) => {
+                return Got::Bad(q);
+            }
+        }
+    }
+    let v = field(s, p, true);
+    match v {
+        Num::Value(z, e) => {
+            out[i] = z;
+            Got::At(e)
+        }
+        Num::Wrong(q) => Got::Bad(q),
+    }
+}
+
+// After r, the bytes of w.
+pub fn then_word(s: &[u8], r: Got, w: &[u8]) -> Got
+    requires { ⌜ Within (now s) r ⌝ }
+    ensures { λ q. ⌜ ThenWord (now (s .entry)) (now (w .entry)) r q ⌝ }
+{
+    match r {
+        Got::At(a) => word_at(s, a, w),
+        Got::Bad(p) => Got::Bad(p),
+    }
+}
+
+// After r, n + 1 numbers and the closing bracket.
+pub fn then_fields(s: &[u8], r: Got, n: usize, out: &mut [i16], from: usize) -> Got
+    requires { ⌜ Within (now s) r × (from + n < length (now out)) ⌝ }
+    ensures { λ q. ⌜ ThenStores (now (s .entry)) (λ (k : List Sym). fields n k) (n + 1) r (now (out .entry)) from (now (out .exit)) q ⌝ }
+{
+    match r {
+        Got::At(a) => store_fields(s, a, n, out, from),
+        Got::Bad(p) => Got::Bad(p),
+    }
+}
+
+// After r, a number and a space.
+fn then_field(s: &[u8], r: Got, out: &mut [i16], from: usize) -> Got
+    requires { ⌜ Within (now s) r × (from < length (now out)) ⌝ }
+    ensures { λ q. ⌜ ThenStores (now (s .entry)) (λ (k : List Sym). field gap ∷ k) 1 r (now (out .entry)) from (now (out .exit)) q ⌝ }
+{
+    match r {
+        Got::At(a) => {
+            let v = field(s, a, false);
+            match v {
+                Num::Value(z, e) => {
+                    out[from] = z;
+                    Got::At(e)
+                }
+                Num::Wrong(p) => Got::Bad(p),
+            }
+        }
+        Got::Bad(p) => Got::Bad(p),
+    }
+}
+
+// A record of one motion in all blocks.
+fn put_record(out: &mut [i16], from: usize, kind: u8, m: Motion)
+    requires { ⌜ from + recordWords ≤ length (now out) ⌝ }
+    ensures { λ _. ⌜ now (out .exit) ≡ sets (now (out .entry)) from (laidOut kind (λ q. 0) (λ b. m)) ⌝ }
+{
+    let to = from + 77;
+    let sub = [0u8; 4];
+    let quadrant = [m; 4];
+    let all = [quadrant; 4];
+    write_record(&mut out[from..to], kind, sub, all);
+}
+
+// The record of a line (whole (R0 R1) (X0 Y0 X1 Y1)) with these numbers.
+fn put_whole(out: &mut [i16], from: usize, six: [i16; 6])
+    requires { ⌜ from + recordWords ≤ length (now out) ⌝ }
+    ensures { λ _. ⌜ now (out .exit) ≡ sets (now (out .entry)) from (wordsFor whole six) ⌝ }
+{
+    let r0 = six[0];
+    let r1 = six[1];
+    let x0 = six[2];
+    let y0 = six[3];
+    let x1 = six[4];
+    let y1 = six[5];
+    let list0 = Prediction {
+        reference: r0,
+        x: x0,
+        y: y0,
+    };
+    let list1 = Prediction {
+        reference: r1,
+        x: x1,
+        y: y1,
+    };
+    put_record(
+        out,
+        from,
+        1,
+        Motion {
+            list0: list0,
+            list1: list1,
+        },
+    );
+}
+
+// What comes after the letter of a line (intra).
+fn intra_tail(s: &[u8], at: usize, out: &mut [i16], from: usize) -> Got
+    requires { ⌜ (at ≤ length (now s)) × (from + recordWords ≤ length (now out)) ⌝ }
+    ensures { λ r. ⌜ TailTo intra (now (s .entry)) at (now (out .entry)) from (now (out .exit)) r ⌝ }
+{
+    let unused = Prediction {
+        reference: -1,
+        x: 0,
+        y: 0,
+    };
+    put_record(
+        out,
+        from,
+        0,
+        Motion {
+            list0: unused,
+            list1: unused,
+        },
+    );
+    word_at(s, at, b"ntra)\n")
+}
+
+// The same of a line (whole (R0 R1) (X0 Y0 X1 Y1)).
+fn whole_tail(s: &[u8], at: usize, out: &mut [i16], from: usize) -> Got
+    requires { ⌜ (at ≤ length (now s)) × (from + recordWords ≤ length (now out)) ⌝ }
+    ensures { λ r. ⌜ TailTo whole (now (s .entry)) at (now (out .entry)) from (now (out .exit)) r ⌝ }
+{
+    let mut six = [0i16; 6];
+    let a = then_word(s, Got::At(at), b"hole (");
+    let b = then_fields(s, a, 1, &mut six, 0);
+    let c = then_word(s, b, b" (");
+    let d = then_fields(s, c, 3, &mut six, 2);
+    put_whole(out, from, six);
+    then_word(s, d, b")\n")
+}
+
+// The same of a line (mb T (4 sub-types) (8 references) (64 vector words)).
+fn mb_tail(s: &[u8], at: usize, out: &mut [i16], from: usize) -> Got
+    requires { ⌜ (at ≤ length (now s)) × (from + recordWords ≤ length (now out)) ⌝ }
+    ensures { λ r. ⌜ TailTo mb (now (s .entry)) at (now (out .entry)) from (now (out .exit)) r ⌝ }
+{
+    let sub_types = from + 1;
+    let references = from + 5;
+    let vectors = from + 13;
+    let a = then_word(s, Got::At(at), b"b ");
+    let b = then_field(s, a, out, from);
+    let c = then_word(s, b, b"(");
+    let d = then_fields(s, c, 3, out, sub_types);
+    let e = then_word(s, d, b" (");
+    let f = then_fields(s, e, 7, out, references);
+    let g = then_word(s, f, b" (");
+    let h = then_fields(s, g, 63, out, vectors);
+    then_word(s, h, b")\n")
+}
+
+// A record line from its letter b on, which stands at `at`. Its words are stored from `from` on.
+pub fn record_line(s: &[u8], at: usize, b: u8, out: &mut [i16], from: usize) -> Got
+    requires { ⌜ (at < length (now s)) × (getD (now s) at 0 ≡ b) × ((b ≡ 110) → ⊥) × (from + recordWords ≤ length (now out)) ⌝ }
+    ensures { λ r. ⌜ RecordTo (now (s .entry)) at (now (out .entry)) from (now (out .exit)) r ⌝ }
+{
+    if b == b'i' {
+        return intra_tail(s, at + 1, out, from);
+    }
+    if b == b'w' {
+        return whole_tail(s, at + 1, out, from);
+    }
+    if b == b'm' {
+        return mb_tail(s, at + 1, out, from);
+    }
+    Got::Bad(at)
+}

@@ -1,0 +1,32 @@
+-- The reply of a text that was judged and whose words are stored.
+use Prim.Native.Nat.{ℕ, _≤_, _<_, _*_}
+use mathlib.Core.Path.{_≡_, sym}
+use mathlib.Core.List.{List}
+use native.Mathlib.Omega.{arith}
+use lib.IntN.{ℤ}
+use lib.ListN.{length}
+use Rattle.definitions.specs.declared.Numbers.{Numbers}
+use Rattle.definitions.specs.declared.TextReply.the-variants.{Read, Refused}
+use Rattle.definitions.specs.Record.{recordWords}
+use Rattle.definitions.specs.Refusals.{refusal}
+use Rattle.definitions.specs.Text.{textBytes, textRecords, TextAnswer, tooMany, read}
+use Rattle.grammar.specs.Promises.{AllStored, Judgement, Room}
+
+module _
+    (t : List ℕ)
+    (words : List ℤ)
+    (n : Numbers)
+    (at count : ℕ)
+    (e : length words ≡ recordWords * textRecords)
+    (l : length t ≤ textBytes)
+    (j : Judgement t n at count) where
+  pub too-many : textRecords < count → TextAnswer t words (Refused (refusal 10)) words
+  too-many h = let m = j .many in tooMany e l (j .text) (omega arith)
+
+  pub has-room : count ≤ textRecords → Room t at words
+  has-room h = let m = j .many in record { told = _; entries = j .entries; lines = j .lines; fits = omega arith }
+
+  pub text-read : count ≤ textRecords → (new : List ℤ) → AllStored t at words new → TextAnswer t words (Read (record { numbers = n; lines = count })) new
+  text-read h new s =
+      let m = j .many in
+      rw (sym (j .many), s _ (j .entries) (j .lines)) (read e l (j .text) (omega arith))

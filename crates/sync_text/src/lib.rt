@@ -1,0 +1,91 @@
+// The text call: it judges the whole text, and only then writes the words of its record lines.
+ghost use mathlib.Core.Path.{_≡_};
+ghost use Rattle.definitions.specs.Text.{TextAnswer};
+ghost use Rattle.grammar.specs.Promises.{AllStored, Room};
+use definitions::Refusal;
+use definitions::TextRead;
+use definitions::TextReply;
+use grammar::Got;
+use grammar::Judged;
+use sync_notes::note;
+use sync_read::judge;
+use sync_records::record_line;
+
+// A record's words; the records whose words are lent; and the bytes of the longest text.
+const RECORD_WORDS: usize = 77;
+
+const RECORDS: usize = 99;
+
+const BYTES: usize = 65536;
+
+// The words of the record lines of a text that was judged, from where they begin. No line is bad any more.
+fn store_records(s: &[u8], at: usize, words: &mut [i16])
+    requires { ⌜ Room (now s) at (now words) ⌝ }
+    ensures { λ _. ⌜ AllStored (now (s .entry)) at (now (words .entry)) (now (words .exit)) ⌝ }
+{
+    let mut p = at;
+    let mut from: usize = 0;
+    while p < s.len() {
+        let q = p + 1;
+        let b = s[q];
+        if b == b'n' {
+            let t = note(s, q + 1);
+            match t {
+                Got::At(e) => {
+                    p = e;
+                }
+                Got::Bad(_) => {
+                    return;
+                }
+            }
+        } else {
+            let t = record_line(s, q, b, words, from);
+            match t {
+                Got::At(e) => {
+                    p = e;
+                    from += RECORD_WORDS;
+                }
+                Got::Bad(_) => {
+                    return;
+                }
+            }
+        }
+    }
+}
+
+fn refused(number: u32, place: u32) -> TextReply
+    ensures { λ r. ⌜ r ≡ TextReply.Refused (record { number = number; place = place; rule = 0 }) ⌝ }
+{
+    TextReply::Refused(Refusal {
+        number: number,
+        place: place,
+        rule: 0,
+    })
+}
+
+// Text: the bytes, and the words of 99 records to write. It tests 6, then 10 by length, 9, and 10 by lines, and refused leaves every word. Else it
+// gives the geometry's numbers and the count of record lines, whose words stand first, the rest unchanged.
+pub fn read_text(bytes: &[u8], words: &mut [i16]) -> TextReply
+    ensures { λ r. ⌜ TextAnswer (now (bytes .entry)) (now (words .entry)) r (now (words .exit)) ⌝ }
+{
+    if words.len() != RECORD_WORDS * RECORDS {
+        return refused(6, 0);
+    }
+    if bytes.len() > BYTES {
+        return refused(10, 0);
+    }
+    let t = judge(bytes);
+    match t {
+        Judged::Right(numbers, at, lines) => {
+            if lines > RECORDS {
+                return refused(10, 0);
+            }
+            store_records(bytes, at, words);
+            TextReply::Read(TextRead {
+                numbers: numbers,
+                lines: lines as u32,
+            })
+        }
+        Judged::Wrong(p) => refused(9, p as u32),
+    }
+}
