@@ -14,7 +14,7 @@ use Rattle.definitions.specs.Geometry.{baseSize, scaledSize, cOf, fOf, t
 use Rattle.definitions.specs.BlockMap.{coordinateOf, stepOf, columnOf, baseAddress, addressRead}
 use Rattle.definitions.specs.Answer.{namedAt, twoColumns, twoRows, columnsOf, rowsOf, addressesOf}
 use Rattle.definitions.proofs.Choices.{four-at}
-use Rattle.definitions.proofs.Map.{read-named, named-below}
+use Rattle.definitions.proofs.Map.{read-named, named-below, class-columns, class-rows}
 
 -- ---- members of made lists
 map-member : {A B : Type 0} (f : A → B) {x : A} (l : List A) → List·Memᴰ x l → List·Memᴰ (f x) (map f l)
@@ -36,19 +36,6 @@ member-for f [] m = absurd (List·Memᴰ·not-nil m)
 member-for f (z ∷ zs) m =
     ⊎-elim (λ t. (z, List·Memᴰ·head refl, t)) (λ t. let w = member-for f zs t in (w .0, List·Memᴰ·tail (w .1), w .2)) (List·Memᴰ·append-cases (f z) m)
 
--- ---- the class tells whether two columns, and two rows, are read
-columns-told : (a b : Bool) → twoColumns (classOf a b) ≡ a
-columns-told true true = refl
-columns-told true false = refl
-columns-told false true = refl
-columns-told false false = refl
-
-rows-told : (a b : Bool) → twoRows (classOf a b) ≡ b
-rows-told true true = refl
-rows-told true false = refl
-rows-told false true = refl
-rows-told false false = refl
-
 module _ (g : Axes) (column row : ℕ) where
   abbrev hor : ℕ
   hor = cOf (g .horizontal) (sampleOf column)
@@ -58,11 +45,11 @@ module _ (g : Axes) (column row : ℕ) where
 
   columns-are : columnsOf (namedAt g column row) ≡ columnsRead (fOf (baseSize (g .horizontal)) (scaledSize (g .horizontal)) hor) (twoOf (baseSize (g .horizontal)) (scaledSize (g .horizontal)) hor)
   unfolding namedAt stepOf
-  columns-are = ap (columnsRead _) (columns-told _ _)
+  columns-are = ap (columnsRead _) (class-columns _ _)
 
   rows-are : rowsOf (namedAt g column row) ≡ columnsRead (fOf (baseSize (g .vertical)) (scaledSize (g .vertical)) ver) (twoOf (baseSize (g .vertical)) (scaledSize (g .vertical)) ver)
   unfolding namedAt stepOf
-  rows-are = ap (columnsRead _) (rows-told (twoOf (baseSize (g .horizontal)) (scaledSize (g .horizontal)) hor) _)
+  rows-are = ap (columnsRead _) (class-rows (twoOf (baseSize (g .horizontal)) (scaledSize (g .horizontal)) hor) _)
 
   module _ (h : Inside (baseSize (g .horizontal)) (scaledSize (g .horizontal)) hor) (v : Inside (baseSize (g .vertical)) (scaledSize (g .vertical)) ver) where
     -- the columns and rows that are named lie inside the base

@@ -30,7 +30,7 @@ use Rattle.definitions.specs.BlockMap.{addressRead}
 use Rattle.definitions.specs.Record.{recordWords, recordAt, wellFormed, firstBroken}
 use Rattle.definitions.specs.Inheriting.{inheritedMotions}
 use Rattle.definitions.specs.Answer.{Made, answerOf, writtenFor, madeOf, addressesNamed}
-use Rattle.definitions.specs.Refusals.{Test, test, refusal, verdictOf, geometryTests, geometryVerdict, baseCount, baseTest, outputTest, placeTest, recordTest, recordTests, withinAxis, addressesRead, allAddresses}
+use Rattle.definitions.specs.Refusals.{Test, test, refusal, verdictOf, geometryTests, geometryVerdict, baseCount, baseTest, outputTest, positionTest, recordTest, recordTests, withinAxis, addressesRead, allAddresses}
 use Rattle.definitions.specs.Calls.{Outcome, byVerdict, macroblockTests, macroblockCall, fullCount, pictureTests, madeAt, countsOf, pictureCall}
 use Rattle.definitions.specs.Demand3.{Demand3, AnyWords, SinglyGives, Demand3Singly, AllFormed, FormedWords, PictureGives, Demand3Picture, Case, Demand3Entire}
 use Rattle.definitions.proofs.Choices.{yes, no, and-true, and-intro}
@@ -41,7 +41,7 @@ use Rattle.definitions.proofs.Answers.{Decided, is-outside, is-intra, i
 use Rattle.definitions.proofs.Sameness.{same-made}
 use Rattle.definitions.proofs.Addresses.{address-named, address-below}
 use Rattle.definitions.proofs.Pieces.{covered}
-use Rattle.definitions.proofs.Written.{laid-length}
+use Rattle.definitions.proofs.Records.{laid-length}
 use Rattle.definitions.proofs.Promises.{named-right, inherited-when, intra-when, outside-when, nothing-written, motions-written, fewest-written, split-written, columns-below, rows-below}
 
 -- ---- bases that agree on some records
@@ -144,7 +144,7 @@ module _ (n : Numbers) (column row : ℕ) (words base : List ℤ) where
       let g = axesOf n in
       let b : baseTest g other ≡ baseTest g base = ap (λ (k : ℕ). test (not (eqb k (recordWords * baseCount g))) (refusal 5)) l in
       let r = tests-same base other (addressesRead g column row) e in
-      λ i. verdictOf (geometryTests n ++ (b i ∷ outputTest 1 words ∷ placeTest g (pos column) (pos row) ∷ r i))
+      λ i. verdictOf (geometryTests n ++ (b i ∷ outputTest 1 words ∷ positionTest g (pos column) (pos row) ∷ r i))
 
   -- other records, whatever they hold, change nothing
   others-same : single ≡ Accepted → (other : List ℤ) → AnyWords base other → Agree (addressesNamed (axesOf n) (answerOf (axesOf n) base column row)) base other
@@ -274,7 +274,7 @@ unfolding macroblockTests
 asked n column row alone base v =
     let g = axesOf n in
     let records = recordTests base (addressesRead g column row) in
-    let place = placeTest g (pos column) (pos row) in
+    let place = positionTest g (pos column) (pos row) in
     let p = both-passed (geometryTests n) (baseTest g base ∷ outputTest 1 alone ∷ place ∷ records) v in
     let q = first-passed (baseTest g base) (outputTest 1 alone ∷ place ∷ records) (p .1) in
     let r = first-passed (outputTest 1 alone) (place ∷ records) (q .1) in

@@ -16,12 +16,16 @@ use Rattle.definitions.specs.declared.Split.{Split}
 use Rattle.definitions.specs.declared.Split.the-variants.{S16x16, S16x8, S8x16, S8x8 as Quarters}
 use Rattle.definitions.specs.Tests.{pick, allOf}
 use Rattle.definitions.specs.Splits.{sameMotion, subPieces, pieces, alike, oneEach, subCount, count, splits, sixteenPieces, fewer, fewestIn}
-use Rattle.definitions.specs.Fewest.{Fewest}
 use Rattle.definitions.specs.Inheriting.{motionAt, chosen}
 use Rattle.definitions.proofs.Choices.{yes, pick-cases, and-true, and-intro}
 use Rattle.definitions.proofs.Motions.{motion-true, motion-same}
 use Rattle.definitions.proofs.Pieces.{split-cases, all-listed}
 use Rattle.definitions.proofs.Shapes.{cut, samePairs, shapeOf, quadrantShape, shapesOf, isWhole, allWhole, joined, splitOf}
+
+-- One motion in each piece, and every other split whose pieces each carry one motion has more pieces. (proofs/Pieces: the values of Split are the 259.)
+pub record Fewest (m : ℕ → Motion) (s : Split) : Type 0 where
+  pub one : oneEach m s ≡ true
+  pub more : (t : Split) → oneEach m t ≡ true → t ≢ s → count s < count t
 
 -- ---- one motion in each piece, as equations
 abbrev Each : {A : Type 0} → (A → Type 0) → List A → Type 0

@@ -19,7 +19,6 @@ pub mod Answers
 pub mod Sameness
 pub mod Blocks
 pub mod Addresses
-pub mod Written
 pub mod Promises
 pub mod Demand
 pub mod RecordLists

@@ -8,18 +8,15 @@ use native.Mathlib.Omega.{arith}
 use lib.ListN.{length, take, drop, length-append, drop-of-length-le}
 use lib.Seq.{take-at, drop-at, drop-drop, sets, sets-eq}
 use Rattle.definitions.specs.Tests.{upTo, forEach}
+use Rattle.definitions.proofs.RecordLists.{joined-each}
 
 -- the parts 0 .. n−1, one after the other
 abbrev pub parts : {A : Type 0} → ℕ → (ℕ → List A) → List A
 parts n f = forEach (upTo n (λ k. k)) f
 
-each-append : {A B : Type 0} (k l : List A) (f : A → List B) → forEach (k ++ l) f ≡ forEach k f ++ forEach l f
-each-append [] l f = refl
-each-append (x ∷ xs) l f = ap (λ (t : List _). f x ++ t) (each-append xs l f) ∙ sym (append-assoc (f x) (forEach xs f) (forEach l f))
-
 pub parts-more : {A : Type 0} (n : ℕ) (f : ℕ → List A) → parts (suc n) f ≡ parts n f ++ f n
 unfolding upTo
-parts-more n f = each-append (upTo n (λ k. k)) (n ∷ []) f ∙ ap (λ (t : List _). parts n f ++ t) (append-nil (f n))
+parts-more n f = joined-each f (upTo n (λ k. k)) (n ∷ []) ∙ ap (λ (t : List _). parts n f ++ t) (append-nil (f n))
 
 module _ {A : Type 0} (f : ℕ → List A) (size : ℕ) (sized : (k : ℕ) → length (f k) ≡ size) where
   pub parts-length : (n : ℕ) → length (parts n f) ≡ size * n

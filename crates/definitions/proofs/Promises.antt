@@ -24,14 +24,13 @@ use Rattle.definitions.specs.Record.{motionOf, typeNumber, laidOut}
 use Rattle.definitions.specs.Inheriting.{intraSet, gathered, resolved, at, motionAt, scaledPrediction, scaledMotion, inheritedMotions, chosen}
 use Rattle.definitions.specs.Answer.{namedAt, answerClass, answerColumn, answerRow, columnsNamed, rowsNamed, subTypes, unusedMotion, writtenFor}
 use Rattle.definitions.specs.Demand3.{namedByPaper}
-use Rattle.definitions.specs.Fewest.{Fewest}
 use Rattle.definitions.proofs.Choices.{yes, no}
 use Rattle.definitions.proofs.Answers.{Decided, is-outside, is-intra, is-inherited}
 use Rattle.definitions.proofs.Addresses.{column-below, row-below}
 use Rattle.definitions.proofs.Blocks.{one-same}
-use Rattle.definitions.proofs.Fewest.{chosen-fewest}
+use Rattle.definitions.proofs.Fewest.{Fewest, chosen-fewest}
 use Rattle.definitions.proofs.Steps.{resolved-settled}
-use Rattle.definitions.proofs.Written.{OneReference, each-block, laid-types, laid-motion}
+use Rattle.definitions.proofs.Records.{each16, laid-types, laid-motion}
 
 -- two answers of different sorts are not the same
 sort : Answer → ℕ
@@ -77,9 +76,9 @@ module _ (g : Axes) (base : List ℤ) (column row : ℕ) where
   -- the written record outside
   pub nothing-written : {answer : Answer} → Decided g base column row answer → inside g column row ≡ false → (i : ℕ) → i < 16 → motionOf (writtenFor answer motions) i ≡ unusedMotion
   unfolding writtenFor
-  nothing-written (is-outside e) w = laid-motion 5 (λ q. 0) (λ b. unusedMotion) (record { list0 = λ i h. refl; list1 = λ i h. refl })
-  nothing-written (is-intra e m) w = absurd (true≢false (sym e ∙ w))
-  nothing-written (is-inherited e m) w = absurd (true≢false (sym e ∙ w))
+  nothing-written (is-outside e) w = λ i h. laid-motion 5 (λ q. 0) (λ b. unusedMotion) i h refl refl
+  nothing-written (is-intra e m) w = λ i h. absurd (true≢false (sym e ∙ w))
+  nothing-written (is-inherited e m) w = λ i h. absurd (true≢false (sym e ∙ w))
 
   -- inherited, the split is the one that is chosen
   split-chosen : {answer : Answer} → Decided g base column row answer → (n : Named) (s : Split) → answer ≡ Inherited n s → s ≡ chosen motions
@@ -97,7 +96,7 @@ module _ (g : Axes) (base : List ℤ) (column row : ℕ) where
   shared : (i : ℕ) → i < 16 → Shared i
   unfolding inheritedMotions scaledMotion scaledPrediction
   shared =
-      each-block Shared (of 0 0 tt tt) (of 0 1 tt tt) (of 1 0 tt tt) (of 1 1 tt tt) (of 0 2 tt tt) (of 0 3 tt tt) (of 1 2 tt tt) (of 1 3 tt tt)
+      each16 Shared (of 0 0 tt tt) (of 0 1 tt tt) (of 1 0 tt tt) (of 1 1 tt tt) (of 0 2 tt tt) (of 0 3 tt tt) (of 1 2 tt tt) (of 1 3 tt tt)
       (of 2 0 tt tt) (of 2 1 tt tt) (of 3 0 tt tt) (of 3 1 tt tt) (of 2 2 tt tt) (of 2 3 tt tt) (of 3 2 tt tt) (of 3 3 tt tt)
     where
       of : (q k : ℕ) → T (ltb q 4) → T (ltb k 4)
@@ -107,14 +106,11 @@ module _ (g : Axes) (base : List ℤ) (column row : ℕ) where
           let s = resolved-settled set (gathered g base column row) q (lit< x) in
           (sym (s .one0 k (lit< y)), sym (s .one1 k (lit< y)))
 
-  one-reference : OneReference (motionAt motions)
-  one-reference = record { list0 = λ i h. shared i h .0; list1 = λ i h. shared i h .1 }
-
   -- inherited, each block read back from the written record has the motion that map and steps fix;
   pub motions-written : {answer : Answer} → (n : Named) (s : Split) → answer ≡ Inherited n s → (i : ℕ) → i < 16 → motionOf (writtenFor answer motions) i ≡ motionAt motions i
   unfolding writtenFor
   motions-written n s q i h =
-      ap (λ (a : Answer). motionOf (writtenFor a motions) i) q ∙ laid-motion (typeNumber s) (λ k. getD (subTypes s) k 0) (motionAt motions) one-reference i h
+      ap (λ (a : Answer). motionOf (writtenFor a motions) i) q ∙ laid-motion (typeNumber s) (λ k. getD (subTypes s) k 0) (motionAt motions) i h (shared i h .0) (shared i h .1)
 
   -- one motion in each piece, and every other split with one motion in each has more pieces;
   pub fewest-written : {answer : Answer} → Decided g base column row answer → (n : Named) (s : Split) → answer ≡ Inherited n s → Fewest (motionOf (writtenFor answer motions)) s

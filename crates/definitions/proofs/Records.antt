@@ -90,6 +90,10 @@ module _ (type : ℕ) (sub : ℕ → ℕ) (m : ℕ → Motion) where
   unfolding laidOut upTo
   laid-length = refl
 
+  pub laid-types : take 5 (laidOut type sub m) ≡ pos type ∷ pos (sub 0) ∷ pos (sub 1) ∷ pos (sub 2) ∷ pos (sub 3) ∷ []
+  unfolding laidOut upTo
+  laid-types = refl
+
   pub laid-type : typeOf (laidOut type sub m) ≡ pos type
   unfolding laidOut
   laid-type = refl

@@ -10,7 +10,7 @@ use Rattle.definitions.specs.declared.Split.{Split}
 use Rattle.definitions.specs.declared.Split.the-variants.{S16x16, S16x8, S8x16, S8x8 as Quarters}
 use Rattle.definitions.specs.Tests.{pick}
 use Rattle.definitions.specs.Splits.{sameMotion}
-use Rattle.definitions.specs.Inheriting.{noMotion, at}
+use Rattle.definitions.specs.Inheriting.{zeroMotion, at}
 
 -- A square of four in raster order, a b above c d, whose rows, and whose columns, have one motion each.
 abbrev pub cut : Bool → Bool → SubSplit
@@ -27,7 +27,7 @@ shapeOf a b c d = cut (samePairs a b c d) (samePairs a c b d)
 
 -- each quadrant by itself
 unfoldable pub quadrantShape : List Motion → SubSplit
-quadrantShape q = shapeOf (getD q 0 noMotion) (getD q 1 noMotion) (getD q 2 noMotion) (getD q 3 noMotion)
+quadrantShape q = shapeOf (getD q 0 zeroMotion) (getD q 1 zeroMotion) (getD q 2 zeroMotion) (getD q 3 zeroMotion)
 
 unfoldable pub shapesOf : List (List Motion) → SubSplits
 shapesOf m = record { a = quadrantShape (getD m 0 []); b = quadrantShape (getD m 1 []); c = quadrantShape (getD m 2 []); d = quadrantShape (getD m 3 []) }

@@ -1,4 +1,4 @@
--- Steps 1 to 3 of "Inheriting": what they leave of references and vectors. Assumes nothing.
+-- Steps 1 to 3 of "Inheriting": what they leave of references and vectors. Assumes zeroPrediction.
 use Prim.Native.Nat.{ℕ, zero, suc, _+_, _*_, _/_, _%_, _^_, _≤_, _<_}
 use mathlib.Core.Path.{_≡_, refl, sym, _∙_, ap, subst}
 use mathlib.Core.Logic.{_⊎_, inl, inr, ⊎-elim}
@@ -17,7 +17,7 @@ use Rattle.definitions.specs.declared.Motion.{Motion}
 use Rattle.definitions.specs.Tests.{minus, eqZ, four}
 use Rattle.definitions.specs.Splits.{rasterOf}
 use Rattle.definitions.specs.Record.{used}
-use Rattle.definitions.specs.Inheriting.{marked, nothing, noMotion, at, horizontal, vertical, diagonal, source, clearOf, filled, lower, referenceAt, lowest, having, withReference, unused, mergedList, merged, someOf, liveOf, copiedFrom, copied, resolved}
+use Rattle.definitions.specs.Inheriting.{marked, zeroPrediction, zeroMotion, at, horizontal, vertical, diagonal, source, clearOf, filled, lower, referenceAt, lowest, having, withReference, unused, mergedList, merged, someOf, liveOf, copiedFrom, copied, resolved}
 use Rattle.definitions.proofs.Choices.{yes, no, pick-cases, or-true, or-left, or-right, or-false, eqZ-true, eqZ-refl, each, four-at}
 
 -- ---- neighbours
@@ -148,20 +148,20 @@ not-used r e = eqZ-true r (minus 1) (not-false (eqZ r (minus 1)) e)
 
 module _ (p : List Prediction) (k : ℕ) (h : k < 4) where
   abbrev mergedAt : Prediction
-  mergedAt = getD (mergedList p) k nothing
+  mergedAt = getD (mergedList p) k zeroPrediction
 
   abbrev vectorFrom : ℕ
   vectorFrom = source (having p (lowest p)) k
 
-  merged-with : used (lowest p) ≡ true → mergedAt ≡ withReference (lowest p) (getD p vectorFrom nothing)
+  merged-with : used (lowest p) ≡ true → mergedAt ≡ withReference (lowest p) (getD p vectorFrom zeroPrediction)
   unfolding mergedList
   merged-with u =
-      ap (λ (l : List Prediction). getD l k nothing) (yes _ _ u)
-      ∙ four-at (λ i. withReference (lowest p) (getD p (source (having p (lowest p)) i) nothing)) nothing k h
+      ap (λ (l : List Prediction). getD l k zeroPrediction) (yes _ _ u)
+      ∙ four-at (λ i. withReference (lowest p) (getD p (source (having p (lowest p)) i) zeroPrediction)) zeroPrediction k h
 
   merged-none : used (lowest p) ≡ false → mergedAt ≡ unused
   unfolding mergedList
-  merged-none u = ap (λ (l : List Prediction). getD l k nothing) (no _ _ u) ∙ four-at (λ i. unused) nothing k h
+  merged-none u = ap (λ (l : List Prediction). getD l k zeroPrediction) (no _ _ u) ∙ four-at (λ i. unused) zeroPrediction k h
 
   -- all four have r, be it used or −1
   merged-reference : mergedAt .reference ≡ lowest p
@@ -180,11 +180,11 @@ module _ (p : List Prediction) (k : ℕ) (h : k < 4) where
       sym (eqZ-true (referenceAt p vectorFrom) (lowest p) (sym is ∙ good))
 
   -- what holds of the four, and of an unused list, holds after merging
-  merged-keeps : (P : Prediction → Type 0) → P unused → ((j : ℕ) → j < 4 → P (getD p j nothing)) → P mergedAt
+  merged-keeps : (P : Prediction → Type 0) → P unused → ((j : ℕ) → j < 4 → P (getD p j zeroPrediction)) → P mergedAt
   merged-keeps P n a = by (used (lowest p)) refl
     where
-      from : withReference (lowest p) (getD p vectorFrom nothing) ≡ getD p vectorFrom nothing
-      from = λ i. record { reference = vector-had i; x = getD p vectorFrom nothing .x; y = getD p vectorFrom nothing .y }
+      from : withReference (lowest p) (getD p vectorFrom zeroPrediction) ≡ getD p vectorFrom zeroPrediction
+      from = λ i. record { reference = vector-had i; x = getD p vectorFrom zeroPrediction .x; y = getD p vectorFrom zeroPrediction .y }
 
       by : (b : Bool) → used (lowest p) ≡ b → P mergedAt
       by true u = subst P (sym (merged-with u ∙ from)) (a vectorFrom (source-below (having p (lowest p)) k h))
@@ -201,34 +201,34 @@ Both P m = P (m .list0) × P (m .list1)
 
 -- What the layout of a record asks of a quadrant: in each list one reference, and where it is −1 the vectors are 0.
 pub record Settled (q : List Motion) : Type 0 where
-  pub one0 : (k : ℕ) → k < 4 → getD q k noMotion .list0 .reference ≡ getD q 0 noMotion .list0 .reference
-  pub one1 : (k : ℕ) → k < 4 → getD q k noMotion .list1 .reference ≡ getD q 0 noMotion .list1 .reference
-  pub zero0 : (k : ℕ) → k < 4 → used (getD q k noMotion .list0 .reference) ≡ false → getD q k noMotion .list0 ≡ unused
-  pub zero1 : (k : ℕ) → k < 4 → used (getD q k noMotion .list1 .reference) ≡ false → getD q k noMotion .list1 ≡ unused
+  pub one0 : (k : ℕ) → k < 4 → getD q k zeroMotion .list0 .reference ≡ getD q 0 zeroMotion .list0 .reference
+  pub one1 : (k : ℕ) → k < 4 → getD q k zeroMotion .list1 .reference ≡ getD q 0 zeroMotion .list1 .reference
+  pub zero0 : (k : ℕ) → k < 4 → used (getD q k zeroMotion .list0 .reference) ≡ false → getD q k zeroMotion .list0 ≡ unused
+  pub zero1 : (k : ℕ) → k < 4 → used (getD q k zeroMotion .list1 .reference) ≡ false → getD q k zeroMotion .list1 ≡ unused
 
 abbrev list0Of : List Motion → List Prediction
-list0Of m = four (λ j. getD m j noMotion .list0)
+list0Of m = four (λ j. getD m j zeroMotion .list0)
 
 abbrev list1Of : List Motion → List Prediction
-list1Of m = four (λ j. getD m j noMotion .list1)
+list1Of m = four (λ j. getD m j zeroMotion .list1)
 
 merged-is : (m : List Motion) (k : ℕ) → k < 4
-    → getD (merged m) k noMotion ≡ record { list0 = getD (mergedList (list0Of m)) k nothing; list1 = getD (mergedList (list1Of m)) k nothing }
+    → getD (merged m) k zeroMotion ≡ record { list0 = getD (mergedList (list0Of m)) k zeroPrediction; list1 = getD (mergedList (list1Of m)) k zeroPrediction }
 unfolding merged
 merged-is m k h =
-    four-at (λ j. record { list0 = getD (mergedList (list0Of m)) j nothing; list1 = getD (mergedList (list1Of m)) j nothing }) noMotion k h
+    four-at (λ j. record { list0 = getD (mergedList (list0Of m)) j zeroPrediction; list1 = getD (mergedList (list1Of m)) j zeroPrediction }) zeroMotion k h
 
 module _ (m : List Motion) where
-  at0 : (k : ℕ) → k < 4 → getD (merged m) k noMotion .list0 ≡ getD (mergedList (list0Of m)) k nothing
+  at0 : (k : ℕ) → k < 4 → getD (merged m) k zeroMotion .list0 ≡ getD (mergedList (list0Of m)) k zeroPrediction
   at0 k h = ap (λ (x : Motion). x .list0) (merged-is m k h)
 
-  at1 : (k : ℕ) → k < 4 → getD (merged m) k noMotion .list1 ≡ getD (mergedList (list1Of m)) k nothing
+  at1 : (k : ℕ) → k < 4 → getD (merged m) k zeroMotion .list1 ≡ getD (mergedList (list1Of m)) k zeroPrediction
   at1 k h = ap (λ (x : Motion). x .list1) (merged-is m k h)
 
-  reference0 : (k : ℕ) → k < 4 → getD (merged m) k noMotion .list0 .reference ≡ lowest (list0Of m)
+  reference0 : (k : ℕ) → k < 4 → getD (merged m) k zeroMotion .list0 .reference ≡ lowest (list0Of m)
   reference0 k h = ap (λ (e : Prediction). e .reference) (at0 k h) ∙ merged-reference (list0Of m) k h
 
-  reference1 : (k : ℕ) → k < 4 → getD (merged m) k noMotion .list1 .reference ≡ lowest (list1Of m)
+  reference1 : (k : ℕ) → k < 4 → getD (merged m) k zeroMotion .list1 .reference ≡ lowest (list1Of m)
   reference1 k h = ap (λ (e : Prediction). e .reference) (at1 k h) ∙ merged-reference (list1Of m) k h
 
   merged-settled : Settled (merged m)
@@ -239,31 +239,31 @@ module _ (m : List Motion) where
     zero1 = λ k h e. at1 k h ∙ merged-none (list1Of m) k h (ap used (sym (reference1 k h)) ∙ e);
   }
 
-  merged-both : (P : Prediction → Type 0) → P unused → ((j : ℕ) → j < 4 → Both P (getD m j noMotion)) → (k : ℕ) → k < 4 → Both P (getD (merged m) k noMotion)
+  merged-both : (P : Prediction → Type 0) → P unused → ((j : ℕ) → j < 4 → Both P (getD m j zeroMotion)) → (k : ℕ) → k < 4 → Both P (getD (merged m) k zeroMotion)
   merged-both P n a k h = (
-    subst P (sym (at0 k h)) (merged-keeps (list0Of m) k h P n (λ j l. subst P (sym (four-at (λ i. getD m i noMotion .list0) nothing j l)) (a j l .0))),
-    subst P (sym (at1 k h)) (merged-keeps (list1Of m) k h P n (λ j l. subst P (sym (four-at (λ i. getD m i noMotion .list1) nothing j l)) (a j l .1))),
+    subst P (sym (at0 k h)) (merged-keeps (list0Of m) k h P n (λ j l. subst P (sym (four-at (λ i. getD m i zeroMotion .list0) zeroPrediction j l)) (a j l .0))),
+    subst P (sym (at1 k h)) (merged-keeps (list1Of m) k h P n (λ j l. subst P (sym (four-at (λ i. getD m i zeroMotion .list1) zeroPrediction j l)) (a j l .1))),
   )
 
   -- where one block uses a list, each does after merging
-  merged-uses : usesList (getD m 0 noMotion) ≡ true → (k : ℕ) → k < 4 → usesList (getD (merged m) k noMotion) ≡ true
+  merged-uses : usesList (getD m 0 zeroMotion) ≡ true → (k : ℕ) → k < 4 → usesList (getD (merged m) k zeroMotion) ≡ true
   merged-uses u k h =
       ⊎-elim
-      (λ v. or-left (used (getD (merged m) k noMotion .list1 .reference)) (ap used (reference0 k h) ∙ lowest-under (list0Of m) 0 (omega arith) v .0))
-      (λ v. or-right (used (getD (merged m) k noMotion .list0 .reference)) (ap used (reference1 k h) ∙ lowest-under (list1Of m) 0 (omega arith) v .0))
-      (or-true (used (getD m 0 noMotion .list0 .reference)) (used (getD m 0 noMotion .list1 .reference)) u)
+      (λ v. or-left (used (getD (merged m) k zeroMotion .list1 .reference)) (ap used (reference0 k h) ∙ lowest-under (list0Of m) 0 (omega arith) v .0))
+      (λ v. or-right (used (getD (merged m) k zeroMotion .list0 .reference)) (ap used (reference1 k h) ∙ lowest-under (list1Of m) 0 (omega arith) v .0))
+      (or-true (used (getD m 0 zeroMotion .list0 .reference)) (used (getD m 0 zeroMotion .list1 .reference)) u)
 
 -- ---- step 1
 module _ (clear : List Bool) (m : List Motion) where
-  filled-is : (k : ℕ) → k < 4 → getD (filled clear m) k noMotion ≡ getD m (source clear k) noMotion
+  filled-is : (k : ℕ) → k < 4 → getD (filled clear m) k zeroMotion ≡ getD m (source clear k) zeroMotion
   unfolding filled
-  filled-is k h = four-at (λ j. getD m (source clear j) noMotion) noMotion k h
+  filled-is k h = four-at (λ j. getD m (source clear j) zeroMotion) zeroMotion k h
 
-  filled-keeps : (P : Motion → Type 0) → ((j : ℕ) → j < 4 → P (getD m j noMotion)) → (k : ℕ) → k < 4 → P (getD (filled clear m) k noMotion)
+  filled-keeps : (P : Motion → Type 0) → ((j : ℕ) → j < 4 → P (getD m j zeroMotion)) → (k : ℕ) → k < 4 → P (getD (filled clear m) k zeroMotion)
   filled-keeps P a k h = subst P (sym (filled-is k h)) (a (source clear k) (source-below clear k h))
 
   -- where some block is clear, what holds of the clear ones holds of each
-  filled-clear : (P : Motion → Type 0) → someOf clear ≡ true → ((j : ℕ) → j < 4 → getD clear j false ≡ true → P (getD m j noMotion)) → (k : ℕ) → k < 4 → P (getD (filled clear m) k noMotion)
+  filled-clear : (P : Motion → Type 0) → someOf clear ≡ true → ((j : ℕ) → j < 4 → getD clear j false ≡ true → P (getD m j zeroMotion)) → (k : ℕ) → k < 4 → P (getD (filled clear m) k zeroMotion)
   filled-clear P e a k h = subst P (sym (filled-is k h)) (a (source clear k) (source-below clear k h) (source-good clear e k h))
 
 -- ---- step 3
@@ -307,7 +307,7 @@ pub resolved-keeps : (P : Prediction → Type 0) → P unused → (set : ℕ) (m
     → (q k : ℕ) → q < 4 → k < 4 → Both P (at (resolved set m) q k)
 resolved-keeps P n set m a q k h l =
     let j = copiedFrom (liveOf set) q in
-    subst (λ (x : List Motion). Both P (getD x k noMotion)) (sym (resolved-is set m q h))
+    subst (λ (x : List Motion). Both P (getD x k zeroMotion)) (sym (resolved-is set m q h))
     (merged-both (filled (clearOf set j) (getD m j [])) P n
     (filled-keeps (clearOf set j) (getD m j []) (Both P) (λ i. a j i (copied-below (liveOf set) q h))) k l)
 
@@ -382,8 +382,8 @@ module _ (set : ℕ) (fits : set < 65536) (few : ones set ≤ 8) where
       → (q k : ℕ) → q < 4 → k < 4 → usesList (at (resolved set m) q k) ≡ true
   resolved-uses m a q k h l =
       let j = copiedFrom (liveOf set) q in
-      let first : usesList (getD (filled (clearOf set j) (getD m j [])) 0 noMotion) ≡ true =
+      let first : usesList (getD (filled (clearOf set j) (getD m j [])) 0 zeroMotion) ≡ true =
       filled-clear (clearOf set j) (getD m j []) (λ x. usesList x ≡ true) (copied-some q h)
       (λ i b e. a j i (copied-below (liveOf set) q h) b (clear-unmarked j i b e)) 0 (omega arith) in
-      subst (λ (x : List Motion). usesList (getD x k noMotion) ≡ true) (sym (resolved-is set m q h))
+      subst (λ (x : List Motion). usesList (getD x k zeroMotion) ≡ true) (sym (resolved-is set m q h))
       (merged-uses (filled (clearOf set j) (getD m j [])) first k l)

@@ -11,65 +11,65 @@ use Rattle.definitions.specs.Tests.{pick, minus, eqZ, four}
 use Rattle.definitions.specs.Geometry.{baseSize, scaledSize, cOf, kOf, mOf, nOf, fOf, twoOf, even, sampleOf, macroblocks}
 
 -- a row: M, N and the four m as digits
-pub record Row : Type 0 where
+pub record MapRow : Type 0 where
   pub border : ℤ
   pub border8 : ℤ
   pub digits : List ℕ
 
-abbrev pub row : ℤ → ℤ → ℕ → ℕ → ℕ → ℕ → Row
-row m n a b c d = record { border = m; border8 = n; digits = a ∷ b ∷ c ∷ d ∷ [] }
+abbrev pub mapRow : ℤ → ℤ → ℕ → ℕ → ℕ → ℕ → MapRow
+mapRow m n a b c d = record { border = m; border8 = n; digits = a ∷ b ∷ c ∷ d ∷ [] }
 
-abbrev pub evenRows : List Row
+abbrev pub evenRows : List MapRow
 evenRows =
-    row (minus 16) (pos 0) 1 1 2 2  -- +
-    ∷ row (minus 16) (pos 4) 1 1 1 2  -- +
-    ∷ row (minus 12) (pos 0) 1 1 2 2  -- +
-    ∷ row (minus 12) (pos 4) 0 1 1 2
-    ∷ row (minus 12) (pos 8) 0 0 1 1  -- +
-    ∷ row (minus 8) (pos 0) 0 1 2 3  -- +
-    ∷ row (minus 8) (pos 4) 0 0 1 2
-    ∷ row (minus 8) (pos 8) 0 0 1 1
-    ∷ row (minus 8) (pos 12) 0 0 1 1  -- +
-    ∷ row (minus 4) (pos 4) 3 4 5 6
-    ∷ row (minus 4) (pos 8) 3 4 5 5
-    ∷ row (minus 4) (pos 12) 3 4 4 5
-    ∷ row (minus 4) (pos 16) 3 4 4 4  -- +
-    ∷ row (pos 0) (pos 8) 2 3 4 5
-    ∷ row (pos 0) (pos 12) 3 3 4 4
-    ∷ row (pos 0) (pos 16) 3 3 4 4
+    mapRow (minus 16) (pos 0) 1 1 2 2  -- +
+    ∷ mapRow (minus 16) (pos 4) 1 1 1 2  -- +
+    ∷ mapRow (minus 12) (pos 0) 1 1 2 2  -- +
+    ∷ mapRow (minus 12) (pos 4) 0 1 1 2
+    ∷ mapRow (minus 12) (pos 8) 0 0 1 1  -- +
+    ∷ mapRow (minus 8) (pos 0) 0 1 2 3  -- +
+    ∷ mapRow (minus 8) (pos 4) 0 0 1 2
+    ∷ mapRow (minus 8) (pos 8) 0 0 1 1
+    ∷ mapRow (minus 8) (pos 12) 0 0 1 1  -- +
+    ∷ mapRow (minus 4) (pos 4) 3 4 5 6
+    ∷ mapRow (minus 4) (pos 8) 3 4 5 5
+    ∷ mapRow (minus 4) (pos 12) 3 4 4 5
+    ∷ mapRow (minus 4) (pos 16) 3 4 4 4  -- +
+    ∷ mapRow (pos 0) (pos 8) 2 3 4 5
+    ∷ mapRow (pos 0) (pos 12) 3 3 4 4
+    ∷ mapRow (pos 0) (pos 16) 3 3 4 4
     ∷ []
 
-abbrev pub oddRows : List Row
+abbrev pub oddRows : List MapRow
 oddRows =
-    row (pos 0) (minus 16) 3 3 4 4  -- +
-    ∷ row (pos 0) (minus 12) 3 3 4 4  -- +
-    ∷ row (pos 0) (minus 8) 2 3 4 5  -- +
-    ∷ row (pos 4) (minus 16) 3 3 3 4  -- +
-    ∷ row (pos 4) (minus 12) 2 3 3 4
-    ∷ row (pos 4) (minus 8) 2 2 3 4
-    ∷ row (pos 4) (minus 4) 1 2 3 4
-    ∷ row (pos 8) (minus 12) 2 2 3 3  -- +
-    ∷ row (pos 8) (minus 8) 2 2 3 3
-    ∷ row (pos 8) (minus 4) 1 2 3 3
-    ∷ row (pos 8) (pos 0) 0 1 2 3
-    ∷ row (pos 12) (minus 8) 2 2 3 3  -- +
-    ∷ row (pos 12) (minus 4) 1 2 2 3
-    ∷ row (pos 12) (pos 0) 1 1 2 2
-    ∷ row (pos 16) (minus 4) 1 2 2 2  -- +
-    ∷ row (pos 16) (pos 0) 1 1 2 2
+    mapRow (pos 0) (minus 16) 3 3 4 4  -- +
+    ∷ mapRow (pos 0) (minus 12) 3 3 4 4  -- +
+    ∷ mapRow (pos 0) (minus 8) 2 3 4 5  -- +
+    ∷ mapRow (pos 4) (minus 16) 3 3 3 4  -- +
+    ∷ mapRow (pos 4) (minus 12) 2 3 3 4
+    ∷ mapRow (pos 4) (minus 8) 2 2 3 4
+    ∷ mapRow (pos 4) (minus 4) 1 2 3 4
+    ∷ mapRow (pos 8) (minus 12) 2 2 3 3  -- +
+    ∷ mapRow (pos 8) (minus 8) 2 2 3 3
+    ∷ mapRow (pos 8) (minus 4) 1 2 3 3
+    ∷ mapRow (pos 8) (pos 0) 0 1 2 3
+    ∷ mapRow (pos 12) (minus 8) 2 2 3 3  -- +
+    ∷ mapRow (pos 12) (minus 4) 1 2 2 3
+    ∷ mapRow (pos 12) (pos 0) 1 1 2 2
+    ∷ mapRow (pos 16) (minus 4) 1 2 2 2  -- +
+    ∷ mapRow (pos 16) (pos 0) 1 1 2 2
     ∷ []
 
-abbrev pub rowsOf : Bool → List Row
-rowsOf true = evenRows
-rowsOf false = oddRows
+abbrev pub mapRows : Bool → List MapRow
+mapRows true = evenRows
+mapRows false = oddRows
 
 -- the digits of the row with this M and N; none if there is no such row
-abbrev pub digitsIn : List Row → ℤ → ℤ → List ℕ
+abbrev pub digitsIn : List MapRow → ℤ → ℤ → List ℕ
 digitsIn [] m n = []
 digitsIn (r ∷ rs) m n = pick (eqZ (r .border) m && eqZ (r .border8) n) (r .digits) (digitsIn rs m n)
 
 unfoldable pub digitsOf : Bool → ℤ → ℤ → List ℕ
-digitsOf k-even m n = digitsIn (rowsOf k-even) m n
+digitsOf k-even m n = digitsIn (mapRows k-even) m n
 
 -- Block i of 0..3 along an axis reads base 4 by 4 coordinate 4F + m
 unfoldable pub coordinateOf : ℕ → ℕ → ℕ → ℕ → ℕ
@@ -94,8 +94,8 @@ stepOf a p =
 abbrev pub columnOf : ℕ → ℕ
 columnOf q = q / 4
 
-abbrev pub placeIn : ℕ → ℕ
-placeIn q = q % 4
+abbrev pub blockIn : ℕ → ℕ
+blockIn q = q % 4
 
 -- Both axes: block i of 0..15 of the macroblock at a column and row, in raster order. The coordinates that it reads
 abbrev pub across : Axes → ℕ → ℕ → ℕ
@@ -113,4 +113,4 @@ unfoldable pub addressRead : Axes → ℕ → ℕ → ℕ → ℕ
 addressRead g column row i = baseAddress g (columnOf (across g column i)) (columnOf (down g row i))
 
 unfoldable pub blockRead : Axes → ℕ → ℕ → ℕ → ℕ
-blockRead g column row i = 4 * placeIn (down g row i) + placeIn (across g column i)
+blockRead g column row i = 4 * blockIn (down g row i) + blockIn (across g column i)

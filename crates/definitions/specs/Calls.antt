@@ -18,7 +18,7 @@ use Rattle.definitions.specs.declared.PictureReply.the-variants.{Counted
 use Rattle.definitions.specs.Tests.{upTo, forEach}
 use Rattle.definitions.specs.Geometry.{axesOf, fullSize, macroblocks}
 use Rattle.definitions.specs.Answer.{Made, madeOf}
-use Rattle.definitions.specs.Refusals.{Test, verdictOf, geometryTests, baseTest, outputTest, placeTest, recordTests, addressesRead, allAddresses}
+use Rattle.definitions.specs.Refusals.{Test, verdictOf, geometryTests, baseTest, outputTest, positionTest, recordTests, addressesRead, allAddresses}
 
 -- what a call hands back, and the words that it was lent, afterwards
 pub record Outcome (Reply : Type 0) : Type 0 where
@@ -34,7 +34,7 @@ byVerdict (Refused r) refused words made = record { reply = refused r; words = w
 unfoldable pub macroblockTests : Numbers → List ℤ → ℤ → ℤ → List ℤ → List Test
 macroblockTests n base column row words =
     let g = axesOf n in
-    geometryTests n ++ (baseTest g base ∷ outputTest 1 words ∷ placeTest g column row ∷ recordTests base (addressesRead g (natAbs column) (natAbs row)))
+    geometryTests n ++ (baseTest g base ∷ outputTest 1 words ∷ positionTest g column row ∷ recordTests base (addressesRead g (natAbs column) (natAbs row)))
 
 unfoldable pub macroblockCall : Numbers → List ℤ → ℤ → ℤ → List ℤ → Outcome MacroblockReply
 macroblockCall n base column row words =

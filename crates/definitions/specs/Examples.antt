@@ -20,7 +20,7 @@ use Rattle.definitions.specs.Geometry.{axesOf, axisOf, insideAxis, cOf, 
 use Rattle.definitions.specs.BlockMap.{digitsOf, coordinateOf, stepOf, addressRead, blockRead}
 use Rattle.definitions.specs.Splits.{quadrantOf, placeOf, sameMotion, samePrediction, alike, oneEach, fewestIn}
 use Rattle.definitions.specs.Record.{recordWords, recordAt, motionOf, splitSaid, rule1, rule2, rule3, rule4, rule5, rule6, firstBroken, laidOut}
-use Rattle.definitions.specs.Inheriting.{setOf, intraSet, gathered, source, clearOf, filled, lower, lowest, having, unused, nothing, mergedList, merged, someOf, liveOf, copiedFrom, copied, resolved, scaledWord, scaledPrediction, scaledMotion, inheritedMotions}
+use Rattle.definitions.specs.Inheriting.{setOf, intraSet, gathered, source, clearOf, filled, lower, lowest, having, unused, zeroPrediction, mergedList, merged, someOf, liveOf, copiedFrom, copied, resolved, scaledWord, scaledPrediction, scaledMotion, inheritedMotions}
 use Rattle.definitions.specs.Answer.{namedAt, answerOf, answerType, addressesOf, unusedMotion, writtenFor, madeOf}
 use Rattle.definitions.specs.Refusals.{geometryTests, recordTests, addressesRead}
 use Rattle.definitions.specs.Calls.{Outcome, macroblockTests, macroblockCall}
@@ -74,7 +74,7 @@ holds (word b s v w) = eqZ (scaledWord b s v) w
 holds (macroblock base members type) =
     eqb (ones (setFor base)) members && replyType (macroblockCall centred base (pos 1) (pos 1) (replicate recordWords (pos 0)) .reply) type
 holds (fill base i k) = eqb (source (clearOf (setFor base) (quadrantOf i)) (placeOf i)) k
-holds (merge p k) = allBelow 4 (λ j. samePrediction (getD (mergedList p) j nothing) (getD p k nothing))
+holds (merge p k) = allBelow 4 (λ j. samePrediction (getD (mergedList p) j zeroPrediction) (getD p k zeroPrediction))
 
 -- an intra record, and one of type 1
 abbrev intraRecord : List ℤ

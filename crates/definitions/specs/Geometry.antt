@@ -46,17 +46,18 @@ macroblocks size = size / 16
 unfoldable pub insideAxis : Axis → ℕ → Bool
 insideAxis a p = leZ (offsetOf a) (pos p) && leZ (pos (p + 16)) (offsetOf a +ℤ pos (scaledSize a))
 
--- The definitions of 3.1 have B, S and c. Inside, c = P − o + 8 is above 0.
+-- c = P − o + 8. (Inside, P − o is not below 0, and natAbs is the number itself.) The definitions after it have B, S and c.
 abbrev pub cOf : Axis → ℕ → ℕ
 cOf a p = natAbs (pos p -ℤ offsetOf a) + 8
 
+-- Z = (c·B + B/2) / S and k = Z / 8
 abbrev pub zOf : ℕ → ℕ → ℕ → ℕ
 zOf b s c = (c * b + b / 2) / s
 
 abbrev pub kOf : ℕ → ℕ → ℕ → ℕ
 kOf b s c = zOf b s c / 8
 
--- p(j)
+-- p(j) = (8·j·S + B/2) / B
 abbrev pub pOf : ℕ → ℕ → ℕ → ℕ
 pOf b s j = (8 * j * s + b / 2) / b
 
@@ -81,7 +82,7 @@ mOf b s c = pick (even (kOf b s c)) (roundedOf (d1Of b s c)) (roundedOf (d2Of b 
 unfoldable pub nOf : ℕ → ℕ → ℕ → ℤ
 nOf b s c = pick (even (kOf b s c)) (roundedOf (d2Of b s c)) (roundedOf (d1Of b s c))
 
--- F: k/2 − 1 if k is even and M > −8, else k/2
+-- F: k/2 − 1 if k is even and M > −8, else k/2. (k = 0 has M ≤ −8, so that 1 is never taken from 0.)
 unfoldable pub fOf : ℕ → ℕ → ℕ → ℕ
 fOf b s c = pick (even (kOf b s c) && ltZ (minus 8) (mOf b s c)) (kOf b s c / 2 - 1) (kOf b s c / 2)
 
@@ -92,14 +93,13 @@ twoOf b s c = not (leb 8 (natAbs (mOf b s c)))
 unfoldable pub columnsRead : ℕ → Bool → List ℕ
 columnsRead first two = pick two (first ∷ (first + 1) ∷ []) (first ∷ [])
 
--- Class (003, 3.2): Corner reads one base macroblock, Vert two columns, Hori two rows, Center four.
--- Two columns are read, two rows are read
+-- Class (003, 3.2): Corner reads one base macroblock, Vert two columns, Hori two rows, Center four. The arguments: two columns are read, two rows are.
 abbrev pub classOf : Bool → Bool → Class
 classOf false false = Corner
 classOf true false = Vert
 classOf false true = Hori
 classOf true true = Center
 
--- A macroblock is inside when it is so on both axes
+-- A macroblock is inside (the window) when it is so on both axes
 abbrev pub inside : Axes → ℕ → ℕ → Bool
 inside g column row = insideAxis (g .horizontal) (sampleOf column) && insideAxis (g .vertical) (sampleOf row)

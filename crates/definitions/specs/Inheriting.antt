@@ -33,14 +33,14 @@ abbrev pub mostlyIntra : ℕ → Bool
 mostlyIntra set = leb 9 (ones set)
 
 -- The motion that each block reads, as four quadrants of four blocks. What stands at a place that is none of the four is read by no step.
-abbrev pub nothing : Prediction
-nothing = record { reference = pos 0; x = pos 0; y = pos 0 }
+abbrev pub zeroPrediction : Prediction
+zeroPrediction = record { reference = pos 0; x = pos 0; y = pos 0 }
 
-abbrev pub noMotion : Motion
-noMotion = record { list0 = nothing; list1 = nothing }
+abbrev pub zeroMotion : Motion
+zeroMotion = record { list0 = zeroPrediction; list1 = zeroPrediction }
 
 abbrev pub at : List (List Motion) → ℕ → ℕ → Motion
-at m q k = getD (getD m q []) k noMotion
+at m q k = getD (getD m q []) k zeroMotion
 
 abbrev pub motionAt : List (List Motion) → ℕ → Motion
 motionAt m i = at m (quadrantOf i) (placeOf i)
@@ -74,7 +74,7 @@ unfoldable pub clearOf : ℕ → ℕ → List Bool
 clearOf set q = four (λ k. not (marked set (rasterOf q k)))
 
 unfoldable pub filled : List Bool → List Motion → List Motion
-filled clear m = four (λ k. getD m (source clear k) noMotion)
+filled clear m = four (λ k. getD m (source clear k) zeroMotion)
 
 -- Step 2. Per list, r is the lowest used reference. Blocks whose reference is not r take r with the vector of the horizontal, else vertical, else
 -- diagonal block that had r before this step. If none is used, the list stays −1 with vectors 0.
@@ -82,7 +82,7 @@ unfoldable pub lower : ℤ → ℤ → ℤ
 lower a b = pick (used a) (pick (used b) (pick (ltZ b a) b a) a) b
 
 abbrev pub referenceAt : List Prediction → ℕ → ℤ
-referenceAt p k = getD p k nothing .reference
+referenceAt p k = getD p k zeroPrediction .reference
 
 unfoldable pub lowest : List Prediction → ℤ
 lowest p = lower (lower (referenceAt p 0) (referenceAt p 1)) (lower (referenceAt p 2) (referenceAt p 3))
@@ -98,16 +98,17 @@ unused = record { reference = minus 1; x = pos 0; y = pos 0 }
 
 unfoldable pub mergedList : List Prediction → List Prediction
 mergedList p =
-    pick (used (lowest p)) (four (λ k. withReference (lowest p) (getD p (source (having p (lowest p)) k) nothing))) (four (λ k. unused))
+    pick (used (lowest p)) (four (λ k. withReference (lowest p) (getD p (source (having p (lowest p)) k) zeroPrediction))) (four (λ k. unused))
 
 unfoldable pub merged : List Motion → List Motion
 merged m =
     four (λ k. record {
-      list0 = getD (mergedList (four (λ j. getD m j noMotion .list0))) k nothing;
-      list1 = getD (mergedList (four (λ j. getD m j noMotion .list1))) k nothing;
+      list0 = getD (mergedList (four (λ j. getD m j zeroMotion .list0))) k zeroPrediction;
+      list1 = getD (mergedList (four (λ j. getD m j zeroMotion .list1))) k zeroPrediction;
     })
 
 -- Step 3. A quadrant all intra copies its horizontal neighbour quadrant, block for block; if that was all intra too, the vertical one.
+-- some block of a quadrant is not intra; the quadrants of which that holds
 unfoldable pub someOf : List Bool → Bool
 someOf b = getD b 0 false || (getD b 1 false || (getD b 2 false || getD b 3 false))
 

@@ -4,7 +4,6 @@ pub mod Geometry
 pub mod Accepted
 pub mod BlockMap
 pub mod Splits
-pub mod Fewest
 pub mod Record
 pub mod Inheriting
 pub mod Why

@@ -19,7 +19,7 @@ use Rattle.definitions.specs.Splits.{quadrantOf, rasterOf, oneEach}
 abbrev pub recordWords : ℕ
 recordWords = 77
 
--- vector words are −L..L−1, with L
+-- vector words are −L..L−1; this is L
 abbrev pub vectorLimit : ℕ
 vectorLimit = 8192
 

@@ -45,7 +45,7 @@ scaledRight b s = eqb (natAbs s % 2) 0 && between b (pos 2 *ℤ b) s
 abbrev pub offsetRight : ℤ → Bool
 offsetRight o = eqb (natAbs o % 2) 0 && between (minus 8192) (pos 8190) o
 
--- 1 to 4, by number first and then by axis
+-- 1 to 4, by number: each is tested on both axes before the next
 unfoldable pub geometryTests : Numbers → List Test
 geometryTests n =
     let h = n .horizontal in
@@ -75,8 +75,8 @@ outputTest records out = test (not (eqb (length out) (recordWords * records))) (
 abbrev pub withinAxis : ℕ → ℤ → Bool
 withinAxis size x = leZ (pos 0) x && ltZ x (pos (macroblocks size))
 
-abbrev pub placeTest : Axes → ℤ → ℤ → Test
-placeTest g column row = test (not (withinAxis (fullSize (g .horizontal)) column && withinAxis (fullSize (g .vertical)) row)) (refusal 7)
+abbrev pub positionTest : Axes → ℤ → ℤ → Test
+positionTest g column row = test (not (withinAxis (fullSize (g .horizontal)) column && withinAxis (fullSize (g .vertical)) row)) (refusal 7)
 
 -- 8: a malformed record; the place is, among the records checked, the lowest malformed address, and in it the first broken rule as a further number.
 -- (The addresses are in rising order.)

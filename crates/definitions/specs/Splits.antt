@@ -45,7 +45,7 @@ pieces S16x8 = (0 ∷ 1 ∷ 2 ∷ 3 ∷ 4 ∷ 5 ∷ 6 ∷ 7 ∷ []) ∷ (8 ∷ 9
 pieces S8x16 = (0 ∷ 1 ∷ 4 ∷ 5 ∷ 8 ∷ 9 ∷ 12 ∷ 13 ∷ []) ∷ (2 ∷ 3 ∷ 6 ∷ 7 ∷ 10 ∷ 11 ∷ 14 ∷ 15 ∷ []) ∷ []
 pieces (Quarters t) = subPieces 0 (t .a) ++ (subPieces 2 (t .b) ++ (subPieces 8 (t .c) ++ subPieces 10 (t .d)))
 
--- Pieces cover the sixteen blocks once each.
+-- Pieces cover the sixteen blocks once each: each of 0..15 stands once in them, and they hold sixteen, so no other.
 abbrev pub blocksOf : List (List ℕ) → List ℕ
 blocksOf ps = forEach ps (λ p. p)
 

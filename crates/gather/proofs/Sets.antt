@@ -10,7 +10,7 @@ use lib.ListN.{getD}
 use Rattle.definitions.specs.Tests.{pick}
 use Rattle.definitions.specs.Inheriting.{setOf}
 use Rattle.definitions.proofs.Choices.{pick-cases, each}
-use Rattle.definitions.proofs.Written.{each-block}
+use Rattle.definitions.proofs.Records.{each16}
 
 pub no-member : (f : ℕ → Bool) → 0 ≡ setOf 0 f
 unfolding setOf
@@ -36,7 +36,7 @@ module _ (f : ℕ → Bool) (i set b : ℕ) (is : set ≡ setOf i f) (member : b
 
 pub bits-right : (i : ℕ) → i < 16 → getD (1 ∷ 2 ∷ 4 ∷ 8 ∷ 16 ∷ 32 ∷ 64 ∷ 128 ∷ 256 ∷ 512 ∷ 1024 ∷ 2048 ∷ 4096 ∷ 8192 ∷ 16384 ∷ 32768 ∷ []) i 0 ≡ 2 ^ i
 bits-right =
-    each-block (λ i. getD (1 ∷ 2 ∷ 4 ∷ 8 ∷ 16 ∷ 32 ∷ 64 ∷ 128 ∷ 256 ∷ 512 ∷ 1024 ∷ 2048 ∷ 4096 ∷ 8192 ∷ 16384 ∷ 32768 ∷ []) i 0 ≡ 2 ^ i)
+    each16 (λ i. getD (1 ∷ 2 ∷ 4 ∷ 8 ∷ 16 ∷ 32 ∷ 64 ∷ 128 ∷ 256 ∷ 512 ∷ 1024 ∷ 2048 ∷ 4096 ∷ 8192 ∷ 16384 ∷ 32768 ∷ []) i 0 ≡ 2 ^ i)
     refl refl refl refl refl refl refl refl refl refl refl refl refl refl refl refl
 
 -- the first block of a quadrant, and the others from it

@@ -7,7 +7,7 @@ use lib.IntN.{ℤ}
 use lib.ListN.{length, getD}
 use Rattle.definitions.specs.declared.Motion.{Motion}
 use Rattle.definitions.specs.Tests.{four}
-use Rattle.definitions.specs.BlockMap.{columnOf, placeIn}
+use Rattle.definitions.specs.BlockMap.{columnOf, blockIn}
 use Rattle.definitions.specs.Splits.{rasterOf}
 use Rattle.definitions.specs.Record.{recordWords, recordAt, isIntra, motionOf, wellFormed}
 use Rattle.definitions.specs.Inheriting.{setOf}
@@ -17,7 +17,7 @@ abbrev pub addressBy : ℕ → List ℕ → List ℕ → ℕ → ℕ
 addressBy width across down i = columnOf (getD down (i / 4) 0) * width + columnOf (getD across (i % 4) 0)
 
 abbrev pub blockBy : List ℕ → List ℕ → ℕ → ℕ
-blockBy across down i = 4 * placeIn (getD down (i / 4) 0) + placeIn (getD across (i % 4) 0)
+blockBy across down i = 4 * blockIn (getD down (i / 4) 0) + blockIn (getD across (i % 4) 0)
 
 abbrev pub readBy : ℕ → List ℕ → List ℕ → List ℤ → ℕ → List ℤ
 readBy width across down base i = recordAt base (addressBy width across down i)

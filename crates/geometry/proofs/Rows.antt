@@ -8,17 +8,17 @@ use lib.Dec.{eqb, leb}
 use lib.IntN.{ℤ, natAbs}
 use lib.ListN.{getD, length}
 use borrow.Author.Tests.{eqb-true, leb-true}
-use Rattle.definitions.specs.BlockMap.{Row, digitsIn, digitsOf, rowsOf}
+use Rattle.definitions.specs.BlockMap.{MapRow, digitsIn, digitsOf, mapRows}
 use Rattle.definitions.specs.Geometry.{even}
 use Rattle.definitions.specs.Tests.{eqZ, allOf}
 use Rattle.definitions.proofs.Choices.{and-true, eqZ-true, pick-cases}
 use Rattle.geometry.specs.Step.{Complete, decimals}
 
 -- ---- a test of M, N and the digits, at each row
-abbrev passes : (ℤ → ℤ → List ℕ → Bool) → List Row → Bool
+abbrev passes : (ℤ → ℤ → List ℕ → Bool) → List MapRow → Bool
 passes P rows = allOf (λ r. P (r .border) (r .border8) (r .digits)) rows
 
-each-row : (P : ℤ → ℤ → List ℕ → Bool) (rows : List Row) → passes P rows ≡ true → (m n : ℤ) → length (digitsIn rows m n) ≡ 4 → P m n (digitsIn rows m n) ≡ true
+each-row : (P : ℤ → ℤ → List ℕ → Bool) (rows : List MapRow) → passes P rows ≡ true → (m n : ℤ) → length (digitsIn rows m n) ≡ 4 → P m n (digitsIn rows m n) ≡ true
 unfolding allOf
 each-row P [] e m n l = absurd (omega arith)
 each-row P (r ∷ rs) e m n l =
@@ -30,18 +30,18 @@ each-row P (r ∷ rs) e m n l =
 
 -- for k even and for k odd
 abbrev every : (ℕ → ℤ → ℤ → List ℕ → Bool) → Bool
-every P = passes (P 0) (rowsOf true) && passes (P 1) (rowsOf false)
+every P = passes (P 0) (mapRows true) && passes (P 1) (mapRows false)
 
 at-row : (P : ℕ → ℤ → ℤ → List ℕ → Bool) → every P ≡ true → (k : ℕ) (m n : ℤ) → length (digitsOf (even k) m n) ≡ 4 → P (k % 2) m n (digitsOf (even k) m n) ≡ true
 unfolding digitsOf
 at-row P e k m n l = go (k % 2) (omega arith) l
   where
-    tests : (passes (P 0) (rowsOf true) ≡ true) × (passes (P 1) (rowsOf false) ≡ true)
-    tests = and-true (passes (P 0) (rowsOf true)) (passes (P 1) (rowsOf false)) e
+    tests : (passes (P 0) (mapRows true) ≡ true) × (passes (P 1) (mapRows false) ≡ true)
+    tests = and-true (passes (P 0) (mapRows true)) (passes (P 1) (mapRows false)) e
 
-    go : (r : ℕ) → r ≤ 1 → length (digitsIn (rowsOf (eqb r 0)) m n) ≡ 4 → P r m n (digitsIn (rowsOf (eqb r 0)) m n) ≡ true
-    go zero h l = each-row (P 0) (rowsOf true) (tests .0) m n l
-    go (suc zero) h l = each-row (P 1) (rowsOf false) (tests .1) m n l
+    go : (r : ℕ) → r ≤ 1 → length (digitsIn (mapRows (eqb r 0)) m n) ≡ 4 → P r m n (digitsIn (mapRows (eqb r 0)) m n) ≡ true
+    go zero h l = each-row (P 0) (mapRows true) (tests .0) m n l
+    go (suc zero) h l = each-row (P 1) (mapRows false) (tests .1) m n l
     go (suc (suc r)) h l = absurd (omega arith)
 
 -- ---- |M| and |N| are at most 16

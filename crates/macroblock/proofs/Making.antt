@@ -1,5 +1,5 @@
 -- The cases of what is made of a macroblock, and the range of the vectors that its blocks read. Assumes nothing.
-use Prim.Native.Nat.{ℕ, _≤_, _<_}
+use Prim.Native.Nat.{ℕ, _<_}
 use mathlib.Core.Path.{_≡_, refl, sym, ap, subst, _∙_}
 use mathlib.Core.Bool.{true, false, _&&_}
 use mathlib.Core.List.{List, [], _∷_}
@@ -15,10 +15,11 @@ use Rattle.definitions.specs.Tests.{upTo, four}
 use Rattle.definitions.specs.Geometry.{baseSize, macroblocks}
 use Rattle.definitions.specs.Splits.{rasterOf}
 use Rattle.definitions.specs.Record.{typeNumber, motionOf, laidOut}
-use Rattle.definitions.specs.Inheriting.{mostlyIntra, noMotion, at, motionAt, resolved, chosen}
+use Rattle.definitions.specs.Inheriting.{mostlyIntra, zeroMotion, at, motionAt, resolved, chosen}
 use Rattle.definitions.specs.Answer.{Made, subTypes, unusedMotion, writtenFor}
-use Rattle.definitions.proofs.Choices.{yes, no, and-true, each, four-at}
+use Rattle.definitions.proofs.Choices.{yes, no, and-true, four-at}
 use Rattle.definitions.proofs.Formed.{vectors-of}
+use Rattle.definitions.proofs.Records.{raster-below}
 use Rattle.definitions.proofs.Steps.{Both, resolved-keeps}
 use Rattle.motion.specs.Range.{InRange}
 use Rattle.gather.specs.Reads.{Readable, readBy, blockBy, setBy, motionBy, gatheredBy}
@@ -57,12 +58,6 @@ module _ (g : Axes) (h v : AxisRead) (base : List ℤ) where
   placed-out e = no _ _ e
 
 -- ---- the range
-corner-low : (q : ℕ) → q < 4 → getD (0 ∷ 2 ∷ 8 ∷ 10 ∷ []) q 0 ≤ 10
-corner-low = each (λ q. getD (0 ∷ 2 ∷ 8 ∷ 10 ∷ []) q 0 ≤ 10) (omega arith) (omega arith) (omega arith) (omega arith)
-
-step-low : (k : ℕ) → k < 4 → getD (0 ∷ 1 ∷ 4 ∷ 5 ∷ []) k 0 ≤ 5
-step-low = each (λ k. getD (0 ∷ 1 ∷ 4 ∷ 5 ∷ []) k 0 ≤ 5) (omega arith) (omega arith) (omega arith) (omega arith)
-
 module _ (width : ℕ) (across down : List ℕ) (base : List ℤ) (r : Readable width across down base) where
   block-below : (i : ℕ) → blockBy across down i < 16
   block-below i = omega arith
@@ -78,8 +73,8 @@ module _ (width : ℕ) (across down : List ℕ) (base : List ℤ) (r : Readable 
   unfolding gatheredBy
   gathered-range q k hq hk =
       let quadrant : ℕ → List Motion = λ j. four (λ i. motionBy width across down base (rasterOf j i)) in
-      let e = ap (λ (l : List Motion). getD l k noMotion) (four-at quadrant [] q hq) ∙ four-at (λ i. motionBy width across down base (rasterOf q i)) noMotion k hk in
-      subst (Both InRange) (sym e) (read-range (rasterOf q k) (omega (arith, corner-low q hq, step-low k hk)))
+      let e = ap (λ (l : List Motion). getD l k zeroMotion) (four-at quadrant [] q hq) ∙ four-at (λ i. motionBy width across down base (rasterOf q i)) zeroMotion k hk in
+      subst (Both InRange) (sym e) (read-range (rasterOf q k) (raster-below q k hq hk))
 
   -- after steps 1 to 3 too
   pub resolved-range : (set : ℕ) (q k : ℕ) → q < 4 → k < 4 → Both InRange (at (resolved set (gatheredBy width across down base)) q k)

@@ -1,7 +1,7 @@
 // A block's motion: whether two are the same, and step 4 of "Inheriting", the vectors scaled.
 ghost use Prim.Native.Nat.{ℕ, _*_, _+_, _/_, _<_, _≤_};
 ghost use Rattle.definitions.specs.Accepted.{AcceptedAxis, Sized};
-ghost use Rattle.definitions.specs.Inheriting.{at, noMotion, scaledMotion, scaledPrediction, scaledWord};
+ghost use Rattle.definitions.specs.Inheriting.{at, zeroMotion, scaledMotion, scaledPrediction, scaledWord};
 ghost use Rattle.definitions.specs.Record.{vectorLimit};
 ghost use Rattle.definitions.specs.Splits.{sameMotion, samePrediction};
 ghost use Rattle.definitions.specs.Tests.{eqZ, four};
@@ -96,8 +96,8 @@ pub fn scale_motion(g: Axes, m: Motion) -> Motion
 }
 
 fn scale_quadrant(g: Axes, m: [Motion; 4]) -> [Motion; 4]
-    requires { ⌜ AcceptedAxis (g .horizontal) × AcceptedAxis (g .vertical) × ((k : ℕ) → k < 4 → InRange (getD m k noMotion .list0) × InRange (getD m k noMotion .list1)) ⌝ }
-    ensures { λ r. ⌜ r ≡ four (λ k. scaledMotion g (getD m k noMotion)) ⌝ }
+    requires { ⌜ AcceptedAxis (g .horizontal) × AcceptedAxis (g .vertical) × ((k : ℕ) → k < 4 → InRange (getD m k zeroMotion .list0) × InRange (getD m k zeroMotion .list1)) ⌝ }
+    ensures { λ r. ⌜ r ≡ four (λ k. scaledMotion g (getD m k zeroMotion)) ⌝ }
 {
     let a = scale_motion(g, m[0]);
     let b = scale_motion(g, m[1]);

@@ -1,4 +1,4 @@
--- What the functions on a list put together is a merged list, and of both lists a merged quadrant. Assumes nothing.
+-- What the functions on a list put together is a merged list, and of both lists a merged quadrant. Assumes zeroPrediction.
 use Prim.Native.Nat.{ℕ}
 use mathlib.Core.Path.{_≡_, refl, sym, _∙_, ap}
 use mathlib.Core.Bool.{Bool, true, false}
@@ -10,7 +10,7 @@ use Rattle.definitions.specs.declared.Prediction.{Prediction}
 use Rattle.definitions.specs.declared.Motion.{Motion}
 use Rattle.definitions.specs.Tests.{pick, four}
 use Rattle.definitions.specs.Record.{used}
-use Rattle.definitions.specs.Inheriting.{nothing, noMotion, source, lower, lowest, having, withReference, unused, mergedList, merged}
+use Rattle.definitions.specs.Inheriting.{zeroPrediction, zeroMotion, source, lower, lowest, having, withReference, unused, mergedList, merged}
 use Rattle.definitions.proofs.Choices.{yes, no, four-same}
 use Rattle.quadrant.specs.Lowest.{lowerOf, lowestOf}
 
@@ -29,13 +29,13 @@ lower-is p q =
 lowest-is : (p : List Prediction) → lowestOf p .reference ≡ lowest p
 unfolding lowestOf lowest
 lowest-is p =
-    let a = lower-is (getD p 0 nothing) (getD p 1 nothing) in
-    let b = lower-is (getD p 2 nothing) (getD p 3 nothing) in
+    let a = lower-is (getD p 0 zeroPrediction) (getD p 1 zeroPrediction) in
+    let b = lower-is (getD p 2 zeroPrediction) (getD p 3 zeroPrediction) in
     lower-is _ _ ∙ (λ i. lower (a i) (b i))
 
 -- a list with r used, and with none used
 abbrev takenAt : List Prediction → List Bool → ℤ → ℕ → Prediction
-takenAt p had r k = withReference r (getD p (source had k) nothing)
+takenAt p had r k = withReference r (getD p (source had k) zeroPrediction)
 
 pub merged-used : (p : List Prediction) (had : List Bool) {r : Prediction} → r ≡ lowestOf p → used (r .reference) ≡ true → had ≡ having p (r .reference) → {a b c d : Prediction}
     → a ≡ takenAt p had (r .reference) 0 → b ≡ takenAt p had (r .reference) 1 → c ≡ takenAt p had (r .reference) 2 → d ≡ takenAt p had (r .reference) 3
@@ -54,9 +54,9 @@ merged-unused p {r} e u h =
 
 -- both lists
 abbrev paired : List Prediction → List Prediction → List Motion
-paired p q = four (λ k. record { list0 = getD p k nothing; list1 = getD q k nothing })
+paired p q = four (λ k. record { list0 = getD p k zeroPrediction; list1 = getD q k zeroPrediction })
 
-pub merged-both : (m : List Motion) (a b p q : List Prediction) → a ≡ four (λ k. getD m k noMotion .list0) → p ≡ mergedList a
-    → b ≡ four (λ k. getD m k noMotion .list1) → q ≡ mergedList b → paired p q ≡ merged m
+pub merged-both : (m : List Motion) (a b p q : List Prediction) → a ≡ four (λ k. getD m k zeroMotion .list0) → p ≡ mergedList a
+    → b ≡ four (λ k. getD m k zeroMotion .list1) → q ≡ mergedList b → paired p q ≡ merged m
 unfolding merged
 merged-both m a b p q ea ep eb eq = let x = ep ∙ ap mergedList ea in let y = eq ∙ ap mergedList eb in λ i. paired (x i) (y i)

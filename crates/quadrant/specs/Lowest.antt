@@ -5,10 +5,10 @@ use lib.Signed.{ltZ}
 use Rattle.definitions.specs.declared.Prediction.{Prediction}
 use Rattle.definitions.specs.Tests.{pick}
 use Rattle.definitions.specs.Record.{used}
-use Rattle.definitions.specs.Inheriting.{nothing}
+use Rattle.definitions.specs.Inheriting.{zeroPrediction}
 
 unfoldable pub lowerOf : Prediction → Prediction → Prediction
 lowerOf p q = pick (used (p .reference)) (pick (used (q .reference)) (pick (ltZ (q .reference) (p .reference)) q p) p) q
 
 unfoldable pub lowestOf : List Prediction → Prediction
-lowestOf p = lowerOf (lowerOf (getD p 0 nothing) (getD p 1 nothing)) (lowerOf (getD p 2 nothing) (getD p 3 nothing))
+lowestOf p = lowerOf (lowerOf (getD p 0 zeroPrediction) (getD p 1 zeroPrediction)) (lowerOf (getD p 2 zeroPrediction) (getD p 3 zeroPrediction))

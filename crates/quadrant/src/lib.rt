@@ -1,6 +1,6 @@
 // Steps 1 and 2 of "Inheriting", on one quadrant of four blocks in raster order, 0 1 above 2 3.
 ghost use Prim.Native.Nat.{_<_};
-ghost use Rattle.definitions.specs.Inheriting.{filled, having, merged, mergedList, noMotion, nothing, source, unused, withReference};
+ghost use Rattle.definitions.specs.Inheriting.{filled, having, merged, mergedList, zeroMotion, zeroPrediction, source, unused, withReference};
 ghost use Rattle.definitions.specs.Record.{used};
 ghost use Rattle.definitions.specs.Tests.{four};
 ghost use Rattle.quadrant.specs.Lowest.{lowerOf, lowestOf};
@@ -109,7 +109,7 @@ fn with_reference(r: Prediction, p: Prediction) -> Prediction
 // Block k's part of a merged list: r with the vector of a block that had r.
 fn merged_at(p: [Prediction; 4], had: [bool; 4], r: Prediction, k: usize) -> Prediction
     requires { ⌜ k < 4 ⌝ }
-    ensures { λ b. ⌜ b ≡ withReference (r .reference) (getD p (source had k) nothing) ⌝ }
+    ensures { λ b. ⌜ b ≡ withReference (r .reference) (getD p (source had k) zeroPrediction) ⌝ }
 {
     with_reference(r, p[source_of(had, k)])
 }
@@ -141,7 +141,7 @@ fn merge_list(p: [Prediction; 4]) -> [Prediction; 4]
 }
 
 fn first_lists(m: [Motion; 4]) -> [Prediction; 4]
-    ensures { λ r. ⌜ r ≡ four (λ k. getD m k noMotion .list0) ⌝ }
+    ensures { λ r. ⌜ r ≡ four (λ k. getD m k zeroMotion .list0) ⌝ }
 {
     let a = m[0];
     let b = m[1];
@@ -155,7 +155,7 @@ fn first_lists(m: [Motion; 4]) -> [Prediction; 4]
 }
 
 fn second_lists(m: [Motion; 4]) -> [Prediction; 4]
-    ensures { λ r. ⌜ r ≡ four (λ k. getD m k noMotion .list1) ⌝ }
+    ensures { λ r. ⌜ r ≡ four (λ k. getD m k zeroMotion .list1) ⌝ }
 {
     let a = m[0];
     let b = m[1];
@@ -170,7 +170,7 @@ fn second_lists(m: [Motion; 4]) -> [Prediction; 4]
 
 fn joined_at(p: [Prediction; 4], q: [Prediction; 4], k: usize) -> Motion
     requires { ⌜ k < 4 ⌝ }
-    ensures { λ r. ⌜ r ≡ record { list0 = getD p k nothing; list1 = getD q k nothing } ⌝ }
+    ensures { λ r. ⌜ r ≡ record { list0 = getD p k zeroPrediction; list1 = getD q k zeroPrediction } ⌝ }
 {
     let a = p[k];
     let b = q[k];

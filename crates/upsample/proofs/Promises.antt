@@ -16,7 +16,7 @@ use Rattle.definitions.specs.declared.PictureReply.{PictureReply}
 use Rattle.definitions.specs.declared.PictureReply.the-variants.{Counted, Refused as NotMade}
 use Rattle.definitions.specs.Geometry.{axesOf, fullSize, macroblocks}
 use Rattle.definitions.specs.Record.{recordAt}
-use Rattle.definitions.specs.Refusals.{verdictOf, geometryTests, baseTest, outputTest, placeTest, withinAxis, recordTests, addressesRead}
+use Rattle.definitions.specs.Refusals.{verdictOf, geometryTests, baseTest, outputTest, positionTest, withinAxis, recordTests, addressesRead}
 use Rattle.definitions.specs.Calls.{Outcome, macroblockTests, macroblockCall, pictureCall}
 use Rattle.definitions.specs.Demand3.{Demand3Singly, Demand3Picture}
 use Rattle.definitions.proofs.Choices.{and-true}
@@ -34,10 +34,10 @@ module _ (n : Numbers) (base : List ℤ) (column row : ℤ) (words : List ℤ) (
       let g = axesOf n in
       let records = recordTests base (addressesRead g (natAbs column) (natAbs row)) in
       let v = call-accepted n base column row words answer e in
-      let p = both-passed (geometryTests n) (baseTest g base ∷ outputTest 1 words ∷ placeTest g column row ∷ records) v in
-      let q = first-passed (baseTest g base) (outputTest 1 words ∷ placeTest g column row ∷ records) (p .1) in
-      let r = first-passed (outputTest 1 words) (placeTest g column row ∷ records) (q .1) in
-      let t = first-passed (placeTest g column row) records (r .1) in
+      let p = both-passed (geometryTests n) (baseTest g base ∷ outputTest 1 words ∷ positionTest g column row ∷ records) v in
+      let q = first-passed (baseTest g base) (outputTest 1 words ∷ positionTest g column row ∷ records) (p .1) in
+      let r = first-passed (outputTest 1 words) (positionTest g column row ∷ records) (q .1) in
+      let t = first-passed (positionTest g column row) records (r .1) in
       and-true _ _ (not-false (withinAxis (fullSize (g .horizontal)) column && withinAxis (fullSize (g .vertical)) row) (t .0))
 
   natural-column : pos (natAbs column) ≡ column

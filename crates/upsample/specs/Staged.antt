@@ -17,7 +17,7 @@ use Rattle.definitions.specs.Geometry.{columnsRead}
 use Rattle.definitions.specs.BlockMap.{baseAddress}
 use Rattle.definitions.specs.Record.{recordWords, recordAt, wellFormed}
 use Rattle.definitions.specs.Answer.{Made, madeOf}
-use Rattle.definitions.specs.Refusals.{Test, verdictOf, baseCount, baseTest, outputTest, placeTest, recordTests, addressesRead, allAddresses}
+use Rattle.definitions.specs.Refusals.{Test, verdictOf, baseCount, baseTest, outputTest, positionTest, recordTests, addressesRead, allAddresses}
 use Rattle.definitions.specs.Calls.{Outcome, byVerdict, fullCount, madeAt, countsOf}
 
 -- both axes of an accepted geometry
@@ -28,7 +28,7 @@ pub record AcceptedAxes (g : Axes) : Type 0 where
 -- one macroblock, once its geometry is accepted: refusals 5 to 8
 unfoldable pub axesTests : Axes → List ℤ → ℤ → ℤ → List ℤ → List Test
 axesTests g base column row words =
-    baseTest g base ∷ outputTest 1 words ∷ placeTest g column row ∷ recordTests base (addressesRead g (natAbs column) (natAbs row))
+    baseTest g base ∷ outputTest 1 words ∷ positionTest g column row ∷ recordTests base (addressesRead g (natAbs column) (natAbs row))
 
 unfoldable pub axesCall : Axes → List ℤ → ℤ → ℤ → List ℤ → Outcome MacroblockReply
 axesCall g base column row words =

@@ -3,7 +3,7 @@ use Prim.Native.Nat.{ℕ}
 use lib.ListN.{getD}
 use mathlib.Core.Path.{ap}
 use Rattle.definitions.specs.declared.Motion.{Motion}
-use Rattle.definitions.specs.Inheriting.{noMotion, filled}
+use Rattle.definitions.specs.Inheriting.{zeroMotion, filled}
 use Rattle.definitions.proofs.Choices.{four-same}
 use borrow.Author.Needs.{needs}
 use Rattle.quadrant.proofs.fill.Statement.{statement}
@@ -48,7 +48,7 @@ array-copy-out-d c = search needs
 returns : tie.Need-returns
 unfolding filled
 returns c =
-    let block : ℕ → Motion = λ s. getD (c .before .before .before .before .before .before .before .before .args .t2) s noMotion in
+    let block : ℕ → Motion = λ s. getD (c .before .before .before .before .before .before .before .before .args .t2) s zeroMotion in
     four-same (ap block (c .before .before .before .before .before .before .before .source-of .ensures .0)) (ap block (c .before .before .before .before .before .source-of2 .ensures .0))
     (ap block (c .before .before .before .source-of3 .ensures .0)) (ap block (c .before .source-of4 .ensures .0))
 

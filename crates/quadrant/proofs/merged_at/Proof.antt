@@ -1,8 +1,8 @@
--- `quadrant::merged_at` meets its contract. Assumes nothing.
+-- `quadrant::merged_at` meets its contract. Assumes zeroPrediction.
 use Prim.Native.Nat.{ℕ}
 use lib.ListN.{getD}
 use mathlib.Core.Path.{_∙_, ap}
-use Rattle.definitions.specs.Inheriting.{nothing, withReference}
+use Rattle.definitions.specs.Inheriting.{zeroPrediction, withReference}
 use borrow.Author.Needs.{needs}
 use Rattle.quadrant.proofs.merged_at.Statement.{statement}
 use Rattle.quadrant.proofs.merged_at.Tie as tie
@@ -22,7 +22,7 @@ with-reference-requires c κs = search needs
 returns : tie.Need-returns
 returns c =
     let a = c .before .before .before .args in
-    c .with-reference .ensures ∙ ap (λ (s : ℕ). withReference (a .r .reference) (getD (a .t1) s nothing)) (c .before .before .source-of .ensures .0)
+    c .with-reference .ensures ∙ ap (λ (s : ℕ). withReference (a .r .reference) (getD (a .t1) s zeroPrediction)) (c .before .before .source-of .ensures .0)
 
 pub merged-at-spec : {M : Type 1} → statement M
 merged-at-spec =
