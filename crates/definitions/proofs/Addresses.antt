@@ -1,18 +1,16 @@
 -- The base macroblocks that an answer names: their columns and rows lie inside the base, and every block reads one of them. Assumes nothing.
-use Prim.Native.Nat.{ℕ, _+_, _*_, _/_, _%_, _<_}
-use mathlib.Core.Path.{_≡_, refl, sym, ap, subst}
-use mathlib.Core.Bool.{Bool, true, false}
-use mathlib.Core.List.{List, [], _∷_, _++_, map, List·Memᴰ, List·Memᴰ·head, List·Memᴰ·tail, List·Memᴰ·cases-cons, List·Memᴰ·not-nil, Memᴰ·append-left, Memᴰ·append-right, List·Memᴰ·append-cases}
+use Prim.Native.Nat.{ℕ, _*_, _/_, _%_, _<_}
+use mathlib.Core.Path.{_≡_, refl, ap, subst}
+use mathlib.Core.List.{List, [], _∷_, map, List·Memᴰ, List·Memᴰ·head, List·Memᴰ·tail, List·Memᴰ·cases-cons, List·Memᴰ·not-nil, Memᴰ·append-left, Memᴰ·append-right, List·Memᴰ·append-cases}
 use mathlib.Core.Logic.{⊎-elim}
 use native.Mathlib.Nat.{mul-le-mul-right}
 use native.Mathlib.Omega.{arith}
-use lib.ListN.{getD}
 use Rattle.definitions.specs.declared.Axes.{Axes}
 use Rattle.definitions.specs.Tests.{forEach}
 use Rattle.definitions.specs.Accepted.{Inside}
-use Rattle.definitions.specs.Geometry.{baseSize, scaledSize, cOf, fOf, twoOf, classOf, columnsRead, sampleOf, macroblocks}
-use Rattle.definitions.specs.BlockMap.{coordinateOf, stepOf, columnOf, baseAddress, addressRead}
-use Rattle.definitions.specs.Answer.{namedAt, twoColumns, twoRows, columnsOf, rowsOf, addressesOf}
+use Rattle.definitions.specs.Geometry.{baseSize, scaledSize, cOf, fOf, twoOf, columnsRead, sampleOf, macroblocks}
+use Rattle.definitions.specs.BlockMap.{coordinateOf, stepOf, baseAddress, addressRead}
+use Rattle.definitions.specs.Answer.{namedAt, columnsOf, rowsOf, addressesOf}
 use Rattle.definitions.proofs.Choices.{four-at}
 use Rattle.definitions.proofs.Map.{read-named, named-below, class-columns, class-rows}
 

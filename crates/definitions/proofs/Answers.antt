@@ -1,5 +1,5 @@
 -- The three cases of an answer, each with what decides it (specs/Answer). Assumes nothing.
-use Prim.Native.Nat.{ℕ, _≤_, _<_}
+use Prim.Native.Nat.{ℕ, _≤_}
 use mathlib.Core.Path.{_≡_, refl, sym, ap, subst, _∙_}
 use mathlib.Core.Bool.{Bool, true, false}
 use mathlib.Core.List.{List, []}
@@ -11,9 +11,8 @@ use borrow.Author.Tests.{leb-true, leb-false}
 use Rattle.definitions.specs.declared.Axes.{Axes}
 use Rattle.definitions.specs.declared.Answer.{Answer}
 use Rattle.definitions.specs.declared.Answer.the-variants.{Outside, Intra, Inherited}
-use Rattle.definitions.specs.Tests.{pick}
 use Rattle.definitions.specs.Geometry.{inside}
-use Rattle.definitions.specs.Inheriting.{intraSet, mostlyIntra, inheritedMotions, chosen}
+use Rattle.definitions.specs.Inheriting.{intraSet, inheritedMotions, chosen}
 use Rattle.definitions.specs.Answer.{namedAt, answerOf, writtenFor, madeOf}
 use Rattle.definitions.proofs.Choices.{yes, no}
 

@@ -1,15 +1,14 @@
 -- A well-formed record keeps each of the six rules; and what rule 5 says of a block's vectors. Assumes nothing.
-use Prim.Native.Nat.{ℕ, _-_, _<_}
-use mathlib.Core.Path.{_≡_, refl, sym, ap, _∙_}
-use mathlib.Core.Bool.{Bool, true, false, not, _&&_, _||_}
+use Prim.Native.Nat.{ℕ, _<_}
+use mathlib.Core.Path.{_≡_, refl}
+use mathlib.Core.Bool.{Bool, true, false, not}
 use mathlib.Core.List.{List}
 use native.Mathlib.Omega.{arith}
-use lib.Dec.{eqb}
-use lib.IntN.{ℤ, pos}
+use lib.IntN.{ℤ}
 use borrow.Author.Tests.{eqb-true}
-use Rattle.definitions.specs.Tests.{pick, minus, between}
+use Rattle.definitions.specs.Tests.{pick}
 use Rattle.definitions.specs.Splits.{quadrantOf}
-use Rattle.definitions.specs.Record.{vectorLimit, vectorXOf, vectorYOf, referenceOf, used, vectorWord, rule1, rule2, rule3, rule4, rule5, rule6, firstBroken, wellFormed}
+use Rattle.definitions.specs.Record.{vectorXOf, vectorYOf, referenceOf, used, vectorWord, rule1, rule2, rule3, rule4, rule5, rule6, firstBroken, wellFormed}
 use Rattle.definitions.proofs.Choices.{and-true, below-true}
 
 -- the six rules of a record

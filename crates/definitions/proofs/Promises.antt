@@ -1,9 +1,9 @@
 -- The sentences of demand 3, of what is made of a macroblock (specs/Answer): all but the one on other records. Assumes nothing.
 use Prim.Native.Nat.{ℕ, _≤_, _<_}
 use mathlib.Core.Path.{_≡_, refl, sym, ap, subst, _∙_}
-use mathlib.Core.Bool.{Bool, true, false, true≢false}
+use mathlib.Core.Bool.{true, false, true≢false}
 use mathlib.Core.List.{List, [], _∷_, map, List·Memᴰ, List·Memᴰ·not-nil}
-use mathlib.Core.Logic.{_≢_, _↔_}
+use mathlib.Core.Logic.{_↔_}
 use native.Mathlib.Omega.{arith}
 use lib.Count.{ones}
 use lib.Dec.{T, ltb, lit<}
@@ -16,13 +16,12 @@ use Rattle.definitions.specs.declared.Split.{Split}
 use Rattle.definitions.specs.declared.Split.the-variants.{S16x16, S16x8, S8x16, S8x8 as Quarters}
 use Rattle.definitions.specs.declared.Answer.{Answer}
 use Rattle.definitions.specs.declared.Answer.the-variants.{Outside, Intra, Inherited}
-use Rattle.definitions.specs.Tests.{four}
 use Rattle.definitions.specs.Accepted.{Inside}
 use Rattle.definitions.specs.Geometry.{baseSize, scaledSize, cOf, sampleOf, macroblocks, inside}
-use Rattle.definitions.specs.Splits.{quadrantOf, rasterOf, pieces, Covers, oneEach, count}
-use Rattle.definitions.specs.Record.{motionOf, typeNumber, laidOut}
+use Rattle.definitions.specs.Splits.{quadrantOf, rasterOf, oneEach, count}
+use Rattle.definitions.specs.Record.{motionOf, typeNumber}
 use Rattle.definitions.specs.Inheriting.{intraSet, gathered, resolved, at, motionAt, scaledPrediction, scaledMotion, inheritedMotions, chosen}
-use Rattle.definitions.specs.Answer.{namedAt, answerClass, answerColumn, answerRow, columnsNamed, rowsNamed, subTypes, unusedMotion, writtenFor}
+use Rattle.definitions.specs.Answer.{answerClass, answerColumn, answerRow, columnsNamed, rowsNamed, subTypes, unusedMotion, writtenFor}
 use Rattle.definitions.specs.Demand3.{namedByPaper}
 use Rattle.definitions.proofs.Choices.{yes, no}
 use Rattle.definitions.proofs.Answers.{Decided, is-outside, is-intra, is-inherited}

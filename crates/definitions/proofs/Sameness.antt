@@ -1,19 +1,18 @@
 -- What is made of a macroblock depends on the base only through the records that its blocks read. Assumes nothing.
 use Prim.Native.Nat.{ℕ, zero, suc, _+_, _^_, _<_}
-use mathlib.Core.Path.{_≡_, refl, sym, ap}
+use mathlib.Core.Path.{_≡_, refl, ap}
 use mathlib.Core.Bool.{Bool}
 use mathlib.Core.List.{List}
 use native.Mathlib.Omega.{arith}
 use lib.IntN.{ℤ}
 use Rattle.definitions.specs.declared.Axes.{Axes}
-use Rattle.definitions.specs.declared.Motion.{Motion}
 use Rattle.definitions.specs.declared.Answer.the-variants.{Outside, Intra, Inherited}
 use Rattle.definitions.specs.Tests.{pick, four}
 use Rattle.definitions.specs.Geometry.{inside}
 use Rattle.definitions.specs.BlockMap.{addressRead, blockRead}
 use Rattle.definitions.specs.Record.{recordAt, isIntra, motionOf}
 use Rattle.definitions.specs.Inheriting.{setOf, intraSet, mostlyIntra, gathered, resolved, at, scaledMotion, inheritedMotions, chosen}
-use Rattle.definitions.specs.Answer.{Made, namedAt, answerOf, writtenFor, madeOf}
+use Rattle.definitions.specs.Answer.{namedAt, answerOf, writtenFor, madeOf}
 use Rattle.definitions.proofs.Choices.{four-same}
 
 -- sets of the same members

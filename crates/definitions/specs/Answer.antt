@@ -1,19 +1,18 @@
 -- The answer and its written record ("Inheriting" of document 01, after the steps).
-use Prim.Native.Nat.{ℕ, _+_}
+use Prim.Native.Nat.{ℕ}
 use mathlib.Core.Bool.{Bool, true, false}
 use mathlib.Core.List.{List, [], _∷_, map}
-use lib.IntN.{ℤ, pos}
+use lib.IntN.{ℤ}
 use Rattle.definitions.specs.declared.Axes.{Axes}
 use Rattle.definitions.specs.declared.Class.{Class}
 use Rattle.definitions.specs.declared.Class.the-variants.{Corner, Vert, Hori, Center}
 use Rattle.definitions.specs.declared.Named.{Named}
 use Rattle.definitions.specs.declared.Motion.{Motion}
-use Rattle.definitions.specs.declared.SubSplits.{SubSplits}
 use Rattle.definitions.specs.declared.Split.{Split}
 use Rattle.definitions.specs.declared.Split.the-variants.{S16x16, S16x8, S8x16, S8x8 as Quarters}
 use Rattle.definitions.specs.declared.Answer.{Answer}
 use Rattle.definitions.specs.declared.Answer.the-variants.{Outside, Intra, Inherited}
-use Rattle.definitions.specs.Tests.{pick, four, forEach}
+use Rattle.definitions.specs.Tests.{pick, forEach}
 use Rattle.definitions.specs.Geometry.{inside, classOf, columnsRead, sampleOf}
 use Rattle.definitions.specs.BlockMap.{stepOf, baseAddress}
 use Rattle.definitions.specs.Record.{typeNumber, subTypeNumber, laidOut}

@@ -1,6 +1,5 @@
 -- "Bench examples" of document 01: the starred ones, in one table, proved by one statement.
-use Prim.Native.Nat.{ℕ, _+_, _*_}
-use mathlib.Core.Path.{_≡_}
+use Prim.Native.Nat.{ℕ}
 use mathlib.Core.Bool.{Bool, true, false, not, _&&_}
 use mathlib.Core.List.{List, [], _∷_, _++_}
 use lib.Count.{ones, onesIn}
@@ -8,22 +7,20 @@ use lib.Dec.{T, eqb}
 use lib.IntN.{ℤ, pos}
 use lib.ListN.{getD, replicate}
 use Rattle.definitions.specs.declared.Axis.{Axis}
-use Rattle.definitions.specs.declared.Axes.{Axes}
 use Rattle.definitions.specs.declared.AxisNumbers.{AxisNumbers}
 use Rattle.definitions.specs.declared.Numbers.{Numbers}
 use Rattle.definitions.specs.declared.Prediction.{Prediction}
-use Rattle.definitions.specs.declared.Motion.{Motion}
 use Rattle.definitions.specs.declared.MacroblockReply.{MacroblockReply}
 use Rattle.definitions.specs.declared.MacroblockReply.the-variants.{Answered, Refused}
-use Rattle.definitions.specs.Tests.{pick, minus, eqZ, allBelow, allOf, upTo, four}
-use Rattle.definitions.specs.Geometry.{axesOf, axisOf, insideAxis, cOf, kOf, mOf, nOf, fOf, twoOf, inside, baseSize, scaledSize}
+use Rattle.definitions.specs.Tests.{pick, minus, eqZ, allBelow, allOf, upTo}
+use Rattle.definitions.specs.Geometry.{axesOf, axisOf, insideAxis, cOf, mOf, nOf, fOf, twoOf, baseSize, scaledSize}
 use Rattle.definitions.specs.BlockMap.{digitsOf, coordinateOf, stepOf, addressRead, blockRead}
 use Rattle.definitions.specs.Splits.{quadrantOf, placeOf, sameMotion, samePrediction, alike, oneEach, fewestIn}
 use Rattle.definitions.specs.Record.{recordWords, recordAt, motionOf, splitSaid, rule1, rule2, rule3, rule4, rule5, rule6, firstBroken, laidOut}
 use Rattle.definitions.specs.Inheriting.{setOf, intraSet, gathered, source, clearOf, filled, lower, lowest, having, unused, zeroPrediction, mergedList, merged, someOf, liveOf, copiedFrom, copied, resolved, scaledWord, scaledPrediction, scaledMotion, inheritedMotions}
 use Rattle.definitions.specs.Answer.{namedAt, answerOf, answerType, addressesOf, unusedMotion, writtenFor, madeOf}
 use Rattle.definitions.specs.Refusals.{geometryTests, recordTests, addressesRead}
-use Rattle.definitions.specs.Calls.{Outcome, macroblockTests, macroblockCall}
+use Rattle.definitions.specs.Calls.{macroblockTests, macroblockCall}
 use Rattle.definitions.specs.Geometry.{columnsRead}
 
 -- what an axis gives for a macroblock: outside, or M, N, F and whether two columns are read
