@@ -2,7 +2,7 @@
 use Prim.Native.Nat.{ℕ, _<_}
 use mathlib.Core.Path.{_≡_, refl, sym, ap, subst, _∙_}
 use mathlib.Core.Bool.{true, false, _&&_}
-use mathlib.Core.List.{List, [], _∷_}
+use mathlib.Core.List.{List, []}
 use native.Mathlib.Omega.{arith}
 use lib.IntN.{ℤ}
 use lib.ListN.{getD, replicate}
@@ -16,7 +16,7 @@ use Rattle.definitions.specs.Geometry.{baseSize, macroblocks}
 use Rattle.definitions.specs.Splits.{rasterOf}
 use Rattle.definitions.specs.Record.{typeNumber, motionOf, laidOut}
 use Rattle.definitions.specs.Inheriting.{mostlyIntra, zeroMotion, at, motionAt, resolved, chosen}
-use Rattle.definitions.specs.Answer.{Made, subTypes, unusedMotion, writtenFor}
+use Rattle.definitions.specs.Answer.{subTypes, unusedMotion, writtenFor}
 use Rattle.definitions.proofs.Choices.{yes, no, and-true, four-at}
 use Rattle.definitions.proofs.Formed.{vectors-of}
 use Rattle.definitions.proofs.Records.{raster-below}

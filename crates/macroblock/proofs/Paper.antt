@@ -6,7 +6,6 @@ use mathlib.Core.List.{List}
 use lib.IntN.{ℤ}
 use Rattle.definitions.specs.declared.Axes.{Axes}
 use Rattle.definitions.specs.declared.AxisStep.{AxisStep}
-use Rattle.definitions.specs.declared.Answer.{Answer}
 use Rattle.definitions.specs.Geometry.{insideAxis, inside, sampleOf}
 use Rattle.definitions.specs.BlockMap.{stepOf, addressRead, blockRead}
 use Rattle.definitions.specs.Inheriting.{intraSet, gathered, inheritedMotions}

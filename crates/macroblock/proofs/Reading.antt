@@ -1,13 +1,12 @@
 -- An axis at a macroblock, inside and outside. Assumes nothing.
 use Prim.Native.Nat.{ℕ}
 use mathlib.Core.Path.{_≡_, sym, _∙_}
-use mathlib.Core.Bool.{Bool, true, false}
+use mathlib.Core.Bool.{true, false}
 use Rattle.definitions.specs.declared.Axis.{Axis}
 use Rattle.definitions.specs.declared.AxisStep.{AxisStep}
 use Rattle.definitions.specs.Geometry.{insideAxis, sampleOf}
 use Rattle.definitions.specs.BlockMap.{stepOf}
 use Rattle.definitions.proofs.Choices.{yes, no}
-use Rattle.macroblock.specs.declared.AxisRead.{AxisRead}
 use Rattle.macroblock.specs.Made.{noStep, readOf}
 
 module _ (a : Axis) (x : ℕ) where

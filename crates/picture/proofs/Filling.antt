@@ -1,14 +1,13 @@
 -- One column, and one macroblock, more. Assumes nothing.
-use Prim.Native.Nat.{ℕ, zero, suc, _+_, _*_, _/_, _%_, _<_, _≤_}
+use Prim.Native.Nat.{ℕ, zero, suc, _+_, _/_, _%_, _<_, _≤_}
 use mathlib.Core.Path.{_≡_, refl, sym, ap, subst, _∙_}
-use mathlib.Core.Bool.{true}
 use mathlib.Core.List.{List, [], _∷_, _++_, append-nil, List·Memᴰ}
 use mathlib.Core.Logic.{_⊎_, ⊎-elim}
 use native.Mathlib.Nat.{eq-or-lt-of-le, mod-lt, div-lt-iff-lt-mul}
 use native.Mathlib.Numerals.{add-one}
 use native.Mathlib.Omega.{arith}
 use lib.IntN.{ℤ}
-use lib.ListN.{length, getD, set, length-set}
+use lib.ListN.{getD, set, length-set}
 use lib.Seq.{getD-set-same, getD-set-other}
 use Rattle.definitions.specs.declared.Axis.{Axis}
 use Rattle.definitions.specs.declared.Axes.{Axes}
@@ -16,9 +15,7 @@ use Rattle.definitions.specs.declared.Answer.{Answer}
 use Rattle.definitions.specs.declared.Counts.{Counts}
 use Rattle.definitions.specs.Tests.{upTo, forEach}
 use Rattle.definitions.specs.Geometry.{fullSize, macroblocks}
-use Rattle.definitions.specs.Record.{recordWords, recordAt, wellFormed}
-use Rattle.definitions.specs.Answer.{Made, madeOf}
-use Rattle.definitions.specs.Refusals.{baseCount, addressesRead}
+use Rattle.definitions.specs.Answer.{Made}
 use Rattle.definitions.specs.Calls.{counted, countsOf, fullCount, madeAt}
 use Rattle.definitions.proofs.Counting.{sumOf, counts-more, counts-sum}
 use Rattle.definitions.proofs.Parts.{parts, parts-more}

@@ -1,5 +1,5 @@
 -- The addresses that a macroblock's call checks, row by row, and the verdict on them. Assumes nothing.
-use Prim.Native.Nat.{ℕ, _+_, _*_, _/_, _-_, _≤_, _<_}
+use Prim.Native.Nat.{ℕ, _+_, _*_, _/_, _≤_, _<_}
 use mathlib.Core.Path.{_≡_, refl, sym, ap, subst, _∙_}
 use mathlib.Core.Bool.{Bool, true, false}
 use mathlib.Core.List.{List, [], _∷_, _++_, map, append-nil, List·Memᴰ, List·Memᴰ·head, List·Memᴰ·tail, Memᴰ·append-left, Memᴰ·append-right}
@@ -13,10 +13,10 @@ use Rattle.definitions.specs.declared.Refusal.{Refusal}
 use Rattle.definitions.specs.declared.Verdict.{Verdict}
 use Rattle.definitions.specs.declared.Verdict.the-variants.{Accepted, Refused}
 use Rattle.definitions.specs.Tests.{forEach}
-use Rattle.definitions.specs.Geometry.{baseSize, macroblocks, columnsRead, classOf}
+use Rattle.definitions.specs.Geometry.{columnsRead}
 use Rattle.definitions.specs.BlockMap.{baseAddress}
 use Rattle.definitions.specs.Record.{recordWords}
-use Rattle.definitions.specs.Answer.{columnsOf, rowsOf, addressesOf}
+use Rattle.definitions.specs.Answer.{addressesOf}
 use Rattle.definitions.specs.Refusals.{Test, verdictOf, recordTest, recordTests}
 use Rattle.definitions.proofs.Choices.{yes, no}
 use Rattle.definitions.proofs.Map.{class-columns, class-rows}

@@ -1,24 +1,20 @@
 -- What the calls hand over is as demand 3 says: the theorem of definitions, at their replies. Assumes nothing.
-use Prim.Native.Nat.{ℕ, _+_, _*_, _<_}
-use mathlib.Core.Path.{_≡_, refl, sym, ap, subst, _∙_}
-use mathlib.Core.Bool.{Bool, true, false, _&&_}
-use mathlib.Core.List.{List, _∷_, _++_}
+use Prim.Native.Nat.{_+_, _*_}
+use mathlib.Core.Path.{_≡_, sym, ap, _∙_}
+use mathlib.Core.Bool.{true, _&&_}
+use mathlib.Core.List.{List, _∷_}
 use lib.IntN.{ℤ, pos, natAbs}
-use lib.ListN.{length}
-use lib.Signed.{nonNeg, pos-natAbs}
+use lib.Signed.{pos-natAbs}
 use Rattle.definitions.specs.declared.Numbers.{Numbers}
 use Rattle.definitions.specs.declared.Answer.{Answer}
-use Rattle.definitions.specs.declared.Counts.{Counts}
-use Rattle.definitions.specs.declared.Verdict.the-variants.{Accepted}
 use Rattle.definitions.specs.declared.MacroblockReply.{MacroblockReply}
 use Rattle.definitions.specs.declared.MacroblockReply.the-variants.{Answered, Refused as Declined}
 use Rattle.definitions.specs.declared.PictureReply.{PictureReply}
 use Rattle.definitions.specs.declared.PictureReply.the-variants.{Counted, Refused as NotMade}
 use Rattle.definitions.specs.Geometry.{axesOf, fullSize, macroblocks}
 use Rattle.definitions.specs.Record.{recordAt}
-use Rattle.definitions.specs.Refusals.{verdictOf, geometryTests, baseTest, outputTest, positionTest, withinAxis, recordTests, addressesRead}
-use Rattle.definitions.specs.Calls.{Outcome, macroblockTests, macroblockCall, pictureCall}
-use Rattle.definitions.specs.Demand3.{Demand3Singly, Demand3Picture}
+use Rattle.definitions.specs.Refusals.{geometryTests, baseTest, outputTest, positionTest, withinAxis, recordTests, addressesRead}
+use Rattle.definitions.specs.Calls.{macroblockTests, macroblockCall, pictureCall}
 use Rattle.definitions.proofs.Choices.{and-true}
 use Rattle.definitions.proofs.Verdicts.{first-passed, both-passed}
 use Rattle.definitions.proofs.RecordLists.{not-false}

@@ -1,7 +1,7 @@
 -- A macroblock inside an accepted geometry: the records that it names lie in the base, and where those are well formed it can be made. Assumes nothing.
 use Prim.Native.Nat.{ℕ, _+_, _*_, _≤_, _<_}
-use mathlib.Core.Path.{_≡_, refl, sym, ap, subst, _∙_}
-use mathlib.Core.Bool.{Bool, true, false, _&&_}
+use mathlib.Core.Path.{_≡_, sym, subst, _∙_}
+use mathlib.Core.Bool.{true, false, _&&_}
 use mathlib.Core.List.{List, [], List·Memᴰ}
 use native.Mathlib.Nat.{mul-le-mul-right}
 use native.Mathlib.Omega.{arith}
@@ -9,21 +9,19 @@ use lib.IntN.{ℤ}
 use lib.ListN.{length}
 use Rattle.definitions.specs.declared.Axes.{Axes}
 use Rattle.definitions.specs.declared.AxisStep.{AxisStep}
-use Rattle.definitions.specs.declared.Verdict.the-variants.{Accepted}
 use Rattle.definitions.specs.Accepted.{Inside}
-use Rattle.definitions.specs.Geometry.{baseSize, scaledSize, cOf, insideAxis, inside, sampleOf, macroblocks}
+use Rattle.definitions.specs.Geometry.{baseSize, scaledSize, cOf, insideAxis, inside, sampleOf}
 use Rattle.definitions.specs.BlockMap.{stepOf, addressRead}
 use Rattle.definitions.specs.Record.{recordWords, recordAt, wellFormed}
 use Rattle.definitions.specs.Answer.{namedAt, addressesOf}
-use Rattle.definitions.specs.Refusals.{verdictOf, baseCount, recordTests, addressesRead}
+use Rattle.definitions.specs.Refusals.{baseCount, addressesRead}
 use Rattle.definitions.proofs.Choices.{yes, no, and-true}
 use Rattle.definitions.proofs.Accepted.{inside-axis}
 use Rattle.definitions.proofs.Addresses.{address-named, address-below}
 use Rattle.definitions.proofs.Map.{f-below}
-use Rattle.definitions.proofs.RecordLists.{all-formed}
 use Rattle.macroblock.specs.declared.AxisRead.{AxisRead}
 use Rattle.macroblock.specs.Made.{namedBy, readOf, Ready}
-use Rattle.upsample.specs.Staged.{AcceptedAxes, InBase, Placed}
+use Rattle.upsample.specs.Staged.{InBase, Placed}
 use Rattle.upsample.proofs.Sizes.{base-small}
 
 module _ (g : Axes) (base : List ℤ) (placed : Placed g base) (column row : ℕ) where

@@ -3,7 +3,6 @@ use Prim.Native.Nat.{ℕ, _+_, _*_, _<_}
 use mathlib.Core.Path.{_≡_}
 use mathlib.Core.List.{List}
 use lib.IntN.{ℤ, pos, natAbs}
-use lib.ListN.{length}
 use Rattle.definitions.specs.declared.Numbers.{Numbers}
 use Rattle.definitions.specs.declared.Answer.{Answer}
 use Rattle.definitions.specs.declared.MacroblockReply.{MacroblockReply}
@@ -11,7 +10,7 @@ use Rattle.definitions.specs.declared.MacroblockReply.the-variants.{Answered, R
 use Rattle.definitions.specs.declared.PictureReply.{PictureReply}
 use Rattle.definitions.specs.declared.PictureReply.the-variants.{Counted, Refused as NotMade}
 use Rattle.definitions.specs.Geometry.{axesOf, fullSize, macroblocks}
-use Rattle.definitions.specs.Record.{recordWords, recordAt}
+use Rattle.definitions.specs.Record.{recordAt}
 use Rattle.definitions.specs.Calls.{macroblockCall}
 use Rattle.definitions.specs.Demand3.{Demand3Singly, Demand3Picture}
 

@@ -2,11 +2,10 @@
 use Prim.Native.Nat.{ℕ, _+_, _*_, _≤_, _<_}
 use mathlib.Core.Path.{_≡_}
 use mathlib.Core.Bool.{Bool, true}
-use mathlib.Core.List.{List, [], _∷_, map, List·Memᴰ}
+use mathlib.Core.List.{List, _∷_, map, List·Memᴰ}
 use lib.IntN.{ℤ, natAbs}
 use lib.ListN.{length}
 use Rattle.definitions.specs.declared.Axes.{Axes}
-use Rattle.definitions.specs.declared.Verdict.{Verdict}
 use Rattle.definitions.specs.declared.MacroblockReply.{MacroblockReply}
 use Rattle.definitions.specs.declared.MacroblockReply.the-variants.{Answered, Refused as Declined}
 use Rattle.definitions.specs.declared.PictureReply.{PictureReply}
@@ -16,7 +15,7 @@ use Rattle.definitions.specs.Accepted.{AcceptedAxis}
 use Rattle.definitions.specs.Geometry.{columnsRead}
 use Rattle.definitions.specs.BlockMap.{baseAddress}
 use Rattle.definitions.specs.Record.{recordWords, recordAt, wellFormed}
-use Rattle.definitions.specs.Answer.{Made, madeOf}
+use Rattle.definitions.specs.Answer.{madeOf}
 use Rattle.definitions.specs.Refusals.{Test, verdictOf, baseCount, baseTest, outputTest, positionTest, recordTests, addressesRead, allAddresses}
 use Rattle.definitions.specs.Calls.{Outcome, byVerdict, fullCount, madeAt, countsOf}
 
