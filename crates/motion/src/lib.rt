@@ -95,14 +95,27 @@ pub fn scale_motion(g: Axes, m: Motion) -> Motion
     Motion { list0: a, list1: b }
 }
 
-fn scale_quadrant(g: Axes, m: [Motion; 4]) -> [Motion; 4]
-    requires { ⌜ AcceptedAxis (g .horizontal) × AcceptedAxis (g .vertical) × ((k : ℕ) → k < 4 → InRange (getD m k zeroMotion .list0) × InRange (getD m k zeroMotion .list1)) ⌝ }
+// The scaled motion of m where that of n is at hand: blocks of one piece have one motion, and a division is dear.
+fn scale_like(g: Axes, m: Motion, n: Motion, scaled: Motion) -> Motion
+    requires { ⌜ AcceptedAxis (g .horizontal) × AcceptedAxis (g .vertical) × (InRange (m .list0) × InRange (m .list1)) × (scaled ≡ scaledMotion g n) ⌝ }
+    ensures { λ r. ⌜ r ≡ scaledMotion g m ⌝ }
+{
+    if same_motion(m, n) {
+        return scaled;
+    }
+    scale_motion(g, m)
+}
+
+fn scale_quadrant(g: Axes, m: [Motion; 4], n: Motion, scaled: Motion) -> [Motion; 4]
+    requires { ⌜ AcceptedAxis (g .horizontal) × AcceptedAxis (g .vertical) × ((k : ℕ) → k < 4 → InRange (getD m k zeroMotion .list0) × InRange (getD m k zeroMotion .list1)) × (scaled ≡ scaledMotion g n) ⌝ }
     ensures { λ r. ⌜ r ≡ four (λ k. scaledMotion g (getD m k zeroMotion)) ⌝ }
 {
-    let a = scale_motion(g, m[0]);
-    let b = scale_motion(g, m[1]);
-    let c = scale_motion(g, m[2]);
-    let d = scale_motion(g, m[3]);
+    let first = m[0];
+    let third = m[2];
+    let a = scale_like(g, first, n, scaled);
+    let b = scale_like(g, m[1], first, a);
+    let c = scale_like(g, third, first, a);
+    let d = scale_like(g, m[3], third, c);
     [a, b, c, d]
 }
 
@@ -111,9 +124,11 @@ pub fn scale_all(g: Axes, m: [[Motion; 4]; 4]) -> [[Motion; 4]; 4]
     requires { ⌜ AcceptedAxis (g .horizontal) × AcceptedAxis (g .vertical) × ((q k : ℕ) → q < 4 → k < 4 → InRange (at m q k .list0) × InRange (at m q k .list1)) ⌝ }
     ensures { λ r. ⌜ r ≡ four (λ q. four (λ k. scaledMotion g (at m q k))) ⌝ }
 {
-    let a = scale_quadrant(g, m[0]);
-    let b = scale_quadrant(g, m[1]);
-    let c = scale_quadrant(g, m[2]);
-    let d = scale_quadrant(g, m[3]);
+    let first = m[0][0];
+    let scaled = scale_motion(g, first);
+    let a = scale_quadrant(g, m[0], first, scaled);
+    let b = scale_quadrant(g, m[1], first, scaled);
+    let c = scale_quadrant(g, m[2], first, scaled);
+    let d = scale_quadrant(g, m[3], first, scaled);
     [a, b, c, d]
 }
