@@ -1,5 +1,5 @@
 -- `sync_notes::+item+list` meets its contract. Assumes nothing.
-use Prim.Native.Nat.{_≤_, _-_, _+_, ℕ}
+use Prim.Native.Nat.{_<_, _≤_, _-_, _+_, ℕ}
 use mathlib.Core.Path.{_≡_, sym, _∙_}
 use mathlib.Core.List.{List, _∷_}
 use native.Mathlib.Omega.{arith}
