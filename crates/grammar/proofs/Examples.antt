@@ -55,7 +55,9 @@ is-true : (b : Bool) → T b → b ≡ true
 is-true true h = refl
 is-true false h = absurd h
 
-ended-by : (s : List ℕ) (p : ℕ) (t : Bool) → ltb p (length s) ≡ t → T (cond t (isAlive (stateAt s p) && isDead (stateAt s (p + 1))) (leb p (length s) && isWaiting (stateAt s p))) → Ended s p
+ended-by :
+    (s : List ℕ) (p : ℕ) (t : Bool) → ltb p (length s) ≡ t
+    → T (cond t (isAlive (stateAt s p) && isDead (stateAt s (p + 1))) (leb p (length s) && isWaiting (stateAt s p))) → Ended s p
 ended-by s p true e h =
     let l = ltb-true p (length s) e in
     record {

@@ -107,7 +107,8 @@ syms (ended ∷ ps) = field shut ∷ syms ps
 -- what a byte b of class c does to a symbol
 abbrev pub δc : Sym → ℕ → Class → Delta
 δc (lit x) b c = cond (eqb b x) (go []) halt
-δc (first d) b c = choose c (go (letters d ∷ [])) (go (zeroed (inList d) ∷ [])) (go (figures false (b - 48) (inList d) ∷ [])) (go (dashed (inList d) ∷ [])) (opens d) halt halt
+δc (first d) b c =
+    choose c (go (letters d ∷ [])) (go (zeroed (inList d) ∷ [])) (go (figures false (b - 48) (inList d) ∷ [])) (go (dashed (inList d) ∷ [])) (opens d) halt halt
 δc (letters d) b c = choose c (go (letters d ∷ [])) halt halt halt halt (go []) (go (first d ∷ []))
 δc (rest d) b c = choose c halt halt halt halt halt (go []) (go (first d ∷ []))
 δc (field f) b c = choose c halt (go (zeroed f ∷ [])) (go (figures false (b - 48) f ∷ [])) (go (dashed f ∷ [])) halt halt halt

@@ -284,7 +284,8 @@ item-returns-7 t c =
     λ g k e. item-bad (a .s .now) (a .at) (a .depth) g k e _ (c .before .class-of .ensures) (c .before .before .before .before .before .pre .1) (c .match .keys4)
 
 abbrev list-Inv-loop : list-lts.InvT-loop
-list-Inv-loop s at depth p₀ p = (at ≤ p) × (p ≤ length s) × ((g : List Ev) (k : List Sym) → stateAt s at ≡ live g (first depth ∷ k) → stateAt s p ≡ live g (first depth ∷ k))
+list-Inv-loop s at depth p₀ p =
+    (at ≤ p) × (p ≤ length s) × ((g : List Ev) (k : List Sym) → stateAt s at ≡ live g (first depth ∷ k) → stateAt s p ≡ live g (first depth ∷ k))
 
 abbrev list-μ-loop : list-lts.MeasureT-loop
 list-μ-loop s at depth p₀ p = length s - p

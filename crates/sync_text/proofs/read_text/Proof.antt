@@ -71,7 +71,6 @@ returns-4 c =
 
 returns-5 : tie.Need-returns-5
 returns-5 c =
-    let a = c .before .before .before .before .before .before .before .before .args in
     let j = rw (c .before .before .t2 .given .1) at (c .before .before .before .before .judge .ensures) in
     let e = c .before .before .before .before .before .before .if1 .left in
     let l = c .before .before .before .before .before .if2 .left in
