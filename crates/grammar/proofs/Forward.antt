@@ -111,22 +111,22 @@ module _ (B : Lang) (ws : List Ev) (b : ℕ) (u : List ℕ) where
         rw (class-dash b (sym (heads e))) (n, le, record { left = w; right = v; is = rw (tails e) at pl; then = k; cut = cut })
 
     word-by :
-        (d : ℕ) (p o q r : Delta) {t : List ℕ} → Word t → t ≡ b ∷ w → Cat (Rest (Item d)) (B ws) v
-        → Next (choose (classOf b) (go (letters d ∷ [])) p o q r halt halt) B ws u
-    word-by d p o q r (word {c = c} {t = t} l a) e k =
+        (d : ℕ) (p o q r s i : Delta) {t : List ℕ} → Word t → t ≡ b ∷ w → Cat (Rest (Item d)) (B ws) v
+        → Next (choose (classOf b) (go (letters d ∷ [])) p o q r s i) B ws u
+    word-by d p o q r s i (word {c = c} {t = t} l a) e k =
         let h : c ≡ b = heads e in
         rw (class-alpha b (rw h at l)) (record { left = w; right = v; is = rw (tails e) at a; then = k; cut = cut })
 
     simple-by :
-        (d : ℕ) (o : Delta) {t : List ℕ} → Simple t → t ≡ b ∷ w → Cat (Rest (Item d)) (B ws) v
-        → Next (choose (classOf b) (go (letters d ∷ [])) (go (zeroed (inList d) ∷ [])) (go (figures false (b - 48) (inList d) ∷ [])) (go (dashed (inList d) ∷ [])) o halt halt) B ws u
-    simple-by d o (isWord h) e k = word-by d _ _ _ _ h e k
-    simple-by d o (isNumber h) e k = number-by (inList d) _ _ _ _ h e k
+        (d : ℕ) (o s i : Delta) {t : List ℕ} → Simple t → t ≡ b ∷ w → Cat (Rest (Item d)) (B ws) v
+        → Next (choose (classOf b) (go (letters d ∷ [])) (go (zeroed (inList d) ∷ [])) (go (figures false (b - 48) (inList d) ∷ [])) (go (dashed (inList d) ∷ [])) o s i) B ws u
+    simple-by d o s i (isWord h) e k = word-by d _ _ _ _ _ _ h e k
+    simple-by d o s i (isNumber h) e k = number-by (inList d) _ _ _ _ h e k
 
     item-by : (d : ℕ) → Item d (b ∷ w) → Cat (Rest (Item d)) (B ws) v → Next (δ (first d) b) B ws u
     unfolding δ
-    item-by zero h k = simple-by zero _ h refl k
-    item-by (suc d) (inl h) k = simple-by (suc d) _ h refl k
+    item-by zero h k = simple-by zero _ _ _ h refl k
+    item-by (suc d) (inl h) k = simple-by (suc d) _ _ _ h refl k
     item-by (suc d) (inr h) k = list-by h refl
       where
         list-by : {t : List ℕ} → Listed (Item d) t → t ≡ b ∷ w → Next (δ (first (suc d)) b) B ws u

@@ -9,11 +9,10 @@ use grammar::Got;
 use grammar::Judged;
 use sync_notes::note;
 use sync_read::judge;
+use sync_records::RECORD_WORDS;
 use sync_records::record_line;
 
-// A record's words; the records whose words are lent, and these words; and the bytes of the longest text.
-const RECORD_WORDS: usize = 77;
-
+// The records whose words are lent, and these words; and the bytes of the longest text.
 const RECORDS: usize = 99;
 
 const WORDS: usize = RECORD_WORDS * RECORDS;
