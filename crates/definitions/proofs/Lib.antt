@@ -26,3 +26,4 @@ pub mod Ratios
 pub mod Overlap
 pub mod Counting
 pub mod Formed
+pub mod Texts

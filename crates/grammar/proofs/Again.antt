@@ -171,7 +171,8 @@ module _ (s : List ℕ) (p : ℕ) (g : List Ev) (from : ℕ) (old new : List ℤ
         let f : live (g ++ flat (h .done)) [] ≡ live (g ++ flat entries) [] = sym (h .state) ∙ ap (λ (j : ℕ). stateAt s j) e ∙ ends in
         let q : g ++ flat (h .done) ≡ g ++ flat entries = cc in
         let d : h .done ≡ entries = same-flat (h .done) entries (cancel g (flat (h .done)) (flat entries) q) in
-        h .words ∙ ap (λ (j : ℕ). forEach (h .done) wordsOf ++ drop j old) (h .here) ∙ ap (λ (es : List Entry). forEach es wordsOf ++ drop (recordWords * length es) old) d
+        h .words ∙ ap (λ (j : ℕ). forEach (h .done) wordsOf ++ drop j old) (h .here)
+        ∙ ap (λ (es : List Entry). forEach es wordsOf ++ drop (recordWords * length es) old) d
 
   -- a record line
   pub held-more :

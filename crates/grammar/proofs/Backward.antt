@@ -1,4 +1,4 @@
--- What may come after the step by b may, after b, come after the symbol; and each symbol leaves something to come.
+-- What may come after the step by b may, after b, come after the symbol.
 use Prim.Native.Nat.{ℕ, zero, suc, _≤_, _+_, _*_, _-_}
 use mathlib.Core.Path.{_≡_, refl, _∙_, ap}
 use mathlib.Core.Bool.{Bool, true, false, cond}
@@ -33,7 +33,9 @@ Sound entry = Unit {0}
 
 -- the classes of b, each with what a step came to
 module _ {G : Type 0} (F : Delta → Type 0) (no-halt : F halt → G) (b : ℕ) {p q r s o c g : Delta} where
-  choose-by : (k : Class) → classOf b ≡ k → F (choose k p q r s o c g) → (Letter b → F p → G) → (b ≡ 48 → F q → G) → (49 ≤ b → b ≤ 57 → F r → G) → (b ≡ 45 → F s → G) → (b ≡ 40 → F o → G) → (b ≡ 41 → F c → G) → (b ≡ 32 → F g → G) → G
+  choose-by :
+      (k : Class) → classOf b ≡ k → F (choose k p q r s o c g) → (Letter b → F p → G) → (b ≡ 48 → F q → G) → (49 ≤ b → b ≤ 57 → F r → G)
+      → (b ≡ 45 → F s → G) → (b ≡ 40 → F o → G) → (b ≡ 41 → F c → G) → (b ≡ 32 → F g → G) → G
   choose-by Alpha e h 𝒑 𝒒 𝒓 𝒔 𝒐 𝒄 𝒈 = 𝒑 (class-in b e) h
   choose-by Nought e h 𝒑 𝒒 𝒓 𝒔 𝒐 𝒄 𝒈 = 𝒒 (class-in b e) h
   choose-by Nonzero e h 𝒑 𝒒 𝒓 𝒔 𝒐 𝒄 𝒈 = let k = class-in b e in 𝒓 (k .0) (k .1) h
@@ -110,7 +112,16 @@ pub seq-form : (ps : List Part) (B : Lang) (ws : List Ev) (u : List ℕ) → Seq
 seq-form [] B ws u h = record { here = []; after = u; found = []; others = ws; this = nothing; gives = refl; then = h; cut = refl }
 seq-form (byte c ∷ ps) B ws u h =
     let f = seq-form ps B ws (h .more) (h .then) in
-    record { here = c ∷ f .here; after = f .after; found = f .found; others = f .others; this = isByte (f .this); gives = f .gives; then = f .then; cut = cc (h .is, f .cut) }
+    record {
+      here = c ∷ f .here;
+      after = f .after;
+      found = f .found;
+      others = f .others;
+      this = isByte (f .this);
+      gives = f .gives;
+      then = f .then;
+      cut = cc (h .is, f .cut);
+    }
 seq-form (spaced ∷ ps) B ws u h =
     let l = h .1 .then in
     let f = seq-form ps B (l .then .others) (l .more) (l .then .then) in
@@ -140,9 +151,22 @@ seq-form (ended ∷ ps) B ws u h =
 
 pub formed-line : {k : Kind} {B : Lang} {ws : List Ev} {b : ℕ} {u : List ℕ} → b ≡ letter k → Formed (tailOf k) B ws u → Line k B ws (40 ∷ b ∷ u)
 formed-line {k} e f =
-    record { before = []; here = 40 ∷ letter k ∷ f .here; after = f .after; found = f .found; others = f .others; notes = none; this = isByte (isByte (f .this)); gives = f .gives; then = f .then; cut = cc (e, f .cut) }
+    record {
+      before = [];
+      here = 40 ∷ letter k ∷ f .here;
+      after = f .after;
+      found = f .found;
+      others = f .others;
+      notes = none;
+      this = isByte (isByte (f .this));
+      gives = f .gives;
+      then = f .then;
+      cut = cc (e, f .cut);
+    }
 
-formed-rec : {B : Lang} {ws : List Ev} {b : ℕ} {u : List ℕ} (r : RecordKind) → b ≡ letter (kindOf r) → Gives (rec r) (Seq (syms (tailOf (kindOf r))) B) ws u → RecLine B ws (40 ∷ b ∷ u)
+formed-rec :
+    {B : Lang} {ws : List Ev} {b : ℕ} {u : List ℕ} (r : RecordKind) → b ≡ letter (kindOf r) → Gives (rec r) (Seq (syms (tailOf (kindOf r))) B) ws u
+    → RecLine B ws (40 ∷ b ∷ u)
 formed-rec {B} {ws} {b} {u} r e h =
     let f = seq-form (tailOf (kindOf r)) B (h .others) u (h .then) in
     record {

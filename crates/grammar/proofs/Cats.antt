@@ -48,4 +48,11 @@ module _ {P B : List ℕ → Type 0} where
 
 module _ {P Q B : List ℕ → Type 0} where
   pub cat-right : {u : List ℕ} → Cat (Cat P Q) B u → Cat P (Cat Q B) u
-  cat-right h = record { left = h .is .left; right = h .is .right ++ h .right; is = h .is .is; then = record { left = h .is .right; right = h .right; is = h .is .then; then = h .then; cut = refl }; cut = h .cut ∙ ap (λ (l : List ℕ). l ++ h .right) (h .is .cut) ∙ append-assoc (h .is .left) (h .is .right) (h .right) }
+  cat-right h =
+      record {
+        left = h .is .left;
+        right = h .is .right ++ h .right;
+        is = h .is .is;
+        then = record { left = h .is .right; right = h .right; is = h .is .then; then = h .then; cut = refl };
+        cut = h .cut ∙ ap (λ (l : List ℕ). l ++ h .right) (h .is .cut) ∙ append-assoc (h .is .left) (h .is .right) (h .right);
+      }

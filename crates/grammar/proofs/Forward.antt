@@ -100,7 +100,9 @@ module _ (B : Lang) (ws : List Ev) (b : ℕ) (u : List ℕ) where
     same-right : w ≡ [] → u ≡ v
     same-right n = cut ∙ ap (λ (l : List ℕ). l ++ v) n
 
-    number-by : (f : Follow) (p o s r : Delta) {z : ℤ} {t : List ℕ} → Number z t → t ≡ b ∷ w → Fol f z B ws v → Next (choose (classOf b) p (go (zeroed f ∷ [])) (go (figures false (b - 48) f ∷ [])) (go (dashed f ∷ [])) o s r) B ws u
+    number-by :
+        (f : Follow) (p o s r : Delta) {z : ℤ} {t : List ℕ} → Number z t → t ≡ b ∷ w → Fol f z B ws v
+        → Next (choose (classOf b) p (go (zeroed f ∷ [])) (go (figures false (b - 48) f ∷ [])) (go (dashed f ∷ [])) o s r) B ws u
     number-by f p o s r (unsigned {n = n} le pl) e k =
         plain-cons (rw e at pl)
         (λ b48 n0 nil. rw (class-nought b b48, same-right nil) (rw n0 at k))
@@ -108,19 +110,23 @@ module _ (B : Lang) (ws : List Ev) (b : ℕ) (u : List ℕ) where
     number-by f p o s r (negative {n = n} {t = t} le pl) e k =
         rw (class-dash b (sym (heads e))) (n, le, record { left = w; right = v; is = rw (tails e) at pl; then = k; cut = cut })
 
-    word-by : (d : ℕ) (p o q r : Delta) {t : List ℕ} → Word t → t ≡ b ∷ w → Cat (Rest (Item d)) (B ws) v → Next (choose (classOf b) (go (letters d ∷ [])) p o q r halt halt) B ws u
-    word-by d p o q r (word {c = c} {t = t} l a) e k =
+    word-by :
+        (d : ℕ) (p o q r s i : Delta) {t : List ℕ} → Word t → t ≡ b ∷ w → Cat (Rest (Item d)) (B ws) v
+        → Next (choose (classOf b) (go (letters d ∷ [])) p o q r s i) B ws u
+    word-by d p o q r s i (word {c = c} {t = t} l a) e k =
         let h : c ≡ b = heads e in
         rw (class-alpha b (rw h at l)) (record { left = w; right = v; is = rw (tails e) at a; then = k; cut = cut })
 
-    simple-by : (d : ℕ) (o : Delta) {t : List ℕ} → Simple t → t ≡ b ∷ w → Cat (Rest (Item d)) (B ws) v → Next (choose (classOf b) (go (letters d ∷ [])) (go (zeroed (inList d) ∷ [])) (go (figures false (b - 48) (inList d) ∷ [])) (go (dashed (inList d) ∷ [])) o halt halt) B ws u
-    simple-by d o (isWord h) e k = word-by d _ _ _ _ h e k
-    simple-by d o (isNumber h) e k = number-by (inList d) _ _ _ _ h e k
+    simple-by :
+        (d : ℕ) (o s i : Delta) {t : List ℕ} → Simple t → t ≡ b ∷ w → Cat (Rest (Item d)) (B ws) v
+        → Next (choose (classOf b) (go (letters d ∷ [])) (go (zeroed (inList d) ∷ [])) (go (figures false (b - 48) (inList d) ∷ [])) (go (dashed (inList d) ∷ [])) o s i) B ws u
+    simple-by d o s i (isWord h) e k = word-by d _ _ _ _ _ _ h e k
+    simple-by d o s i (isNumber h) e k = number-by (inList d) _ _ _ _ h e k
 
     item-by : (d : ℕ) → Item d (b ∷ w) → Cat (Rest (Item d)) (B ws) v → Next (δ (first d) b) B ws u
     unfolding δ
-    item-by zero h k = simple-by zero _ h refl k
-    item-by (suc d) (inl h) k = simple-by (suc d) _ h refl k
+    item-by zero h k = simple-by zero _ _ _ h refl k
+    item-by (suc d) (inl h) k = simple-by (suc d) _ _ _ h refl k
     item-by (suc d) (inr h) k = list-by h refl
       where
         list-by : {t : List ℕ} → Listed (Item d) t → t ≡ b ∷ w → Next (δ (first (suc d)) b) B ws u
@@ -143,7 +149,9 @@ module _ (B : Lang) (ws : List Ev) (b : ℕ) (u : List ℕ) where
   figures-end sg a f n e h = fol-forward f (signed sg a) _ _ _ _ _ (rw e h)
 
 -- a pattern's text, and after it B
-form-seq : {ps : List Part} {vs : List ℤ} {t : List ℕ} → Form ps vs t → (B : Lang) (others : List Ev) (r : List ℕ) → B others r → Seq (syms ps) B (nums vs others) (t ++ r)
+form-seq :
+    {ps : List Part} {vs : List ℤ} {t : List ℕ} → Form ps vs t → (B : Lang) (others : List Ev) (r : List ℕ) → B others r
+    → Seq (syms ps) B (nums vs others) (t ++ r)
 form-seq nothing B os r h = h
 form-seq (isByte {t = t} f) B os r h = record { more = t ++ r; is = refl; then = form-seq f B os r h }
 form-seq (isSpaced {z = z} {w = w} {vs = vs} {t = t} n f) B os r h =
@@ -152,7 +160,9 @@ form-seq (isEnded {z = z} {w = w} {vs = vs} {t = t} n f) B os r h =
     (z, record { left = w; right = 41 ∷ (t ++ r); is = n; then = record { more = t ++ r; is = refl; then = record { others = nums vs os; is = refl; then = form-seq f B os r h } }; cut = append-assoc w (41 ∷ t) r })
 
 -- a note, after its bracket and its n
-note-open : {B : List ℕ → Type 0} {b : ℕ} {u : List ℕ} {C : Type 0} → Cat Note B (40 ∷ b ∷ u) → (b ≡ 110 → Lit 111 (Lit 116 (Lit 101 (Cat (Rest (Item 7)) (Lit 10 B)))) u → C) → C
+note-open :
+    {B : List ℕ → Type 0} {b : ℕ} {u : List ℕ} {C : Type 0} → Cat Note B (40 ∷ b ∷ u)
+    → (b ≡ 110 → Lit 111 (Lit 116 (Lit 101 (Cat (Rest (Item 7)) (Lit 10 B)))) u → C) → C
 note-open {B} {b} {u} {C} h k = by-note (h .is) (h .cut)
   where
     by-note : {t : List ℕ} → Note t → 40 ∷ b ∷ u ≡ t ++ h .right → C
@@ -167,13 +177,23 @@ note-first {B} {b} {u} h = by-note (h .is) (h .cut)
     by-note (note {t = t} r) e = heads e
 
 -- the first line of a text with a line of this kind
-line-cases : {k : Kind} {B : Lang} {ws : List Ev} {u : List ℕ} {C : Type 0} → Line k B ws u → (Seq (lit 40 ∷ lit (letter k) ∷ syms (tailOf k)) B ws u → C) → (Cat Note (Line k B ws) u → C) → C
+line-cases :
+    {k : Kind} {B : Lang} {ws : List Ev} {u : List ℕ} {C : Type 0} → Line k B ws u → (Seq (lit 40 ∷ lit (letter k) ∷ syms (tailOf k)) B ws u → C)
+    → (Cat Note (Line k B ws) u → C) → C
 line-cases {k} {B} {ws} {u} {C} h f g = by-notes (h .notes) (h .cut)
   where
     by-notes : {t : List ℕ} → Notes t → u ≡ t ++ (h .here ++ h .after) → C
     by-notes none e = f (rw (h .gives, e) (form-seq (h .this) B (h .others) (h .after) (h .then)))
     by-notes (more {t = t} {u = v} n ns) e =
-        g (record { left = t; right = v ++ (h .here ++ h .after); is = n; then = record { before = v; here = h .here; after = h .after; found = h .found; others = h .others; notes = ns; this = h .this; gives = h .gives; then = h .then; cut = refl }; cut = e ∙ append-assoc t v (h .here ++ h .after) })
+        g (record {
+          left =
+              t;
+          right = v ++ (h .here ++ h .after);
+          is = n;
+          then = record { before = v; here = h .here; after = h .after; found = h .found; others = h .others; notes = ns; this = h .this; gives = h .gives; then = h .then; cut = refl };
+          cut = e
+              ∙ append-assoc t v (h .here ++ h .after);
+        })
 
 no-note : (k : Kind) → letter k ≡ 110 → ⊥
 no-note baseLine e = omega arith
@@ -185,7 +205,9 @@ no-note wholeLine e = omega arith
 no-note mbLine e = omega arith
 
 -- the bytes of a record line after its bracket
-rec-cases : {B : Lang} {ws : List Ev} {b : ℕ} {u : List ℕ} {C : Type 0} → RecLine B ws (40 ∷ b ∷ u) → ((r : RecordKind) → b ≡ letter (kindOf r) → Gives (rec r) (Seq (syms (tailOf (kindOf r))) B) ws u → C) → C
+rec-cases :
+    {B : Lang} {ws : List Ev} {b : ℕ} {u : List ℕ} {C : Type 0} → RecLine B ws (40 ∷ b ∷ u)
+    → ((r : RecordKind) → b ≡ letter (kindOf r) → Gives (rec r) (Seq (syms (tailOf (kindOf r))) B) ws u → C) → C
 rec-cases {B} {ws} {b} {u} {C} h k =
     let f : Seq (lit 40 ∷ lit (letter (kindOf (h .kind))) ∷ syms (tailOf (kindOf (h .kind)))) B (nums (h .found) (h .others)) (40 ∷ b ∷ u) = rw (h .cut) (form-seq (h .this) B (h .others) (h .after) (h .then)) in
     let t = tails (f .is) ∙ f .then .is in

@@ -13,3 +13,4 @@ pub mod Openings
 pub mod Whole
 pub mod Again
 pub mod Once
+pub mod Examples

@@ -33,8 +33,18 @@ one-plain : Plain 1 (49 ∷ [])
 one-plain = digits {c = 49} (omega arith) (omega arith) none
 
 fol-some : (B : Lang) → Some B → (f : Follow) (z : ℤ) → Some (Fol f z B)
-fol-some B h gap z = record { numbers = num z ∷ h .numbers; text = 32 ∷ h .text; is = record { more = h .text; is = refl; then = record { others = h .numbers; is = refl; then = h .is } } }
-fol-some B h shut z = record { numbers = num z ∷ h .numbers; text = 41 ∷ h .text; is = record { more = h .text; is = refl; then = record { others = h .numbers; is = refl; then = h .is } } }
+fol-some B h gap z =
+    record {
+      numbers = num z ∷ h .numbers;
+      text = 32 ∷ h .text;
+      is = record { more = h .text; is = refl; then = record { others = h .numbers; is = refl; then = h .is } };
+    }
+fol-some B h shut z =
+    record {
+      numbers = num z ∷ h .numbers;
+      text = 41 ∷ h .text;
+      is = record { more = h .text; is = refl; then = record { others = h .numbers; is = refl; then = h .is } };
+    }
 fol-some B h (inList d) z = record { numbers = h .numbers; text = 41 ∷ h .text; is = record { left = 41 ∷ []; right = h .text; is = close; then = h .is; cut = refl } }
 
 parts-some : (ps : List Part) (B : Lang) → Some B → Some (Seq (syms ps) B)
@@ -71,7 +81,11 @@ inhabit (dashed f) ok B h =
 inhabit (zeroed f) ok B h = fol-some B h f (pos 0)
 inhabit (figures sg a f) ok B h =
     let k = fol-some B h f (signed sg a) in
-    record { numbers = k .numbers; text = k .text; is = (a, ok, record { left = []; right = k .text; is = record { all = none; worth = refl }; then = k .is; cut = refl }) }
+    record {
+      numbers = k .numbers;
+      text = k .text;
+      is = (a, ok, record { left = []; right = k .text; is = record { all = none; worth = refl }; then = k .is; cut = refl });
+    }
 inhabit (line k) ok B h =
     let n = parts-some (tailOf k) B h in
     record { numbers = n .numbers; text = 40 ∷ letter k ∷ n .text; is = formed-line refl (seq-form (tailOf k) B (n .numbers) (n .text) (n .is)) }
@@ -159,7 +173,9 @@ pub data SoundD : Delta → Type 0 where
 one : (s : Sym) → Sound s → SoundD (go (s ∷ []))
 one s h = at-go {k = s ∷ []} (h, tt)
 
-choose-all : (b : ℕ) {p q r s o c g : Delta} (k : Class) → classOf b ≡ k → SoundD p → SoundD q → (49 ≤ b → b ≤ 57 → SoundD r) → SoundD s → SoundD o → SoundD c → SoundD g → SoundD (choose k p q r s o c g)
+choose-all :
+    (b : ℕ) {p q r s o c g : Delta} (k : Class) → classOf b ≡ k → SoundD p → SoundD q → (49 ≤ b → b ≤ 57 → SoundD r) → SoundD s → SoundD o → SoundD c
+    → SoundD g → SoundD (choose k p q r s o c g)
 choose-all b Alpha e p q r s o c g = p
 choose-all b Nought e p q r s o c g = q
 choose-all b Nonzero e p q r s o c g = let k = class-in b e in r (k .0) (k .1)
@@ -199,15 +215,18 @@ grow-sound sg a f = pick-all (leb a (limit sg)) (λ e. one (figures sg a f) (leb
 pub sound-step : (s : Sym) (b : ℕ) → SoundD (δ s b)
 unfolding δ
 sound-step (lit c) b = pick-all (eqb b c) (λ e. at-go tt) at-halt
-sound-step (first d) b = choose-all b (classOf b) refl (one (letters d) tt) (one (zeroed (inList d)) tt) (λ l m. one (figures false (b - 48) (inList d)) (omega arith)) (one (dashed (inList d)) tt) (opens-sound d) at-halt at-halt
+sound-step (first d) b =
+    choose-all b (classOf b) refl (one (letters d) tt) (one (zeroed (inList d)) tt) (λ l m. one (figures false (b - 48) (inList d)) (omega arith)) (one (dashed (inList d)) tt) (opens-sound d) at-halt at-halt
 sound-step (letters d) b = choose-all b (classOf b) refl (one (letters d) tt) at-halt (λ l m. at-halt) at-halt at-halt (at-go tt) (one (first d) tt)
 sound-step (rest d) b = choose-all b (classOf b) refl at-halt at-halt (λ l m. at-halt) at-halt at-halt (at-go tt) (one (first d) tt)
-sound-step (field f) b = choose-all b (classOf b) refl at-halt (one (zeroed f) tt) (λ l m. one (figures false (b - 48) f) (omega arith)) (one (dashed f) tt) at-halt at-halt at-halt
+sound-step (field f) b =
+    choose-all b (classOf b) refl at-halt (one (zeroed f) tt) (λ l m. one (figures false (b - 48) f) (omega arith)) (one (dashed f) tt) at-halt at-halt at-halt
 sound-step (dashed f) b = choose-all b (classOf b) refl at-halt at-halt (λ l m. one (figures true (b - 48) f) (omega arith)) at-halt at-halt at-halt at-halt
 sound-step (zeroed f) b = choose-all b (classOf b) refl at-halt at-halt (λ l m. at-halt) at-halt at-halt (shuts-sound f _) (gaps-sound f _)
 sound-step (figures sg a f) b = choose-all b (classOf b) refl at-halt (grow-sound sg _ f) (λ l m. grow-sound sg _ f) at-halt at-halt (shuts-sound f _) (gaps-sound f _)
 sound-step (line k) b = pick-all (eqb b 40) (λ e. one (opened k) tt) at-halt
-sound-step (opened k) b = pick-all (eqb b 110) (λ e. at-go {k = noteTail (line k ∷ [])} (tt, (tt, (tt, (tt, (tt, (tt, tt))))))) (pick-all (eqb b (letter k)) (λ e. at-go (parts-sound (tailOf k))) at-halt)
+sound-step (opened k) b =
+    pick-all (eqb b 110) (λ e. at-go {k = noteTail (line k ∷ [])} (tt, (tt, (tt, (tt, (tt, (tt, tt))))))) (pick-all (eqb b (letter k)) (λ e. at-go (parts-sound (tailOf k))) at-halt)
 sound-step entry b =
     pick-all (eqb b 110) (λ e. at-go {k = noteTail []} (tt, (tt, (tt, (tt, (tt, tt))))))
     (pick-all (eqb b 105) (λ e. at-emit (parts-sound (tailOf intraLine)))

@@ -1,42 +1,18 @@
--- The text call has one answer: refusal 9 has one place, a text one reading, and the tests exclude each other.
-use Prim.Native.Nat.{ℕ, _≤_, _<_, _+_, _*_}
-use mathlib.Core.Path.{_≡_, refl, sym, _∙_, ap, subst}
-use mathlib.Core.Bool.{Bool, true, false}
-use mathlib.Core.List.{List, _++_, append-assoc}
+-- The text call has one answer: the tests exclude each other, refusal 9 has one place, and a text one reading.
+use Prim.Native.Nat.{ℕ, _*_}
+use mathlib.Core.Path.{_≡_, refl, ap}
+use mathlib.Core.List.{List, _++_}
 use native.Mathlib.Omega.{arith}
-use lib.Dec.{leb}
 use lib.IntN.{ℤ}
-use lib.ListN.{length, take, drop, take-append-drop}
-use lib.Seq.{take-take}
-use borrow.Author.Tests.{leb-true, leb-false}
+use lib.ListN.{length, drop}
 use Rattle.definitions.specs.declared.Numbers.{Numbers}
 use Rattle.definitions.specs.declared.TextReply.{TextReply}
 use Rattle.definitions.specs.declared.TextReply.the-variants.{Read, Refused}
 use Rattle.definitions.specs.Tests.{forEach}
 use Rattle.definitions.specs.Record.{recordWords}
-use Rattle.definitions.specs.Text.{Entry, Text, Belongs, CanGoOn, BreaksAt, wordsOf, TextAnswer, wrongWords, tooLong, broken, tooMany, read}
+use Rattle.definitions.specs.Text.{Entry, Text, Belongs, wordsOf, TextAnswer, wrongWords, tooLong, broken, tooMany, read}
+use Rattle.definitions.proofs.Texts.{one-place}
 use Rattle.grammar.proofs.Runs.{one-reading}
-
-goes-shorter : (t : List ℕ) (m n : ℕ) → m ≤ n → CanGoOn (take n t) → CanGoOn (take m t)
-goes-shorter t m n l h =
-    let e : take n t ++ h .rest ≡ take m t ++ (drop m (take n t) ++ h .rest) =
-    ap (λ (o : List ℕ). o ++ h .rest) (sym (take-append-drop m (take n t)) ∙ ap (λ (o : List ℕ). o ++ drop m (take n t)) (take-take m n t l))
-    ∙ append-assoc (take m t) (drop m (take n t)) (h .rest) in
-    record { rest = drop m (take n t) ++ h .rest; belongs = subst Belongs e (h .belongs) }
-
--- a text does not go on after its place
-not-beyond : (t : List ℕ) (p q : ℕ) → BreaksAt t p → BreaksAt t q → p < q → ⊥
-not-beyond t p q h k l =
-    let m = k .within in
-    h .there (omega arith) (goes-shorter t (p + 1) q (omega arith) (k .before))
-
-pub one-place : (t : List ℕ) (p q : ℕ) → BreaksAt t p → BreaksAt t q → p ≡ q
-one-place t p q h k = by-test (leb p q) (leb q p) refl refl
-  where
-    by-test : (u v : Bool) → leb p q ≡ u → leb q p ≡ v → p ≡ q
-    by-test true true e f = let a = leb-true p q e in let b = leb-true q p f in omega arith
-    by-test false v e f = absurd (not-beyond t q p k h (leb-false p q e))
-    by-test true false e f = absurd (not-beyond t p q h k (leb-false q p f))
 
 pub record Same (r s : TextReply) (v w : List ℤ) : Type 0 where
   pub reply : r ≡ s

@@ -128,7 +128,7 @@ record-of s i l r e old from new (At q) h =
     }
 record-of s i l r e old from new (Bad p) h = (h .0, λ g k here. h .1 (g ++ (rec r ∷ [])) k (entry-go s i g k here l r e))
 
-waiting-alive : (c : Cfg) → Waiting c → Alive c
+pub waiting-alive : (c : Cfg) → Waiting c → Alive c
 waiting-alive dead h = h
 waiting-alive (live g []) h = tt
 waiting-alive (live g (y ∷ k)) h = tt

@@ -43,7 +43,18 @@ records-cons {rs} {b} {u} h = by-text h refl
     by-text noRecord e = no-cons e
     by-text (aNote {rs = rs} {t = t} {u = v} n ns) e = inl (record { left = t; right = v; is = n; then = record { entries = rs; is = refl; lines = ns }; cut = sym e })
     by-text (aRecord {r = r} {vs = vs} {rs = rs} {t = t} {u = v} f ns) e =
-        inr (record { kind = r; here = t; after = v; found = vs; others = flat rs; this = f; gives = refl; then = record { entries = rs; is = refl; lines = ns }; cut = sym e })
+        inr (record {
+          kind =
+              r;
+          here = t;
+          after = v;
+          found = vs;
+          others = flat rs;
+          this = f;
+          gives = refl;
+          then = record { entries = rs; is = refl; lines = ns };
+          cut = sym e;
+        })
 
 entry-first : {B : Lang} {ws : List Ev} {b : ℕ} {u : List ℕ} → EntryOf B ws (b ∷ u) → b ≡ 40
 entry-first (inl h) = note-first h
@@ -111,7 +122,12 @@ record Entered (g : List Ev) (d : Delta) (fin : List Ev) (u : List ℕ) : Type 0
 enter-backward : (g : List Ev) (d : Delta) (fin : List Ev) (u : List ℕ) → M (enter g d) fin u → Entered g d fin u
 enter-backward g halt fin u h = absurd h
 enter-backward g (go k) fin u h = record { others = h .others; is = h .is; then = h .then }
-enter-backward g (emit z k) fin u h = record { others = z ∷ h .others; is = cc (h .is, append-assoc g (z ∷ []) (h .others)); then = record { others = h .others; is = refl; then = h .then } }
+enter-backward g (emit z k) fin u h =
+    record {
+      others = z ∷ h .others;
+      is = cc (h .is, append-assoc g (z ∷ []) (h .others));
+      then = record { others = h .others; is = refl; then = h .then };
+    }
 
 step-backward : (c : Cfg) (fin : List Ev) (b : ℕ) (u : List ℕ) → Fine c → M (step c b) fin u → M c fin (b ∷ u)
 unfolding step
@@ -200,7 +216,9 @@ seq-heads (k ∷ ks) B ws u h =
       is = head (h .notes) (h .this) (r .is);
       gives = h .gives ∙ ap (λ (o : List Ev). nums (h .found) o) (r .gives) ∙ sym (nums-append (h .found) (r .found) (r .others));
       then = r .then;
-      cut = h .cut ∙ ap (λ (l : List ℕ). h .before ++ (h .here ++ l)) (r .cut) ∙ sym (append-assoc (h .before) (h .here ++ r .here) (r .after) ∙ ap (λ (l : List ℕ). h .before ++ l) (append-assoc (h .here) (r .here) (r .after)));
+      cut =
+          h .cut ∙ ap (λ (l : List ℕ). h .before ++ (h .here ++ l)) (r .cut)
+          ∙ sym (append-assoc (h .before) (h .here ++ r .here) (r .after) ∙ ap (λ (l : List ℕ). h .before ++ l) (append-assoc (h .here) (r .here) (r .after)));
     }
 
 text-after : {n : Numbers} {rs : List Entry} {t : List ℕ} → Text n rs t → M start (nums (headNumbers n) (flat rs)) t
@@ -294,7 +312,9 @@ fine-start = (tt, (tt, (tt, (tt, tt))))
 
 -- and a text that ends so is the grammar's
 ends-text :
-    {fin : List Ev} {t : List ℕ} {C : Type 0} → runs start t ≡ live fin [] → ((n : Numbers) (rs : List Entry) → fin ≡ nums (headNumbers n) (flat rs) → Text n rs t → C) → C
+    {fin :
+    List Ev} {t : List ℕ} {C : Type 0} → runs start t ≡ live fin [] → ((n : Numbers) (rs : List Entry) → fin ≡ nums (headNumbers n) (flat rs)
+    → Text n rs t → C) → C
 ends-text {fin} {t} e k =
     let m : M (live fin []) fin [] = record { others = []; is = sym (append-nil fin); then = record { entries = []; is = refl; lines = noRecord } } in
     let b : M start fin (t ++ []) = runs-backward t start fin [] fine-start (rw e m) in

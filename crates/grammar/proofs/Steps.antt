@@ -37,7 +37,10 @@ kept true n h = h
 kept false n h = absurd (n tt)
 
 -- what holds of each class of an arm holds of the class that led there
-class-cases : (P : Class → Type 0) (ks : List ℕ) (c : Class) → OneOf ks (tag c) → If (hasKey ks 0) (P Alpha) → If (hasKey ks 1) (P Nought) → If (hasKey ks 2) (P Nonzero) → If (hasKey ks 3) (P Dash) → If (hasKey ks 4) (P Open) → If (hasKey ks 5) (P Close) → If (hasKey ks 6) (P Space) → If (hasKey ks 7) (P Other) → P c
+class-cases :
+    (P : Class → Type 0) (ks : List ℕ) (c : Class) → OneOf ks (tag c) → If (hasKey ks 0) (P Alpha) → If (hasKey ks 1) (P Nought)
+    → If (hasKey ks 2) (P Nonzero) → If (hasKey ks 3) (P Dash) → If (hasKey ks 4) (P Open) → If (hasKey ks 5) (P Close) → If (hasKey ks 6) (P Space)
+    → If (hasKey ks 7) (P Other) → P c
 class-cases P ks Alpha h a n z d o l s t = kept (hasKey ks 0) (λ e. miss ks 0 e h) a
 class-cases P ks Nought h a n z d o l s t = kept (hasKey ks 1) (λ e. miss ks 1 e h) n
 class-cases P ks Nonzero h a n z d o l s t = kept (hasKey ks 2) (λ e. miss ks 2 e h) z
@@ -91,8 +94,11 @@ module _ (s : List ℕ) (p d : ℕ) (g : List Ev) (k : List Sym) (here : stateAt
   letters-end e = as-as s p g (letters d ∷ k) (as-of s p g (letters d ∷ k) here tt) (rest d ∷ k) (λ l. absurd (omega arith))
 
 -- `figures`: the digits so far are worth n
-figures-off : (sg : Bool) (n : ℕ) (f : Follow) (b : ℕ) (c : Class) → OneOf (0 ∷ 3 ∷ 4 ∷ 5 ∷ 6 ∷ 7 ∷ []) (tag c) → δc (figures sg n f) b c ≡ choose c halt halt halt halt halt (shuts f (signed sg n)) (gaps f (signed sg n))
-figures-off sg n f b c h = class-cases (λ (c : Class). δc (figures sg n f) b c ≡ choose c halt halt halt halt halt (shuts f (signed sg n)) (gaps f (signed sg n))) (0 ∷ 3 ∷ 4 ∷ 5 ∷ 6 ∷ 7 ∷ []) c h refl tt tt refl refl refl refl refl
+figures-off :
+    (sg : Bool) (n : ℕ) (f : Follow) (b : ℕ) (c : Class) → OneOf (0 ∷ 3 ∷ 4 ∷ 5 ∷ 6 ∷ 7 ∷ []) (tag c)
+    → δc (figures sg n f) b c ≡ choose c halt halt halt halt halt (shuts f (signed sg n)) (gaps f (signed sg n))
+figures-off sg n f b c h =
+    class-cases (λ (c : Class). δc (figures sg n f) b c ≡ choose c halt halt halt halt halt (shuts f (signed sg n)) (gaps f (signed sg n))) (0 ∷ 3 ∷ 4 ∷ 5 ∷ 6 ∷ 7 ∷ []) c h refl tt tt refl refl refl refl refl
 
 figures-on : (sg : Bool) (n : ℕ) (f : Follow) (b : ℕ) (c : Class) → OneOf (1 ∷ 2 ∷ []) (tag c) → δc (figures sg n f) b c ≡ grow sg (10 * n + (b - 48)) f
 figures-on sg n f b c h = class-cases (λ (c : Class). δc (figures sg n f) b c ≡ grow sg (10 * n + (b - 48)) f) (1 ∷ 2 ∷ []) c h tt refl refl tt tt tt tt tt
@@ -104,7 +110,8 @@ outgrown : (sg : Bool) (a : ℕ) (f : Follow) → limit sg < a → grow sg a f �
 outgrown sg a f q = rw (lt-leb _ _ q)
 
 pub digit-of : (b : ℕ) (c : Class) → c ≡ classOf b → OneOf (1 ∷ 2 ∷ []) (tag c) → (48 ≤ b) × (b ≤ 57)
-digit-of b c e h = class-cases (λ (c : Class). c ≡ classOf b → (48 ≤ b) × (b ≤ 57)) (1 ∷ 2 ∷ []) c h tt (λ q. let k : b ≡ 48 = class-in b (sym q) in omega arith) (λ q. let k = class-in b (sym q) in omega arith) tt tt tt tt tt e
+digit-of b c e h =
+    class-cases (λ (c : Class). c ≡ classOf b → (48 ≤ b) × (b ≤ 57)) (1 ∷ 2 ∷ []) c h tt (λ q. let k : b ≡ 48 = class-in b (sym q) in omega arith) (λ q. let k = class-in b (sym q) in omega arith) tt tt tt tt tt e
 
 module _ (s : List ℕ) (p : ℕ) (sg : Bool) (n : ℕ) (f : Follow) (g : List Ev) (k : List Sym) (here : stateAt s p ≡ live g (figures sg n f ∷ k)) where
   figures-as : As s p g (figures sg n f ∷ k)
@@ -134,10 +141,14 @@ module _ (s : List ℕ) (p : ℕ) (sg : Bool) (n : ℕ) (f : Follow) (g : List E
   figures-end q = record { waits = figures-as .waits; goes = λ l. absurd (omega arith) }
 
 -- one step, by the class of the byte
-pub take-step : (s : List ℕ) (i : ℕ) (g : List Ev) (y : Sym) (k : List Sym) → As s i g (y ∷ k) → i < length s → (c : Class) → c ≡ classOf (getD s i 0) → stateAt s (i + 1) ≡ enter g (push (δc y (getD s i 0) c) k)
+pub take-step :
+    (s : List ℕ) (i : ℕ) (g : List Ev) (y : Sym) (k : List Sym) → As s i g (y ∷ k) → i < length s → (c : Class) → c ≡ classOf (getD s i 0)
+    → stateAt s (i + 1) ≡ enter g (push (δc y (getD s i 0) c) k)
 take-step s i g y k a l c e = a .goes l ∙ step-by y (getD s i 0) c e g k
 
-pub stuck-by : (s : List ℕ) (i : ℕ) (g : List Ev) (y : Sym) (k : List Sym) → As s i g (y ∷ k) → i ≤ length s → (c : Class) → c ≡ classOf (getD s i 0) → δc y (getD s i 0) c ≡ halt → Stuck s i
+pub stuck-by :
+    (s : List ℕ) (i : ℕ) (g : List Ev) (y : Sym) (k : List Sym) → As s i g (y ∷ k) → i ≤ length s → (c : Class) → c ≡ classOf (getD s i 0)
+    → δc y (getD s i 0) c ≡ halt → Stuck s i
 stuck-by s i g y k a l c e h = stuck-of s i g (y ∷ k) a l (λ q. step-halts y (getD s i 0) c e h g k)
 
 pub nonzero-of : (b : ℕ) (c : Class) → c ≡ classOf b → c ≡ Nonzero → (49 ≤ b) × (b ≤ 57)
@@ -221,10 +232,14 @@ module _ (s : List ℕ) (i d : ℕ) (g : List Ev) (k : List Sym) (here : stateAt
         as-as s i g (first d ∷ k) item-as (field (inList d) ∷ k)
         (λ l. step-by (first d) (getD s i 0) c e g k ∙ ap (λ (x : Delta). enter g (push x k)) (item-number d (getD s i 0) c h) ∙ sym (step-by (field (inList d)) (getD s i 0) c e g k))
 
-pub item-shallow : (s : List ℕ) (i d : ℕ) (g : List Ev) (k : List Sym) → stateAt s i ≡ live g (first d ∷ k) → (c : Class) → c ≡ classOf (getD s i 0) → i ≤ length s → c ≡ Open → d ≡ 0 → Stuck s i
+pub item-shallow :
+    (s : List ℕ) (i d : ℕ) (g : List Ev) (k : List Sym) → stateAt s i ≡ live g (first d ∷ k) → (c : Class) → c ≡ classOf (getD s i 0) → i ≤ length s
+    → c ≡ Open → d ≡ 0 → Stuck s i
 item-shallow s i d g k here c e l n z = stuck-by s i g (first d) k (item-as s i d g k here) l Open (sym n ∙ e) (rw z)
 
-item-open : (s : List ℕ) (i d : ℕ) (g : List Ev) (k : List Sym) → stateAt s i ≡ live g (first d ∷ k) → (c : Class) → c ≡ classOf (getD s i 0) → i < length s → c ≡ Open → (d ≡ 0 → ⊥) → stateAt s (i + 1) ≡ live g (first (d - 1) ∷ rest d ∷ k)
+item-open :
+    (s : List ℕ) (i d : ℕ) (g : List Ev) (k : List Sym) → stateAt s i ≡ live g (first d ∷ k) → (c : Class) → c ≡ classOf (getD s i 0) → i < length s
+    → c ≡ Open → (d ≡ 0 → ⊥) → stateAt s (i + 1) ≡ live g (first (d - 1) ∷ rest d ∷ k)
 item-open s i d g k here c e l n z =
     take-step s i g (first d) k (item-as s i d g k here) l Open (sym n ∙ e) ∙ deeper d z
   where
@@ -233,11 +248,15 @@ item-open s i d g k here c e l n z =
     deeper (suc d) z = ap (λ (x : ℕ). live g (first x ∷ rest (suc d) ∷ k)) (let q : d ≡ suc d - 1 = omega arith in q)
 
 -- an item that is a number
-pub item-of-number : (s : List ℕ) (i d : ℕ) (c : Class) → c ≡ classOf (getD s i 0) → OneOf (1 ∷ 2 ∷ 3 ∷ []) (tag c) → (z : ℤ) (e : ℕ) → NumberTo s i (Value z e) → ItemTo s i d (At e)
+pub item-of-number :
+    (s : List ℕ) (i d : ℕ) (c : Class) → c ≡ classOf (getD s i 0) → OneOf (1 ∷ 2 ∷ 3 ∷ []) (tag c) → (z : ℤ) (e : ℕ) → NumberTo s i (Value z e)
+    → ItemTo s i d (At e)
 item-of-number s i d c q h z e w = (w .0, w .1, λ g k here. closes-rest s e d z g k (w .2 (inList d) g k (item-field s i d g k here c q h)))
 
 -- an item that is a list
-pub item-of-list : (s : List ℕ) (i d : ℕ) (c : Class) → c ≡ classOf (getD s i 0) → i < length s → c ≡ Open → (d ≡ 0 → ⊥) → (r : Got) → ListTo s (i + 1) (d - 1) r → ItemTo s i d r
+pub item-of-list :
+    (s : List ℕ) (i d : ℕ) (c : Class) → c ≡ classOf (getD s i 0) → i < length s → c ≡ Open → (d ≡ 0 → ⊥) → (r : Got) → ListTo s (i + 1) (d - 1) r
+    → ItemTo s i d r
 item-of-list s i d c q l n z (At e) h = (omega arith, h .1, λ g k here. as-of s e g (rest d ∷ k) (h .2 g (rest d ∷ k) (item-open s i d g k here c q l n z)) tt)
 item-of-list s i d c q l n z (Bad p) h = λ g k here. h g (rest d ∷ k) (item-open s i d g k here c q l n z)
 
@@ -297,7 +316,9 @@ module _ (s : List ℕ) (i d : ℕ) (g : List Ev) (k : List Sym) (here : stateAt
     rest-gap : i < length s → c ≡ Space → stateAt s (i + 1) ≡ live g (first d ∷ k)
     rest-gap l n = take-step s i g (rest d) k rest-as l Space (sym n ∙ e)
 
-pub rest-list : (s : List ℕ) (i d : ℕ) (c : Class) → c ≡ classOf (getD s i 0) → i < length s → c ≡ Space → (r : Got) → ListTo s (i + 1) d r → Takes s i (λ (k : List Sym). rest d ∷ k) r
+pub rest-list :
+    (s : List ℕ) (i d : ℕ) (c : Class) → c ≡ classOf (getD s i 0) → i < length s → c ≡ Space → (r : Got) → ListTo s (i + 1) d r
+    → Takes s i (λ (k : List Sym). rest d ∷ k) r
 rest-list s i d c q l n (At e) h = (omega arith, h .1, λ g k here. h .2 g k (rest-gap s i d g k here c q l n))
 rest-list s i d c q l n (Bad p) h = λ g k here. h g k (rest-gap s i d g k here c q l n)
 
@@ -330,18 +351,30 @@ module _ (s : List ℕ) (e : ℕ) (z : ℤ) (g : List Ev) (k : List Sym) where
   shut-go h l q = h .goes l ∙ rw (class-close (getD s e 0) q)
 
   pub shut-bad : Closes s e shut z g k → e ≤ length s → (getD s e 0 ≡ 41 → ⊥) → Stuck s e
-  shut-bad h l n = record { within = l; waits = h .waits; stuck = λ q. h .goes q ∙ ap (λ (x : Delta). enter g (push x k)) (shut-off (getD s e 0) z (classOf (getD s e 0)) refl n) }
+  shut-bad h l n =
+      record {
+        within = l;
+        waits = h .waits;
+        stuck = λ q. h .goes q ∙ ap (λ (x : Delta). enter g (push x k)) (shut-off (getD s e 0) z (classOf (getD s e 0)) refl n);
+      }
 
   pub gap-go : Closes s e gap z g k → e < length s → getD s e 0 ≡ 32 → stateAt s (e + 1) ≡ live (g ++ (num z ∷ [])) k
   gap-go h l q = h .goes l ∙ rw (class-space (getD s e 0) q)
 
   pub gap-bad : Closes s e gap z g k → e ≤ length s → (getD s e 0 ≡ 32 → ⊥) → Stuck s e
-  gap-bad h l n = record { within = l; waits = h .waits; stuck = λ q. h .goes q ∙ ap (λ (x : Delta). enter g (push x k)) (gap-off (getD s e 0) z (classOf (getD s e 0)) refl n) }
+  gap-bad h l n =
+      record {
+        within = l;
+        waits = h .waits;
+        stuck = λ q. h .goes q ∙ ap (λ (x : Delta). enter g (push x k)) (gap-off (getD s e 0) z (classOf (getD s e 0)) refl n);
+      }
 
 pub field-as : (s : List ℕ) (i : ℕ) (f : Follow) (g : List Ev) (k : List Sym) → stateAt s i ≡ live g (field f ∷ k) → As s i g (field f ∷ k)
 field-as s i f g k here = as-of s i g (field f ∷ k) here tt
 
 -- `note`: its bytes, the rest of its list and the line feed
-pub note-ends : (s : List ℕ) (i a e : ℕ) → WordTo s i (111 ∷ 116 ∷ 101 ∷ []) (At a) → Takes s a (λ (k : List Sym). rest 7 ∷ k) (At e) → (r : Got) → WordTo s e (10 ∷ []) r → Takes s i noteTail r
+pub note-ends :
+    (s : List ℕ) (i a e : ℕ) → WordTo s i (111 ∷ 116 ∷ 101 ∷ []) (At a) → Takes s a (λ (k : List Sym). rest 7 ∷ k) (At e) → (r : Got)
+    → WordTo s e (10 ∷ []) r → Takes s i noteTail r
 note-ends s i a e v w (At p) h = (omega arith, h .1, λ g k q. h .2 g k (w .2 g (lit 10 ∷ k) (v .2 g (rest 7 ∷ lit 10 ∷ k) q)))
 note-ends s i a e v w (Bad p) h = λ g k q. h g k (w .2 g (lit 10 ∷ k) (v .2 g (rest 7 ∷ lit 10 ∷ k) q))

@@ -16,7 +16,7 @@ use Rattle.grammar.specs.declared.Got.the-variants.{At, Bad}
 use Rattle.grammar.specs.declared.Num.the-variants.{Value, Wrong}
 use Rattle.grammar.specs.declared.Pair.the-variants.{Both}
 use Rattle.grammar.specs.Machine.{Sym, field, gap, shut, lits, Ev, num, nums, live, stateAt}
-use Rattle.grammar.specs.Promises.{WordTo, FieldTo, pairOf, TwoTo, fields, Touched, Stored, StoresTo, Stores, Within, ThenWordTo, ThenWord, ThenStoresTo, ThenStores, tail, TailTo}
+use Rattle.grammar.specs.Promises.{WordTo, FieldTo, pairOf, TwoTo, fields, Touched, Stored, StoresTo, Within, ThenWordTo, ThenWord, ThenStoresTo, ThenStores, tail, TailTo}
 
 sets-append : (l : List ℤ) (i : ℕ) (xs ys : List ℤ) → sets l i (xs ++ ys) ≡ sets (sets l i xs) (i + length xs) ys
 sets-append l i [] ys = ap (λ (x : ℕ). sets l x ys) (let q : i ≡ i + 0 = omega arith in q)
@@ -31,7 +31,9 @@ nums-append (v ∷ vs) ws = ap (λ (o : List Ev). num v ∷ o) (nums-append vs w
 -- two runs of words, the second behind the first
 module _ (old : List ℤ) (from n : ℕ) (mid : List ℤ) (xs : List ℤ) (many : length xs ≡ n) (first : mid ≡ sets old from xs) where
   behind : (new ys : List ℤ) → new ≡ sets mid (from + n) ys → new ≡ sets old from (xs ++ ys)
-  behind new ys e = e ∙ ap (λ (m : List ℤ). sets m (from + n) ys) first ∙ ap (λ (j : ℕ). sets (sets old from xs) (from + j) ys) (sym many) ∙ sym (sets-append old from xs ys)
+  behind new ys e =
+      e ∙ ap (λ (m : List ℤ). sets m (from + n) ys) first ∙ ap (λ (j : ℕ). sets (sets old from xs) (from + j) ys) (sym many)
+      ∙ sym (sets-append old from xs ys)
 
   touched-behind : (m : ℕ) (new : List ℤ) → Touched mid (from + n) m new → Touched old from (n + m) new
   touched-behind m new t =
@@ -47,6 +49,10 @@ untouched old from n = record { over = []; few = omega arith; is = refl }
 told-more : (g : List Ev) (xs ys : List ℤ) → (g ++ nums xs []) ++ nums ys [] ≡ g ++ nums (xs ++ ys) []
 told-more g xs ys = append-assoc g (nums xs []) (nums ys []) ∙ ap (λ (o : List Ev). g ++ o) (nums-append xs ys)
 
+-- `StoresTo` as a record, so that laws find its arguments
+pub record Stores (s : List ℕ) (X : List Sym → List Sym) (n i : ℕ) (old : List ℤ) (from : ℕ) (new : List ℤ) (r : Got) : Type 0 where
+  pub is : StoresTo s X n i old from new r
+
 pub stores-first : (s : List ℕ) (i : ℕ) (old : List ℤ) (from : ℕ) → i ≤ length s → Stores s (λ (k : List Sym). k) 0 i old from old (At i)
 stores-first s i old from l =
     record {
@@ -55,7 +61,9 @@ stores-first s i old from l =
 
 module _ (s : List ℕ) (X : List Sym → List Sym) (n i : ℕ) (old : List ℤ) (from : ℕ) where
   -- the bytes of w come next
-  word-next : (w : List ℕ) (new : List ℤ) (r q : Got) → StoresTo s X n i old from new r → ThenWordTo s w r q → StoresTo s (λ (k : List Sym). X (lits w k)) n i old from new q
+  word-next :
+      (w : List ℕ) (new : List ℤ) (r q : Got) → StoresTo s X n i old from new r → ThenWordTo s w r q
+      → StoresTo s (λ (k : List Sym). X (lits w k)) n i old from new q
   word-next w new (At a) (At e) v t =
       let u = v .up in
       let m = t .0 in
@@ -209,7 +217,9 @@ module _ (s : List ℕ) (at n : ℕ) (old : List ℤ) (from : ℕ) (new : List �
   storing-cut q e f = (storing-touched, λ g k x. f (g ++ nums (h .found) []) k (storing-last q g k x))
 
 -- one number and a space
-pub one-stored : (s : List ℕ) (i : ℕ) (old : List ℤ) (from : ℕ) (z : ℤ) (e : ℕ) → FieldTo s i false (Value z e) → StoresTo s (λ (k : List Sym). field gap ∷ k) 1 i old from (set old from z) (At e)
+pub one-stored :
+    (s : List ℕ) (i : ℕ) (old : List ℤ) (from : ℕ) (z : ℤ) (e : ℕ) → FieldTo s i false (Value z e)
+    → StoresTo s (λ (k : List Sym). field gap ∷ k) 1 i old from (set old from z) (At e)
 one-stored s i old from z e f = record { found = z ∷ []; many = refl; up = let l = f .0 in omega arith; within = f .1; stored = refl; so = f .2 }
 
 -- ---- the tails of record lines

@@ -39,7 +39,7 @@ not-alive e h = rw e at h
 not-waiting : {c : Cfg} {g : List Ev} → c ≡ live g [] → Waiting c → ⊥
 not-waiting e h = rw e at h
 
-ended-breaks : (s : List ℕ) (p : ℕ) → Ended s p → BreaksAt s p
+pub ended-breaks : (s : List ℕ) (p : ℕ) → Ended s p → BreaksAt s p
 ended-breaks s p h =
     let l : p ≤ length s = h .within in
     record {

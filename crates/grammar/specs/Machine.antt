@@ -10,6 +10,7 @@ use lib.Dec.{leb, eqb}
 use Rattle.grammar.specs.declared.Class.{Class}
 use Rattle.grammar.specs.declared.Class.the-variants.{Alpha, Nought, Nonzero, Dash, Open, Close, Space, Other}
 
+-- what a byte is
 unfoldable pub classOf : ℕ → Class
 classOf b =
     cond (leb 97 b) (cond (leb b 122) Alpha Other)
@@ -25,6 +26,7 @@ pub data Follow : Type 0 where
   gap shut : Follow
   inList : ℕ → Follow
 
+-- a symbol: what has yet to come
 pub data Sym : Type 0 where
   lit : ℕ → Sym  -- this byte
   first : ℕ → Sym  -- an item, and the rest of its list
@@ -59,6 +61,7 @@ pub data Delta : Type 0 where
   go : List Sym → Delta
   emit : Ev → List Sym → Delta
 
+-- by the class of the byte; any other byte may not come
 abbrev pub choose : Class → Delta → Delta → Delta → Delta → Delta → Delta → Delta → Delta
 choose Alpha a n z d o c s = a
 choose Nought a n z d o c s = n
@@ -69,15 +72,18 @@ choose Close a n z d o c s = c
 choose Space a n z d o c s = s
 choose Other a n z d o c s = halt
 
+-- the most that digits are worth, without and with a minus
 abbrev pub limit : Bool → ℕ
 limit false = 32767
 limit true = 32768
 
+-- the number that digits worth n are, without and with a minus
 abbrev pub signed : Bool → ℕ → ℤ
 signed false n = pos n
 signed true zero = pos 0
 signed true (suc n) = negsuc n
 
+-- what a closing bracket does after a number z that f follows, and what a space does
 abbrev pub shuts : Follow → ℤ → Delta
 shuts gap z = halt
 shuts shut z = emit (num z) []
@@ -88,16 +94,20 @@ gaps gap z = emit (num z) []
 gaps shut z = halt
 gaps (inList d) z = go (first d ∷ [])
 
+-- one digit more, and digits now worth a
 abbrev pub grow : Bool → ℕ → Follow → Delta
 grow sg a f = cond (leb a (limit sg)) (go (figures sg a f ∷ [])) halt
 
+-- an opening bracket, where lists nest d deep at the most
 abbrev pub opens : ℕ → Delta
 opens zero = halt
 opens (suc d) = go (first d ∷ rest (suc d) ∷ [])
 
+-- a note after its bracket and its n, and then k
 abbrev pub noteTail : List Sym → List Sym
 noteTail k = lit 111 ∷ lit 116 ∷ lit 101 ∷ rest 7 ∷ lit 10 ∷ k
 
+-- the symbols of a pattern
 abbrev pub syms : List Part → List Sym
 syms [] = []
 syms (byte c ∷ ps) = lit c ∷ syms ps
@@ -107,7 +117,8 @@ syms (ended ∷ ps) = field shut ∷ syms ps
 -- what a byte b of class c does to a symbol
 abbrev pub δc : Sym → ℕ → Class → Delta
 δc (lit x) b c = cond (eqb b x) (go []) halt
-δc (first d) b c = choose c (go (letters d ∷ [])) (go (zeroed (inList d) ∷ [])) (go (figures false (b - 48) (inList d) ∷ [])) (go (dashed (inList d) ∷ [])) (opens d) halt halt
+δc (first d) b c =
+    choose c (go (letters d ∷ [])) (go (zeroed (inList d) ∷ [])) (go (figures false (b - 48) (inList d) ∷ [])) (go (dashed (inList d) ∷ [])) (opens d) halt halt
 δc (letters d) b c = choose c (go (letters d ∷ [])) halt halt halt halt (go []) (go (first d ∷ []))
 δc (rest d) b c = choose c halt halt halt halt halt (go []) (go (first d ∷ []))
 δc (field f) b c = choose c halt (go (zeroed f ∷ [])) (go (figures false (b - 48) f ∷ [])) (go (dashed f ∷ [])) halt halt halt
@@ -125,6 +136,7 @@ abbrev pub δc : Sym → ℕ → Class → Delta
 unfoldable pub δ : Sym → ℕ → Delta
 δ s b = δc s b (classOf b)
 
+-- a step, with the symbols k below
 abbrev pub push : Delta → List Sym → Delta
 push halt k = halt
 push (go t) k = go (t ++ k)
@@ -135,10 +147,12 @@ unfoldable pub stepK : List Sym → ℕ → Delta
 stepK [] b = cond (eqb b 40) (go (entry ∷ [])) halt
 stepK (s ∷ k) b = push (δ s b) k
 
+-- a state: no text can go on; or what was told, and what has yet to come
 pub data Cfg : Type 0 where
   dead : Cfg
   live : List Ev → List Sym → Cfg
 
+-- the state after a step
 abbrev pub enter : List Ev → Delta → Cfg
 enter g halt = dead
 enter g (go k) = live g k
@@ -152,6 +166,7 @@ unfoldable pub runs : Cfg → List ℕ → Cfg
 runs c [] = c
 runs c (b ∷ t) = runs (step c b) t
 
+-- the first four lines have yet to come
 abbrev pub start : Cfg
 start = live [] (line baseLine ∷ line scaledLine ∷ line atLine ∷ line fullLine ∷ [])
 
@@ -159,6 +174,7 @@ start = live [] (line baseLine ∷ line scaledLine ∷ line atLine ∷ line full
 unfoldable pub stateAt : List ℕ → ℕ → Cfg
 stateAt s i = runs start (take i s)
 
+-- a text can go on
 abbrev pub Alive : Cfg → Type 0
 Alive dead = ⊥
 Alive (live g k) = Unit {0}

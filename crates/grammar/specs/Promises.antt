@@ -103,7 +103,8 @@ abbrev pub pairOf : List ℕ → List Sym → List Sym
 pairOf w k = lits w (field gap ∷ field shut ∷ lit 10 ∷ k)
 
 abbrev pub TwoTo : List ℕ → ℕ → List ℕ → Pair → Type 0
-TwoTo s i w (Both x y e) = (i ≤ e) × (e ≤ length s) × ((g : List Ev) (k : List Sym) → stateAt s i ≡ live g (pairOf w k) → stateAt s e ≡ live (g ++ (num x ∷ num y ∷ [])) k)
+TwoTo s i w (Both x y e) =
+    (i ≤ e) × (e ≤ length s) × ((g : List Ev) (k : List Sym) → stateAt s i ≡ live g (pairOf w k) → stateAt s e ≡ live (g ++ (num x ∷ num y ∷ [])) k)
 TwoTo s i w (Broken p) = (g : List Ev) (k : List Sym) → stateAt s i ≡ live g (pairOf w k) → Stuck s p
 
 -- a kind's letter is c, and its line goes on with w and two numbers
@@ -149,10 +150,6 @@ pub record Stored (s : List ℕ) (X : List Sym → List Sym) (n i : ℕ) (old : 
 abbrev pub StoresTo : List ℕ → (List Sym → List Sym) → ℕ → ℕ → List ℤ → ℕ → List ℤ → Got → Type 0
 StoresTo s X n i old from new (At e) = Stored s X n i old from new e
 StoresTo s X n i old from new (Bad p) = Touched old from n new × ((g : List Ev) (k : List Sym) → stateAt s i ≡ live g (X k) → Stuck s p)
-
--- (a record, so that laws find its arguments)
-pub record Stores (s : List ℕ) (X : List Sym → List Sym) (n i : ℕ) (old : List ℤ) (from : ℕ) (new : List ℤ) (r : Got) : Type 0 where
-  pub is : StoresTo s X n i old from new r
 
 abbrev pub Within : List ℕ → Got → Type 0
 Within s (At e) = e ≤ length s

@@ -1,5 +1,4 @@
 // Reading the notes of a text, and the fixed bytes of its lines.
-ghost use mathlib.Core.Path.{_≡_};
 ghost use Prim.Native.Nat.{_≤_};
 ghost use lib.ListN.{length};
 ghost use mathlib.Core.List.{List, _∷_};
@@ -11,7 +10,7 @@ use grammar::Num;
 use sync_numbers::class_of;
 use sync_numbers::number;
 
-// The end of the letters that start at at.
+// Where the letters that start at `at` end.
 fn letters(s: &[u8], at: usize) -> usize
     requires { ⌜ at ≤ length (now s) ⌝ }
     ensures { λ r. ⌜ LettersTo (now (s .entry)) at r ⌝ }
@@ -28,7 +27,7 @@ fn letters(s: &[u8], at: usize) -> usize
     p
 }
 
-// A word, a number or a list that nests depth deep at the most.
+// A word, a number or a list. Lists nest `depth` deep at the most, and what remains of the depth falls with each.
 fn item(s: &[u8], at: usize, depth: usize) -> Got
     requires { ⌜ at ≤ length (now s) ⌝ }
     ensures { λ r. ⌜ ItemTo (now (s .entry)) at depth r ⌝ }
@@ -57,7 +56,7 @@ fn item(s: &[u8], at: usize, depth: usize) -> Got
     }
 }
 
-// The items of a list after its bracket, and the closing bracket.
+// The items of a list after its bracket, one or more, each but the first after a space, and the closing bracket.
 fn list(s: &[u8], at: usize, depth: usize) -> Got
     requires { ⌜ at ≤ length (now s) ⌝ }
     ensures { λ r. ⌜ ListTo (now (s .entry)) at depth r ⌝ }
@@ -129,7 +128,7 @@ fn rest_of(s: &[u8], at: usize, depth: usize) -> Got
     }
 }
 
-// A note after its bracket and its n.
+// A note after its bracket and its n. To depth 8 with the note at 1: lists nest 7 deep in it.
 pub fn note(s: &[u8], at: usize) -> Got
     requires { ⌜ at ≤ length (now s) ⌝ }
     ensures { λ r. ⌜ Takes (now (s .entry)) at noteTail r ⌝ }

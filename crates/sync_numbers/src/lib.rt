@@ -8,6 +8,7 @@ use grammar::Class;
 use grammar::Digits;
 use grammar::Num;
 
+// What a byte is.
 pub fn class_of(b: u8) -> Class
     ensures { λ r. ⌜ r ≡ classOf b ⌝ }
 {
@@ -41,7 +42,7 @@ pub fn class_of(b: u8) -> Class
     Class::Other
 }
 
-// The rest of a number, after digits worth a.
+// The digits of a number after digits worth a. They are worth no more than top in the end.
 fn figures(s: &[u8], at: usize, a: u32, top: u32) -> Digits
     requires { ⌜ (at ≤ length (now s)) × (a ≤ top) × (top ≤ 32768) ⌝ }
     ensures { λ r. ⌜ DigitsTo (now (s .entry)) at a top r ⌝ }
@@ -68,7 +69,7 @@ fn figures(s: &[u8], at: usize, a: u32, top: u32) -> Digits
     Digits::Worth(n, p)
 }
 
-// A number after its minus.
+// A number after its minus: 1 to 32,768, so no −0.
 fn dashed(s: &[u8], at: usize) -> Num
     requires { ⌜ at ≤ length (now s) ⌝ }
     ensures { λ r. ⌜ DashedTo (now (s .entry)) at r ⌝ }
@@ -90,6 +91,7 @@ fn dashed(s: &[u8], at: usize) -> Num
     }
 }
 
+// A number, with no leading zero.
 pub fn number(s: &[u8], at: usize) -> Num
     requires { ⌜ at ≤ length (now s) ⌝ }
     ensures { λ r. ⌜ NumberTo (now (s .entry)) at r ⌝ }

@@ -11,6 +11,7 @@ use grammar::Judged;
 use grammar::Lines;
 use grammar::Pair;
 use sync_notes::note;
+use sync_records::RECORD_WORDS;
 use sync_records::record_line;
 use sync_records::then_fields;
 use sync_records::then_word;
@@ -93,7 +94,7 @@ fn count_records(s: &[u8], at: usize) -> Lines
     requires { ⌜ at ≤ length (now s) ⌝ }
     ensures { λ r. ⌜ LinesTo (now (s .entry)) at r ⌝ }
 {
-    let mut own = [0i16; 77];
+    let mut own = [0i16; RECORD_WORDS];
     let mut p = at;
     let mut n: usize = 0;
     while p < s.len() {

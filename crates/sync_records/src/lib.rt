@@ -17,6 +17,9 @@ use sync_notes::word_at;
 use sync_numbers::field;
 use write::write_record;
 
+// The words of a record.
+pub const RECORD_WORDS: usize = 77;
+
 // n + 1 numbers and the closing bracket. The numbers are stored from `from` on.
 fn store_fields(s: &[u8], at: usize, n: usize, out: &mut [i16], from: usize) -> Got
     requires { ⌜ (at ≤ length (now s)) × (from + n < length (now out)) ⌝ }
@@ -96,7 +99,7 @@ fn put_record(out: &mut [i16], from: usize, kind: u8, m: Motion)
     requires { ⌜ from + recordWords ≤ length (now out) ⌝ }
     ensures { λ _. ⌜ now (out .exit) ≡ sets (now (out .entry)) from (laidOut kind (λ q. 0) (λ b. m)) ⌝ }
 {
-    let to = from + 77;
+    let to = from + RECORD_WORDS;
     let sub = [0u8; 4];
     let quadrant = [m; 4];
     let all = [quadrant; 4];

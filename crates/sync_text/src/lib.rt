@@ -9,14 +9,24 @@ use grammar::Got;
 use grammar::Judged;
 use sync_notes::note;
 use sync_read::judge;
+use sync_records::RECORD_WORDS;
 use sync_records::record_line;
 
-// A record's words; the records whose words are lent; and the bytes of the longest text.
-const RECORD_WORDS: usize = 77;
-
+// The records whose words are lent, and these words; and the bytes of the longest text.
 const RECORDS: usize = 99;
 
+const WORDS: usize = RECORD_WORDS * RECORDS;
+
 const BYTES: usize = 65536;
+
+// The refusals, in the order in which they are tested.
+const WRONG_WORDS: u32 = 6;
+
+const TOO_LONG: u32 = 10;
+
+const BROKEN: u32 = 9;
+
+const TOO_MANY: u32 = 10;
 
 // The words of the record lines of a text that was judged, from where they begin. No line is bad any more.
 fn store_records(s: &[u8], at: usize, words: &mut [i16])
@@ -68,24 +78,25 @@ fn refused(number: u32, place: u32) -> TextReply
 pub fn read_text(bytes: &[u8], words: &mut [i16]) -> TextReply
     ensures { λ r. ⌜ TextAnswer (now (bytes .entry)) (now (words .entry)) r (now (words .exit)) ⌝ }
 {
-    if words.len() != RECORD_WORDS * RECORDS {
-        return refused(6, 0);
+    if words.len() != WORDS {
+        return refused(WRONG_WORDS, 0);
     }
     if bytes.len() > BYTES {
-        return refused(10, 0);
+        return refused(TOO_LONG, 0);
     }
     let t = judge(bytes);
     match t {
         Judged::Right(numbers, at, lines) => {
             if lines > RECORDS {
-                return refused(10, 0);
+                return refused(TOO_MANY, 0);
             }
+            let count = lines as u32;
             store_records(bytes, at, words);
             TextReply::Read(TextRead {
                 numbers: numbers,
-                lines: lines as u32,
+                lines: count,
             })
         }
-        Judged::Wrong(p) => refused(9, p as u32),
+        Judged::Wrong(p) => refused(BROKEN, p as u32),
     }
 }

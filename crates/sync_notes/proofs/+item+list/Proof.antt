@@ -1,5 +1,5 @@
 -- `sync_notes::+item+list` meets its contract. Assumes nothing.
-use Prim.Native.Nat.{_≤_, _-_, _+_, ℕ}
+use Prim.Native.Nat.{_<_, _≤_, _-_, _+_, ℕ}
 use mathlib.Core.Path.{_≡_, sym, _∙_}
 use mathlib.Core.List.{List, _∷_}
 use native.Mathlib.Omega.{arith}
@@ -284,7 +284,8 @@ item-returns-7 t c =
     λ g k e. item-bad (a .s .now) (a .at) (a .depth) g k e _ (c .before .class-of .ensures) (c .before .before .before .before .before .pre .1) (c .match .keys4)
 
 abbrev list-Inv-loop : list-lts.InvT-loop
-list-Inv-loop s at depth p₀ p = (at ≤ p) × (p ≤ length s) × ((g : List Ev) (k : List Sym) → stateAt s at ≡ live g (first depth ∷ k) → stateAt s p ≡ live g (first depth ∷ k))
+list-Inv-loop s at depth p₀ p =
+    (at ≤ p) × (p ≤ length s) × ((g : List Ev) (k : List Sym) → stateAt s at ≡ live g (first depth ∷ k) → stateAt s p ≡ live g (first depth ∷ k))
 
 abbrev list-μ-loop : list-lts.MeasureT-loop
 list-μ-loop s at depth p₀ p = length s - p

@@ -11,7 +11,8 @@ use Rattle.sync_notes.proofs.word_at.Statement.{statement}
 use Rattle.sync_notes.proofs.word_at.Tie as tie
 
 abbrev Inv-loop : tie.InvT-loop
-Inv-loop s at w p₀ j₀ p j = (at ≤ p) × (p ≤ length s) × (j ≤ length w) × ((g : List Ev) (k : List Sym) → stateAt s at ≡ live g (lits w k) → stateAt s p ≡ live g (lits (drop j w) k))
+Inv-loop s at w p₀ j₀ p j =
+    (at ≤ p) × (p ≤ length s) × (j ≤ length w) × ((g : List Ev) (k : List Sym) → stateAt s at ≡ live g (lits w k) → stateAt s p ≡ live g (lits (drop j w) k))
 
 abbrev μ-loop : tie.MeasureT-loop
 μ-loop s at w p₀ j₀ p j = length w - j

@@ -12,7 +12,8 @@ use Rattle.sync_numbers.proofs.figures.Statement.{statement}
 use Rattle.sync_numbers.proofs.figures.Tie as tie
 
 abbrev Inv-loop : tie.InvT-loop
-Inv-loop s at a top p₀ n₀ p n = (at ≤ p) × (p ≤ length s) × (a ≤ n) × (n ≤ top) × ((sg : Bool) (f : Follow) (g : List Ev) (k : List Sym) → limit sg ≡ top → stateAt s at ≡ live g (figures sg a f ∷ k) → stateAt s p ≡ live g (figures sg n f ∷ k))
+Inv-loop s at a top p₀ n₀ p n =
+    (at ≤ p) × (p ≤ length s) × (a ≤ n) × (n ≤ top) × ((sg : Bool) (f : Follow) (g : List Ev) (k : List Sym) → limit sg ≡ top → stateAt s at ≡ live g (figures sg a f ∷ k) → stateAt s p ≡ live g (figures sg n f ∷ k))
 
 abbrev μ-loop : tie.MeasureT-loop
 μ-loop s at a top p₀ n₀ p n = length s - p

@@ -60,7 +60,8 @@ dashed-requires : tie.Need-dashed-requires
 dashed-requires c κs = search needs
 
 returns-2 : tie.Need-returns-2
-returns-2 c = (omega arith, omega arith, λ f g k a. number-zero _ _ f g k a _ (c .before .before .class-of .ensures) (c .before .before .before .before .if1 .left) (c .enum-told .given .1))
+returns-2 c =
+    (omega arith, omega arith, λ f g k a. number-zero _ _ f g k a _ (c .before .before .class-of .ensures) (c .before .before .before .before .if1 .left) (c .enum-told .given .1))
 
 returns-3 : tie.Need-returns-3
 returns-3 c =

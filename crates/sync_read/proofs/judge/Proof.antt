@@ -80,7 +80,8 @@ returns-3 c =
     window-bad s (f .0) (f .1 .0) (f .1 .1 .0) (f .1 .1 .1 .0) (f .1 .1 .1 .1 .0) h _ (rw (c .before .b2 .given .1) at (c .before .before .before .two-lines2 .ensures))
 
 returns-4 : tie.Need-returns-4
-returns-4 c = sizes-bad (c .before .before .before .before .before .before .before .args .s .now) _ (rw (c .before .a2 .given .1) at (c .before .before .before .two-lines .ensures))
+returns-4 c =
+    sizes-bad (c .before .before .before .before .before .before .before .args .s .now) _ (rw (c .before .a2 .given .1) at (c .before .before .before .two-lines .ensures))
 
 pub judge-spec : {M : Type 1} → statement M
 judge-spec =

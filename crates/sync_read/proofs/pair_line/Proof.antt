@@ -27,7 +27,6 @@ returns : tie.Need-returns Inv-loop μ-loop
 returns c =
     let a = c .before .before .before .before .before .before .args in
     let l = c .before .before .before .loop in
-    let t = c .before .before .loop-test in
     λ d g k x h. line-bad (a .s .now) (l .p) g k d (l .inv .2 d g k h) (l .inv .1) (c .if1 .taken)
 
 add-q : tie.Need-add-q Inv-loop μ-loop

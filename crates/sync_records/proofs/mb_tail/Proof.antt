@@ -30,7 +30,8 @@ then-word-requires-2 : tie.Need-then-word-requires-2
 then-word-requires-2 c κs = search needs
 
 then-fields-requires : tie.Need-then-fields-requires
-then-fields-requires c κs = (c .before .then-word2 .ensures .within, omega (arith, c .before .before .before .out .given, c .before .before .before .before .before .before .before .before .before .pre .1))
+then-fields-requires c κs =
+    (c .before .then-word2 .ensures .within, omega (arith, c .before .before .before .out .given, c .before .before .before .before .before .before .before .before .before .pre .1))
 
 slice-aggregate-then-word-3 : tie.Need-slice-aggregate-then-word-3
 slice-aggregate-then-word-3 c = search needs
@@ -39,7 +40,8 @@ then-word-requires-3 : tie.Need-then-word-requires-3
 then-word-requires-3 c κs = search needs
 
 then-fields-requires-2 : tie.Need-then-fields-requires-2
-then-fields-requires-2 c κs = (c .before .then-word3 .ensures .within, omega (arith, c .before .before .before .out2 .given, c .before .before .before .before .before .before .before .before .out .given, c .before .before .before .before .before .before .before .before .before .before .before .before .before .before .pre .1))
+then-fields-requires-2 c κs =
+    (c .before .then-word3 .ensures .within, omega (arith, c .before .before .before .out2 .given, c .before .before .before .before .before .before .before .before .out .given, c .before .before .before .before .before .before .before .before .before .before .before .before .before .before .pre .1))
 
 slice-aggregate-then-word-4 : tie.Need-slice-aggregate-then-word-4
 slice-aggregate-then-word-4 c = search needs
@@ -48,7 +50,8 @@ then-word-requires-4 : tie.Need-then-word-requires-4
 then-word-requires-4 c κs = search needs
 
 then-fields-requires-3 : tie.Need-then-fields-requires-3
-then-fields-requires-3 c κs = (c .before .then-word4 .ensures .within, omega (arith, c .before .before .before .out3 .given, c .before .before .before .before .before .before .before .before .out2 .given, c .before .before .before .before .before .before .before .before .before .before .before .before .before .out .given, c .before .before .before .before .before .before .before .before .before .before .before .before .before .before .before .before .before .before .before .pre .1))
+then-fields-requires-3 c κs =
+    (c .before .then-word4 .ensures .within, omega (arith, c .before .before .before .out3 .given, c .before .before .before .before .before .before .before .before .out2 .given, c .before .before .before .before .before .before .before .before .before .before .before .before .before .out .given, c .before .before .before .before .before .before .before .before .before .before .before .before .before .before .before .before .before .before .before .pre .1))
 
 slice-aggregate-then-word-5 : tie.Need-slice-aggregate-then-word-5
 slice-aggregate-then-word-5 c = search needs

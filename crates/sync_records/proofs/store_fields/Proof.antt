@@ -84,7 +84,6 @@ returns c =
     let o = c .before .before .before .before .before .before .before in
     let a = o .args in
     let l = c .before .before .before .before .before .loop in
-    let n = storing-length (a .s .now) (a .at) (a .n) (a .out .now) (a .from) (l .out) (l .p) (l .m) (l .i) (l .inv) in
     storing-stuck (a .s .now) (a .at) (a .n) (a .out .now) (a .from) (l .out) (l .p) (l .m) (l .i) (l .inv) (c .before .before .before .before .loop-test .taken) _ (rw (c .before .v2 .given .1) at (c .before .before .before .field .ensures))
 
 field-requires-2 : tie.Need-field-requires-2 Inv-loop μ-loop

@@ -5,9 +5,6 @@ use borrow.Author.Needs.{needs}
 use Rattle.sync_text.proofs.read_text.Statement.{statement}
 use Rattle.sync_text.proofs.read_text.Tie as tie
 
-mul-if1 : tie.Need-mul-if1
-mul-if1 c = search needs
-
 refused-requires : tie.Need-refused-requires
 refused-requires c κs = search needs
 
@@ -37,6 +34,9 @@ returns-3 c =
     let l = c .before .before .before .before .before .before .if2 .left in
     rw (c .refused3 .ensures) (too-many (a .bytes .now) (a .words .now) _ _ _ e l j (c .before .if3 .taken))
 
+cast-count : tie.Need-cast-count
+cast-count c = search needs
+
 store-records-requires : tie.Need-store-records-requires
 store-records-requires c κs =
     let a = c .before .before .before .before .before .before .before .before .before .args in
@@ -44,9 +44,6 @@ store-records-requires c κs =
     let e = c .before .before .before .before .before .before .before .if1 .left in
     let l = c .before .before .before .before .before .before .if2 .left in
     has-room (a .bytes .now) (a .words .now) _ _ _ e l j (c .before .if3 .left)
-
-cast-t16 : tie.Need-cast-t16
-cast-t16 c = search needs
 
 enum-known-t-2 : tie.Need-enum-known-t-2
 enum-known-t-2 c = search needs
@@ -74,7 +71,6 @@ returns-4 c =
 
 returns-5 : tie.Need-returns-5
 returns-5 c =
-    let a = c .before .before .before .before .before .before .before .before .args in
     let j = rw (c .before .before .t2 .given .1) at (c .before .before .before .before .judge .ensures) in
     let e = c .before .before .before .before .before .before .if1 .left in
     let l = c .before .before .before .before .before .if2 .left in
@@ -84,7 +80,6 @@ pub read-text-spec : {M : Type 1} → statement M
 read-text-spec =
     tie.close
     (tie.spec
-    mul-if1
     refused-requires
     returns
     refused-requires-2
@@ -93,8 +88,8 @@ read-text-spec =
     enum-known-t
     refused-requires-3
     returns-3
+    cast-count
     store-records-requires
-    cast-t16
     enum-known-t-2
     cast-refused
     refused-requires-4
