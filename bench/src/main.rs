@@ -1,10 +1,9 @@
 //! Speed of the picture call: the proved library, the second implementation and
 //! a plain copy of the words that they write, in turns.
 
-use compare::generate::{base_macroblocks, full_macroblocks, Eight, Mood};
+use compare::generate::{base_macroblocks, full_macroblocks, library, Eight, Mood};
 use compare::random::Random;
 use second::{Numbers, WORDS};
-use spiewomir::Geometry;
 use std::time::Instant;
 
 const ROUNDS: usize = 21;
@@ -77,18 +76,7 @@ impl Timed {
     }
 
     fn time_library(&mut self) -> f64 {
-        let [base_width, base_height, scaled_width, scaled_height, offset_x, offset_y, full_width, full_height] =
-            self.eight;
-        let geometry = Geometry {
-            base_width,
-            base_height,
-            scaled_width,
-            scaled_height,
-            offset_x,
-            offset_y,
-            full_width,
-            full_height,
-        };
+        let geometry = library(&self.eight);
         let (base, out) = (&self.base, &mut self.by_library);
         seconds(self.repeats, || {
             spiewomir::picture(geometry, base, out).expect("accepted");

@@ -2,7 +2,7 @@
 
 use crate::coverage::{map_row, Counts, Coverage, Inside};
 use crate::lent::Lent;
-use compare::generate::Eight;
+use compare::generate::{library, Eight};
 use second::geometry::Geometry;
 use second::map::{reading, Reading};
 use second::record::broken_rule;
@@ -25,21 +25,6 @@ pub struct Calls {
     pub singles: u64,
     pub words: u64,
     pub differences: u64,
-}
-
-fn library(eight: &Eight) -> spiewomir::Geometry {
-    let [base_width, base_height, scaled_width, scaled_height, offset_x, offset_y, full_width, full_height] =
-        *eight;
-    spiewomir::Geometry {
-        base_width,
-        base_height,
-        scaled_width,
-        scaled_height,
-        offset_x,
-        offset_y,
-        full_width,
-        full_height,
-    }
 }
 
 /// The interface's numbers for what the second implementation answers.

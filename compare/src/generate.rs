@@ -7,6 +7,22 @@ use second::WORDS;
 /// scaled, at, full.
 pub type Eight = [i32; 8];
 
+/// The eight numbers as the library takes them.
+pub fn library(eight: &Eight) -> spiewomir::Geometry {
+    let [base_width, base_height, scaled_width, scaled_height, offset_x, offset_y, full_width, full_height] =
+        *eight;
+    spiewomir::Geometry {
+        base_width,
+        base_height,
+        scaled_width,
+        scaled_height,
+        offset_x,
+        offset_y,
+        full_width,
+        full_height,
+    }
+}
+
 pub type Record = [i16; WORDS];
 
 pub fn base_macroblocks(eight: &Eight) -> usize {
