@@ -17,95 +17,42 @@ fn address_of(width: usize, x: u32, y: u32) -> usize
     (y / 4) as usize * width + (x / 4) as usize
 }
 
-fn motion_read(base: &[i16], width: usize, across: [u32; 4], down: [u32; 4], i: usize) -> Motion
-    requires { ⌜ Readable width across down (now base) × (width ≤ 256) × (i < 16) ⌝ }
-    ensures { λ r. ⌜ r ≡ motionBy width across down (now (base .entry)) i ⌝ }
-{
-    let x = across[i % 4];
-    let y = down[i / 4];
+fn motion_read(base: &[i16], width: usize, x: u32, y: u32) -> Motion {
     let a = address_of(width, x, y);
     let b = (4 * (y % 4) + x % 4) as usize;
     motion_of(base, a, b)
 }
 
-// The first block of each quadrant.
-const FIRST: [usize; 4] = [0, 2, 8, 10];
-
-fn quadrant_read(
+pub fn quadrant_read(
     base: &[i16],
     width: usize,
-    across: [u32; 4],
-    down: [u32; 4],
-    q: usize,
-) -> [Motion; 4]
-    requires { ⌜ Readable width across down (now base) × (width ≤ 256) × (q < 4) ⌝ }
-    ensures { λ r. ⌜ r ≡ four (λ k. motionBy width across down (now (base .entry)) (rasterOf q k)) ⌝ }
-{
-    let i = FIRST[q];
-    let a = motion_read(base, width, across, down, i);
-    let b = motion_read(base, width, across, down, i + 1);
-    let c = motion_read(base, width, across, down, i + 4);
-    let d = motion_read(base, width, across, down, i + 5);
+    x0: u32,
+    x1: u32,
+    y0: u32,
+    y1: u32,
+) -> [Motion; 4] {
+    let a = motion_read(base, width, x0, y0);
+    let b = motion_read(base, width, x1, y0);
+    let c = motion_read(base, width, x0, y1);
+    let d = motion_read(base, width, x1, y1);
     [a, b, c, d]
 }
 
-pub fn motions_read(
-    base: &[i16],
-    width: usize,
-    across: [u32; 4],
-    down: [u32; 4],
-) -> [[Motion; 4]; 4]
-    requires { ⌜ Readable width across down (now base) × (width ≤ 256) ⌝ }
-    ensures { λ r. ⌜ r ≡ gatheredBy width across down (now (base .entry)) ⌝ }
-{
-    let a = quadrant_read(base, width, across, down, 0);
-    let b = quadrant_read(base, width, across, down, 1);
-    let c = quadrant_read(base, width, across, down, 2);
-    let d = quadrant_read(base, width, across, down, 3);
-    [a, b, c, d]
+fn intra_bit(base: &[i16], width: usize, x: u32, y: u32) -> u16 {
+    is_intra(base, address_of(width, x, y)) as u16
 }
 
-// A set with bit i alone, or none.
-const BITS: [u16; 16] = [
-    1,
-    2,
-    4,
-    8,
-    16,
-    32,
-    64,
-    128,
-    256,
-    512,
-    1024,
-    2048,
-    4096,
-    8192,
-    16384,
-    32768,
-];
-
-fn bit(on: bool, i: usize) -> u16
-    requires { ⌜ i < 16 ⌝ }
-    ensures { λ r. ⌜ r ≡ pick on (2 ^ i) 0 ⌝ }
-{
-    if on { BITS[i] } else { 0 }
+fn row_set(base: &[i16], width: usize, across: [u32; 4], y: u32) -> u16 {
+    intra_bit(base, width, across[0], y)
+        + 2 * intra_bit(base, width, across[1], y)
+        + 4 * intra_bit(base, width, across[2], y)
+        + 8 * intra_bit(base, width, across[3], y)
 }
 
 // The blocks that read intra macroblocks.
-pub fn intra_set(base: &[i16], width: usize, across: [u32; 4], down: [u32; 4]) -> u16
-    requires { ⌜ Readable width across down (now base) × (width ≤ 256) ⌝ }
-    ensures { λ r. ⌜ r ≡ setBy width across down (now (base .entry)) ⌝ }
-{
-    let mut set: u16 = 0;
-    let mut i: usize = 0;
-    while i < 16 {
-        let x = across[i % 4];
-        let y = down[i / 4];
-        let a = address_of(width, x, y);
-        let b = bit(is_intra(base, a), i);
-        set += b;
-        i += 1;
-    }
-    set
+pub fn intra_set(base: &[i16], width: usize, across: [u32; 4], down: [u32; 4]) -> u16 {
+    row_set(base, width, across, down[0])
+        + 16 * row_set(base, width, across, down[1])
+        + 256 * row_set(base, width, across, down[2])
+        + 4096 * row_set(base, width, across, down[3])
 }

@@ -92,24 +92,16 @@ fn copy(live: [bool; 4], m: [[Motion; 4]; 4]) -> [[Motion; 4]; 4]
     [a, b, c, d]
 }
 
-// ---- Steps 1 to 3, in order.
-// Steps 1 and 2 of quadrant q.
-fn merged_quadrant(set: u16, m: [[Motion; 4]; 4], q: usize) -> [Motion; 4]
-    requires { ⌜ q < 4 ⌝ }
-    ensures { λ r. ⌜ r ≡ merged (filled (clearOf set q) (getD m q [])) ⌝ }
-{
+// ---- Steps 1 and 2 of quadrant q.
+pub fn resolve_quadrant(set: u16, m: [Motion; 4], q: usize) -> [Motion; 4] {
     let clear = clear_of(set, q);
-    let n = m[q];
-    quadrant::merge(quadrant::fill(clear, n))
+    let mut n = m;
+    if !(clear[0] & clear[1] & clear[2] & clear[3]) {
+        n = quadrant::fill(clear, m);
+    }
+    quadrant::merge(n)
 }
 
-pub fn resolve(set: u16, m: [[Motion; 4]; 4]) -> [[Motion; 4]; 4]
-    ensures { λ r. ⌜ r ≡ resolved set m ⌝ }
-{
-    let a = merged_quadrant(set, m, 0);
-    let b = merged_quadrant(set, m, 1);
-    let c = merged_quadrant(set, m, 2);
-    let d = merged_quadrant(set, m, 3);
-    let live = live_of(set);
-    copy(live, [a, b, c, d])
+pub fn copy_intra(set: u16, m: [[Motion; 4]; 4]) -> [[Motion; 4]; 4] {
+    copy(live_of(set), m)
 }

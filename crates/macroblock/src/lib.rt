@@ -12,8 +12,6 @@ ghost use mathlib.Core.Path.{_≡_};
 use definitions::Answer;
 use definitions::Axes;
 use definitions::Axis;
-use definitions::AxisStep;
-use definitions::EnhancementOffset;
 use definitions::EnhancementSample;
 use definitions::Motion;
 use definitions::Named;
@@ -21,43 +19,49 @@ use definitions::Prediction;
 use definitions::Split;
 use definitions::SubSplit;
 use gather::intra_set;
-use gather::motions_read;
+use gather::quadrant_read;
 use geometry::axis_step;
 use geometry::class_of;
 use geometry::is_inside;
+use inherit::copy_intra;
 use inherit::mostly_intra;
-use inherit::resolve;
-use motion::scale_all;
+use inherit::resolve_quadrant;
+use motion::scale_by;
+use motion::scale_motion;
+use records::motion_of;
 use split::choose;
 use write::write_record;
 
-// An axis at a macroblock: whether it is inside there, and then its step (outside, zeros).
+// An axis at a macroblock: whether it is inside there, and then what is read.
 pub struct AxisRead {
+    pub reads: [u16; 4],
+    pub first: u16,
+    pub two: bool,
     pub inside: bool,
-    pub step: AxisStep,
 }
 
 // Column or row x of a picture.
-pub fn axis_read(a: Axis, x: u32) -> AxisRead
-    requires { ⌜ AcceptedAxis a × (x < 256) ⌝ }
-    ensures { λ r. ⌜ r ≡ readOf a x ⌝ }
-{
+pub fn axis_read(a: Axis, x: u32) -> AxisRead {
     let p = EnhancementSample(16 * x);
     if is_inside(a, p) {
         let step = axis_step(a, p);
-        return AxisRead { inside: true, step };
+        let r = step.reads;
+        return AxisRead {
+            reads: [r[0] as u16, r[1] as u16, r[2] as u16, r[3] as u16],
+            first: step.first as u16,
+            two: step.two,
+            inside: true,
+        };
     }
-    let step = AxisStep {
-        k: 0,
-        border: EnhancementOffset(0),
-        border8: EnhancementOffset(0),
+    nowhere()
+}
+
+pub fn nowhere() -> AxisRead {
+    AxisRead {
+        reads: [0; 4],
         first: 0,
         two: false,
-        reads: [0; 4],
-    };
-    AxisRead {
         inside: false,
-        step,
     }
 }
 
@@ -132,28 +136,51 @@ fn write_unused(out: &mut [i16], kind: u8)
 }
 
 // ---- Inside
-fn named_of(h: AxisStep, v: AxisStep) -> Named
+fn named_of(h: AxisRead, v: AxisRead) -> Named
     ensures { λ r. ⌜ r ≡ namedBy h v ⌝ }
 {
     Named {
         class: class_of(h.two, v.two),
-        column: h.first,
-        row: v.first,
+        column: h.first as u32,
+        row: v.first as u32,
     }
 }
 
-// Steps 1 to 4: the motions of the blocks.
-fn motions_made(g: Axes, base: &[i16], h: AxisStep, v: AxisStep, set: u16) -> [[Motion; 4]; 4]
-    requires { ⌜ Ready g h v (now base) × (set ≡ setBy (macroblocks (baseSize (g .horizontal))) (h .reads) (v .reads) (now base)) ⌝ }
-    ensures { λ r. ⌜ r ≡ motionsBy g h v (now (base .entry)) ⌝ }
-{
-    let width = (g.horizontal.base.0 / 16) as usize;
-    let across = h.reads;
-    let down = v.reads;
-    scale_all(g, resolve(set, motions_read(base, width, across, down)))
+fn quadrant_made(
+    base: &[i16],
+    width: usize,
+    x0: u32,
+    x1: u32,
+    y0: u32,
+    y1: u32,
+    set: u16,
+    q: usize,
+) -> [Motion; 4] {
+    let m = quadrant_read(base, width, x0, x1, y0, y1);
+    resolve_quadrant(set, m, q)
 }
 
-fn make(g: Axes, base: &[i16], h: AxisStep, v: AxisStep, out: &mut [i16]) -> Answer
+fn motions_made(g: Axes, base: &[i16], h: AxisRead, v: AxisRead, set: u16) -> [[Motion; 4]; 4] {
+    let width = (g.horizontal.base.0 / 16) as usize;
+    let x0 = h.reads[0] as u32;
+    let x1 = h.reads[1] as u32;
+    let x2 = h.reads[2] as u32;
+    let x3 = h.reads[3] as u32;
+    let y0 = v.reads[0] as u32;
+    let y1 = v.reads[1] as u32;
+    let y2 = v.reads[2] as u32;
+    let y3 = v.reads[3] as u32;
+    let a = quadrant_made(base, width, x0, x1, y0, y1, set, 0);
+    let b = quadrant_made(base, width, x2, x3, y0, y1, set, 1);
+    let c = quadrant_made(base, width, x0, x1, y2, y3, set, 2);
+    let d = quadrant_made(base, width, x2, x3, y2, y3, set, 3);
+    if set == 0 {
+        return [a, b, c, d];
+    }
+    copy_intra(set, [a, b, c, d])
+}
+
+fn make(g: Axes, base: &[i16], h: AxisRead, v: AxisRead, out: &mut [i16]) -> Answer
     requires { ⌜ Ready g h v (now base) × (length (now out) ≡ 77) ⌝ }
     ensures answer { λ r. ⌜ r ≡ madeBy g h v (now (base .entry)) .answer ⌝ }
     ensures written { λ r. ⌜ now (out .exit) ≡ madeBy g h v (now (base .entry)) .written ⌝ }
@@ -162,14 +189,43 @@ fn make(g: Axes, base: &[i16], h: AxisStep, v: AxisStep, out: &mut [i16]) -> Ans
     let across = h.reads;
     let down = v.reads;
     let named = named_of(h, v);
-    let set = intra_set(base, width, across, down);
+    let mut set: u16 = 0;
+    if h.two | v.two {
+        set = intra_set(
+            base,
+            width,
+            [
+                across[0] as u32,
+                across[1] as u32,
+                across[2] as u32,
+                across[3] as u32,
+            ],
+            [
+                down[0] as u32,
+                down[1] as u32,
+                down[2] as u32,
+                down[3] as u32,
+            ],
+        );
+    } else {
+        let a = v.first as usize * width + h.first as usize;
+        let kind = base[77 * a];
+        if kind == 0 {
+            set = 65535;
+        }
+        if kind == 1 {
+            let m = scale_motion(g, motion_of(base, a, 0));
+            write_split(out, Split::S16x16, [[m; 4]; 4]);
+            return Answer::Inherited(named, Split::S16x16);
+        }
+    }
     if mostly_intra(set) {
         write_unused(out, 0);
         return Answer::Intra(named);
     }
     let m = motions_made(g, base, h, v, set);
     let s = choose(m);
-    write_split(out, s, m);
+    write_split(out, s, scale_by(g, s, m));
     Answer::Inherited(named, s)
 }
 
@@ -180,9 +236,7 @@ pub fn place(g: Axes, base: &[i16], h: AxisRead, v: AxisRead, out: &mut [i16]) -
     ensures written { λ r. ⌜ now (out .exit) ≡ placedBy g h v (now (base .entry)) .written ⌝ }
 {
     if h.inside & v.inside {
-        let across = h.step;
-        let down = v.step;
-        return make(g, base, across, down, out);
+        return make(g, base, h, v, out);
     }
     write_unused(out, 5);
     Answer::Outside

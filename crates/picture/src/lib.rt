@@ -22,6 +22,7 @@ use geometry::Checked;
 use geometry::Geometry;
 use macroblock::AxisRead;
 use macroblock::axis_read;
+use macroblock::nowhere;
 use macroblock::place;
 use records::check;
 use upsample::base_count;
@@ -34,9 +35,9 @@ fn axis_reads(a: Axis) -> [AxisRead; 256]
     requires { ⌜ AcceptedAxis a ⌝ }
     ensures { λ r. ⌜ AxisReads a 256 r ⌝ }
 {
-    let mut reads = [axis_read(a, 0); 256];
+    let mut reads = [nowhere(); 256];
     let mut x: u32 = 0;
-    while x < 256 {
+    while x < a.full.0 / 16 {
         reads[x as usize] = axis_read(a, x);
         x += 1;
     }
@@ -79,9 +80,7 @@ fn fill(g: Axes, base: &[i16], out: &mut [i16]) -> Counts
     ensures counts { λ r. ⌜ r ≡ countsOf (upTo (fullCount g) (madeAt g (now (base .entry)))) ⌝ }
     ensures words { λ r. ⌜ now (out .exit) ≡ forEach (upTo (fullCount g) (madeAt g (now (base .entry)))) (λ m. m .written) ⌝ }
 {
-    let across = axis_reads(g.horizontal);
-    let down = axis_reads(g.vertical);
-    let width = (g.horizontal.full.0 / 16) as usize;
+    let width = g.horizontal.full.0 / 16;
     let total = full_count(g);
     let mut counts = Counts {
         inherited: 0,
@@ -89,14 +88,25 @@ fn fill(g: Axes, base: &[i16], out: &mut [i16]) -> Counts
         outside: 0,
     };
     let mut a: usize = 0;
+    let mut x: u32 = 0;
+    let mut y: u32 = 0;
+    let mut v = nowhere();
+    let across = axis_reads(g.horizontal);
     while a < total {
+        if x == 0 {
+            v = axis_read(g.vertical, y);
+        }
+        let h = across[x as usize];
         let from = RECORD_WORDS * a;
         let to = from + RECORD_WORDS;
-        let h = across[a % width];
-        let v = down[a / width];
         let answer = place(g, base, h, v, &mut out[from..to]);
         counts = count(counts, answer);
         a += 1;
+        x += 1;
+        if x == width {
+            x = 0;
+            y += 1;
+        }
     }
     counts
 }

@@ -57,61 +57,53 @@ fn is_used(p: Prediction) -> bool
     p.reference != -1
 }
 
-fn is_lower(p: Prediction, q: Prediction) -> bool
-    ensures { λ r. ⌜ r ≡ ltZ (p .reference) (q .reference) ⌝ }
-{
-    p.reference < q.reference
-}
-
-fn lower_of(p: Prediction, q: Prediction) -> Prediction
-    ensures { λ r. ⌜ r ≡ lowerOf p q ⌝ }
-{
-    if is_used(p) {
-        if is_used(q) {
-            if is_lower(q, p) {
-                return q;
-            }
-        }
-        return p;
+fn lower_of(a: i16, b: i16) -> i16 {
+    if (a == -1) | ((b != -1) & (b < a)) {
+        b
+    } else {
+        a
     }
-    q
 }
 
-fn lowest_of(p: [Prediction; 4]) -> Prediction
-    ensures { λ r. ⌜ r ≡ lowestOf p ⌝ }
-{
-    let a = lower_of(p[0], p[1]);
-    let b = lower_of(p[2], p[3]);
+fn lowest_of(p: [Prediction; 4]) -> i16 {
+    let a = lower_of(p[0].reference, p[1].reference);
+    let b = lower_of(p[2].reference, p[3].reference);
     lower_of(a, b)
 }
 
-fn having_of(p: [Prediction; 4], r: Prediction) -> [bool; 4]
-    ensures { λ b. ⌜ b ≡ having p (r .reference) ⌝ }
-{
+fn having_of(p: [Prediction; 4], r: i16) -> [bool; 4] {
     [
-        motion::same_reference(p[0], r),
-        motion::same_reference(p[1], r),
-        motion::same_reference(p[2], r),
-        motion::same_reference(p[3], r),
+        p[0].reference == r,
+        p[1].reference == r,
+        p[2].reference == r,
+        p[3].reference == r,
     ]
 }
 
-fn with_reference(r: Prediction, p: Prediction) -> Prediction
-    ensures { λ b. ⌜ b ≡ withReference (r .reference) p ⌝ }
-{
+fn with_reference(r: i16, p: Prediction) -> Prediction {
     Prediction {
-        reference: r.reference,
+        reference: r,
         x: p.x,
         y: p.y,
     }
 }
 
 // Block k's part of a merged list: r with the vector of a block that had r.
-fn merged_at(p: [Prediction; 4], had: [bool; 4], r: Prediction, k: usize) -> Prediction
-    requires { ⌜ k < 4 ⌝ }
-    ensures { λ b. ⌜ b ≡ withReference (r .reference) (getD p (source had k) zeroPrediction) ⌝ }
-{
-    with_reference(r, p[source_of(had, k)])
+// The word of the first that had r: own, horizontal, vertical, diagonal.
+fn word_of(own: bool, h: bool, v: bool, d: bool, w: i16, wh: i16, wv: i16, wd: i16) -> i16 {
+    if own {
+        return w;
+    }
+    if h {
+        return wh;
+    }
+    if v {
+        return wv;
+    }
+    if d {
+        return wd;
+    }
+    w
 }
 
 fn unused_list() -> Prediction
@@ -124,17 +116,38 @@ fn unused_list() -> Prediction
     }
 }
 
-fn merge_list(p: [Prediction; 4]) -> [Prediction; 4]
-    ensures { λ r. ⌜ r ≡ mergedList p ⌝ }
-{
-    let r = lowest_of(p);
-    if is_used(r) {
-        let had = having_of(p, r);
-        let a = merged_at(p, had, r, 0);
-        let b = merged_at(p, had, r, 1);
-        let c = merged_at(p, had, r, 2);
-        let d = merged_at(p, had, r, 3);
-        return [a, b, c, d];
+fn merge_list(p: Prediction, q: Prediction, s: Prediction, t: Prediction) -> [Prediction; 4] {
+    let r = lower_of(
+        lower_of(p.reference, q.reference),
+        lower_of(s.reference, t.reference),
+    );
+    if r != -1 {
+        let a = p.reference == r;
+        let b = q.reference == r;
+        let c = s.reference == r;
+        let d = t.reference == r;
+        return [
+            Prediction {
+                reference: r,
+                x: word_of(a, b, c, d, p.x, q.x, s.x, t.x),
+                y: word_of(a, b, c, d, p.y, q.y, s.y, t.y),
+            },
+            Prediction {
+                reference: r,
+                x: word_of(b, a, d, c, q.x, p.x, t.x, s.x),
+                y: word_of(b, a, d, c, q.y, p.y, t.y, s.y),
+            },
+            Prediction {
+                reference: r,
+                x: word_of(c, d, a, b, s.x, t.x, p.x, q.x),
+                y: word_of(c, d, a, b, s.y, t.y, p.y, q.y),
+            },
+            Prediction {
+                reference: r,
+                x: word_of(d, c, b, a, t.x, s.x, q.x, p.x),
+                y: word_of(d, c, b, a, t.y, s.y, q.y, p.y),
+            },
+        ];
     }
     let n = unused_list();
     [n, n, n, n]
@@ -177,11 +190,33 @@ fn joined_at(p: [Prediction; 4], q: [Prediction; 4], k: usize) -> Motion
     Motion { list0: a, list1: b }
 }
 
+fn is_settled_list(p: Prediction, q: Prediction, r: Prediction, s: Prediction) -> bool {
+    motion::same_reference(p, q) & motion::same_reference(p, r) & motion::same_reference(p, s)
+}
+
+pub fn is_settled(m: [Motion; 4]) -> bool {
+    let a = m[0];
+    let b = m[1];
+    let c = m[2];
+    let d = m[3];
+    is_settled_list(a.list0, b.list0, c.list0, d.list0)
+        & is_settled_list(a.list1, b.list1, c.list1, d.list1)
+}
+
 pub fn merge(m: [Motion; 4]) -> [Motion; 4]
     ensures { λ r. ⌜ r ≡ merged m ⌝ }
 {
-    let p = merge_list(first_lists(m));
-    let q = merge_list(second_lists(m));
+    if is_settled(m) {
+        return m;
+    }
+    merge_apart(m)
+}
+
+fn merge_apart(m: [Motion; 4]) -> [Motion; 4]
+    ensures { λ r. ⌜ r ≡ merged m ⌝ }
+{
+    let p = merge_list(m[0].list0, m[1].list0, m[2].list0, m[3].list0);
+    let q = merge_list(m[0].list1, m[1].list1, m[2].list1, m[3].list1);
     let a = joined_at(p, q, 0);
     let b = joined_at(p, q, 1);
     let c = joined_at(p, q, 2);

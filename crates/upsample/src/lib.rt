@@ -12,7 +12,6 @@ ghost use Rattle.upsample.specs.Staged.{AcceptedAxes, InBase, Placed, ax
 ghost use lib.ListN.{length};
 ghost use mathlib.Core.Path.{_≡_};
 use definitions::Axes;
-use definitions::AxisStep;
 use definitions::EnhancementSample;
 use definitions::MacroblockReply;
 use definitions::Numbers;
@@ -20,6 +19,7 @@ use definitions::Refusal;
 use definitions::Verdict;
 use geometry::Checked;
 use geometry::Geometry;
+use macroblock::AxisRead;
 use macroblock::axis_read;
 use macroblock::place;
 use records::check;
@@ -65,12 +65,12 @@ fn check_row(g: Axes, base: &[i16], first: u32, two: bool, row: u32) -> Verdict
     check(base, a, a + 1)
 }
 
-fn check_read(g: Axes, base: &[i16], h: AxisStep, v: AxisStep) -> Verdict
+fn check_read(g: Axes, base: &[i16], h: AxisRead, v: AxisRead) -> Verdict
     requires { ⌜ (baseSize (g .horizontal) ≤ 4096) × (v .first < 65536) × InBase (now base) (addressesOf g (namedBy h v)) ⌝ }
     ensures { λ r. ⌜ r ≡ verdictOf (recordTests (now (base .entry)) (addressesOf g (namedBy h v))) ⌝ }
 {
-    let column = h.first;
-    let row = v.first;
+    let column = h.first as u32;
+    let row = v.first as u32;
     let columns = h.two;
     if v.two {
         return match check_row(g, base, column, columns, row) {
@@ -97,9 +97,7 @@ fn placed_macroblock(
     let h = axis_read(g.horizontal, column);
     let v = axis_read(g.vertical, row);
     if h.inside & v.inside {
-        let across = h.step;
-        let down = v.step;
-        return match check_read(g, base, across, down) {
+        return match check_read(g, base, h, v) {
             Verdict::Accepted => MacroblockReply::Answered(place(g, base, h, v, out)),
             Verdict::Refused(r) => MacroblockReply::Refused(r),
         };
