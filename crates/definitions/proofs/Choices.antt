@@ -160,3 +160,12 @@ four-at f d = each (λ k. getD (four f) k d ≡ f k) refl refl refl refl
 
 pub four-same : {A : Type 0} {a b c d e f g h : A} → a ≡ e → b ≡ f → c ≡ g → d ≡ h → (a ∷ b ∷ c ∷ d ∷ []) ≡ (e ∷ f ∷ g ∷ h ∷ [])
 four-same p q r s = λ i. p i ∷ q i ∷ r i ∷ s i ∷ []
+
+-- a list of four is its members
+pub four-is : {A : Type 0} (l : List A) (d : A) → length l ≡ 4 → l ≡ four (λ k. getD l k d)
+four-is [] d h = absurd (omega arith)
+four-is (a ∷ []) d h = absurd (omega arith)
+four-is (a ∷ b ∷ []) d h = absurd (omega arith)
+four-is (a ∷ b ∷ c ∷ []) d h = absurd (omega arith)
+four-is (a ∷ b ∷ c ∷ e ∷ []) d h = refl
+four-is (a ∷ b ∷ c ∷ e ∷ f ∷ l) d h = absurd (omega arith)

@@ -18,7 +18,7 @@ use Rattle.definitions.specs.Tests.{minus, eqZ, four}
 use Rattle.definitions.specs.Splits.{rasterOf}
 use Rattle.definitions.specs.Record.{used}
 use Rattle.definitions.specs.Inheriting.{marked, zeroPrediction, zeroMotion, at, horizontal, vertical, diagonal, source, clearOf, filled, lower, referenceAt, lowest, having, withReference, unused, mergedList, merged, someOf, liveOf, copiedFrom, copied, resolved}
-use Rattle.definitions.proofs.Choices.{yes, no, pick-cases, or-true, or-left, or-right, or-false, eqZ-true, eqZ-refl, each, four-at}
+use Rattle.definitions.proofs.Choices.{yes, no, pick-cases, or-true, or-left, or-right, or-false, eqZ-true, eqZ-refl, each, four-at, four-same}
 
 -- ---- neighbours
 pub horizontal-below : (k : ℕ) → k < 4 → horizontal k < 4
@@ -190,6 +190,25 @@ module _ (p : List Prediction) (k : ℕ) (h : k < 4) where
       by true u = subst P (sym (merged-with u ∙ from)) (a vectorFrom (source-below (having p (lowest p)) k h))
       by false u = subst P (sym (merged-none u)) n
 
+  -- where the four have one reference, and this part is unused or empty, merging leaves it
+  merged-leaves : ((j : ℕ) → j < 4 → referenceAt p j ≡ referenceAt p 0) → (used (referenceAt p k) ≡ false → getD p k zeroPrediction ≡ unused)
+      → mergedAt ≡ getD p k zeroPrediction
+  unfolding having source
+  merged-leaves one empty = by (used (lowest p)) refl
+    where
+      is : lowest p ≡ referenceAt p k
+      is = vector-had ∙ (one vectorFrom (source-below (having p (lowest p)) k h) ∙ sym (one k h))
+
+      here : vectorFrom ≡ k
+      here = yes _ _ (four-at (λ i. eqZ (referenceAt p i) (lowest p)) false k h ∙ (ap (eqZ (referenceAt p k)) is ∙ eqZ-refl (referenceAt p k)))
+
+      by : (b : Bool) → used (lowest p) ≡ b → mergedAt ≡ getD p k zeroPrediction
+      by true u =
+          merged-with u
+          ∙ (ap (λ (s : ℕ). withReference (lowest p) (getD p s zeroPrediction)) here
+          ∙ (λ i. record { reference = is i; x = getD p k zeroPrediction .x; y = getD p k zeroPrediction .y }))
+      by false u = merged-none u ∙ sym (empty (ap used (sym is) ∙ u))
+
 -- ---- a quadrant: both lists
 -- a block uses a list
 abbrev pub usesList : Motion → Bool
@@ -238,6 +257,36 @@ module _ (m : List Motion) where
     zero0 = λ k h e. at0 k h ∙ merged-none (list0Of m) k h (ap used (sym (reference0 k h)) ∙ e);
     zero1 = λ k h e. at1 k h ∙ merged-none (list1Of m) k h (ap used (sym (reference1 k h)) ∙ e);
   }
+
+  -- merging leaves a quadrant that is settled
+  pub settled-merged : Settled m → merged m ≡ four (λ k. getD m k zeroMotion)
+  unfolding merged
+  settled-merged s = four-same (both 0 (omega arith)) (both 1 (omega arith)) (both 2 (omega arith)) (both 3 (omega arith))
+    where
+      in0 : (j : ℕ) → j < 4 → getD (list0Of m) j zeroPrediction ≡ getD m j zeroMotion .list0
+      in0 = four-at (λ i. getD m i zeroMotion .list0) zeroPrediction
+
+      in1 : (j : ℕ) → j < 4 → getD (list1Of m) j zeroPrediction ≡ getD m j zeroMotion .list1
+      in1 = four-at (λ i. getD m i zeroMotion .list1) zeroPrediction
+
+      reference : Prediction → ℤ
+      reference e = e .reference
+
+      left0 : (k : ℕ) → k < 4 → getD (mergedList (list0Of m)) k zeroPrediction ≡ getD m k zeroMotion .list0
+      left0 k h =
+          merged-leaves (list0Of m) k h (λ j l. ap reference (in0 j l) ∙ (s .one0 j l ∙ sym (ap reference (in0 0 (omega arith)))))
+          (λ u. in0 k h ∙ s .zero0 k h (ap (λ (e : Prediction). used (e .reference)) (sym (in0 k h)) ∙ u))
+          ∙ in0 k h
+
+      left1 : (k : ℕ) → k < 4 → getD (mergedList (list1Of m)) k zeroPrediction ≡ getD m k zeroMotion .list1
+      left1 k h =
+          merged-leaves (list1Of m) k h (λ j l. ap reference (in1 j l) ∙ (s .one1 j l ∙ sym (ap reference (in1 0 (omega arith)))))
+          (λ u. in1 k h ∙ s .zero1 k h (ap (λ (e : Prediction). used (e .reference)) (sym (in1 k h)) ∙ u))
+          ∙ in1 k h
+
+      both : (k : ℕ) → k < 4
+          → record { list0 = getD (mergedList (list0Of m)) k zeroPrediction; list1 = getD (mergedList (list1Of m)) k zeroPrediction } ≡ getD m k zeroMotion
+      both k h = let a = left0 k h in let b = left1 k h in λ i. record { list0 = a i; list1 = b i }
 
   merged-both : (P : Prediction → Type 0) → P unused → ((j : ℕ) → j < 4 → Both P (getD m j zeroMotion)) → (k : ℕ) → k < 4 → Both P (getD (merged m) k zeroMotion)
   merged-both P n a k h = (

@@ -1,62 +1,99 @@
 -- What the functions on a list put together is a merged list, and of both lists a merged quadrant. Assumes zeroPrediction.
-use Prim.Native.Nat.{ℕ}
+use Prim.Native.Nat.{ℕ, _<_}
 use mathlib.Core.Path.{_≡_, refl, sym, _∙_, ap}
-use mathlib.Core.Bool.{Bool, true, false}
+use mathlib.Core.Bool.{Bool, true, false, not, _&&_, _||_}
 use mathlib.Core.List.{List, [], _∷_}
 use lib.IntN.{ℤ}
-use lib.ListN.{getD}
+use lib.ListN.{getD, length}
 use lib.Signed.{ltZ}
 use Rattle.definitions.specs.declared.Prediction.{Prediction}
 use Rattle.definitions.specs.declared.Motion.{Motion}
-use Rattle.definitions.specs.Tests.{pick, four}
+use Rattle.definitions.specs.Tests.{pick, eqZ, four}
 use Rattle.definitions.specs.Record.{used}
 use Rattle.definitions.specs.Inheriting.{zeroPrediction, zeroMotion, source, lower, lowest, having, withReference, unused, mergedList, merged}
-use Rattle.definitions.proofs.Choices.{yes, no, four-same}
-use Rattle.quadrant.specs.Lowest.{lowerOf, lowestOf}
+use Rattle.definitions.proofs.Choices.{yes, no, and-true, eqZ-true, each, four-same, four-is}
+use Rattle.definitions.proofs.Steps.{Settled, settled-merged}
+use Rattle.quadrant.specs.Merging.{firstOf, oneReferenceOf, oneReference, AllEmpty}
 
--- the reference that is handed on is the lowest
-lower-is : (p q : Prediction) → lowerOf p q .reference ≡ lower (p .reference) (q .reference)
-unfolding lowerOf lower
-lower-is p q =
-    picked (used (p .reference)) _ _
-    ∙ ap (λ (z : ℤ). pick (used (p .reference)) z (q .reference))
-    (picked (used (q .reference)) _ _ ∙ ap (λ (z : ℤ). pick (used (q .reference)) z (p .reference)) (picked (ltZ (q .reference) (p .reference)) q p))
+-- ---- one list
+-- the lower of two references, by one test
+pub lower-is : (a b : ℤ) → lower a b ≡ pick (not (used a) || (used b && ltZ b a)) b a
+unfolding lower pick
+lower-is a b = by (used a) (used b) refl refl
   where
-    picked : (t : Bool) (a b : Prediction) → pick t a b .reference ≡ pick t (a .reference) (b .reference)
-    picked true a b = ap (λ (e : Prediction). e .reference) (yes a b refl) ∙ sym (yes (a .reference) (b .reference) refl)
-    picked false a b = ap (λ (e : Prediction). e .reference) (no a b refl) ∙ sym (no (a .reference) (b .reference) refl)
+    by : (s t : Bool) → used a ≡ s → used b ≡ t → pick (used a) (pick (used b) (pick (ltZ b a) b a) a) b ≡ pick (not (used a) || (used b && ltZ b a)) b a
+    by true true p q = rw (p, q)
+    by true false p q = rw (p, q)
+    by false t p q = rw p
 
-lowest-is : (p : List Prediction) → lowestOf p .reference ≡ lowest p
-unfolding lowestOf lowest
-lowest-is p =
-    let a = lower-is (getD p 0 zeroPrediction) (getD p 1 zeroPrediction) in
-    let b = lower-is (getD p 2 zeroPrediction) (getD p 3 zeroPrediction) in
-    lower-is _ _ ∙ (λ i. lower (a i) (b i))
+-- what is read of the first that is good is the first of what is read
+first-map : {A B : Type 0} (f : A → B) (own h v d : Bool) (a ah av ad : A) → firstOf own h v d (f a) (f ah) (f av) (f ad) ≡ f (firstOf own h v d a ah av ad)
+unfolding firstOf pick
+first-map f true h v d a ah av ad = refl
+first-map f false true v d a ah av ad = refl
+first-map f false false true d a ah av ad = refl
+first-map f false false false true a ah av ad = refl
+first-map f false false false false a ah av ad = refl
 
--- a list with r used, and with none used
-abbrev takenAt : List Prediction → List Bool → ℤ → ℕ → Prediction
-takenAt p had r k = withReference r (getD p (source had k) zeroPrediction)
+module _ (p q s t : Prediction) (r : ℤ) (is : r ≡ lower (lower (p .reference) (q .reference)) (lower (s .reference) (t .reference))) where
+  abbrev list : List Prediction
+  list = p ∷ q ∷ s ∷ t ∷ []
 
-pub merged-used : (p : List Prediction) (had : List Bool) {r : Prediction} → r ≡ lowestOf p → used (r .reference) ≡ true → had ≡ having p (r .reference) → {a b c d : Prediction}
-    → a ≡ takenAt p had (r .reference) 0 → b ≡ takenAt p had (r .reference) 1 → c ≡ takenAt p had (r .reference) 2 → d ≡ takenAt p had (r .reference) 3
-    → (a ∷ b ∷ c ∷ d ∷ []) ≡ mergedList p
-unfolding mergedList
-merged-used p had {r} e u h ea eb ec ed =
-    let is : r .reference ≡ lowest p = ap (λ (x : Prediction). x .reference) e ∙ lowest-is p in
-    let same : had ≡ having p (lowest p) = h ∙ ap (having p) is in
-    four-same ea eb ec ed ∙ ((λ i. four (takenAt p (same i) (is i))) ∙ sym (yes _ _ (ap used (sym is) ∙ u)))
+  block : ℕ → Prediction
+  block j = getD list j zeroPrediction
 
-pub merged-unused : (p : List Prediction) {r n : Prediction} → r ≡ lowestOf p → used (r .reference) ≡ false → n ≡ unused → (n ∷ n ∷ n ∷ n ∷ []) ≡ mergedList p
-unfolding mergedList
-merged-unused p {r} e u h =
-    let is : r .reference ≡ lowest p = ap (λ (x : Prediction). x .reference) e ∙ lowest-is p in
-    four-same h h h h ∙ sym (no _ _ (ap used (sym is) ∙ u))
+  r-lowest : r ≡ lowest list
+  unfolding lowest
+  r-lowest = is
 
--- both lists
+  pub merged-used : used r ≡ true → {hp hq hs ht : Bool} → hp ≡ eqZ (p .reference) r → hq ≡ eqZ (q .reference) r → hs ≡ eqZ (s .reference) r → ht ≡ eqZ (t .reference) r
+      → {a b c d : Prediction} → a ≡ withReference r (firstOf hp hq hs ht p q s t) → b ≡ withReference r (firstOf hq hp ht hs q p t s)
+      → c ≡ withReference r (firstOf hs ht hp hq s t p q) → d ≡ withReference r (firstOf ht hs hq hp t s q p)
+      → (a ∷ b ∷ c ∷ d ∷ []) ≡ mergedList list
+  unfolding mergedList block source having firstOf
+  merged-used u {hp} {hq} {hs} {ht} ep eq es et ea eb ec ed =
+      let taken : ℤ → List Prediction = λ z. four (λ k. withReference z (getD list (source (having list z) k) zeroPrediction)) in
+      let a = ap (withReference r) (sym (first-map block hp hq hs ht 0 1 2 3)) in
+      let b = ap (withReference r) (sym (first-map block hq hp ht hs 1 0 3 2)) in
+      let c = ap (withReference r) (sym (first-map block hs ht hp hq 2 3 0 1)) in
+      let d = ap (withReference r) (sym (first-map block ht hs hq hp 3 2 1 0)) in
+      let at : ℕ → Prediction = λ j. withReference r (block j) in
+      four-same
+      (ea ∙ (sym a ∙ (λ i. at (firstOf (ep i) (eq i) (es i) (et i) 0 1 2 3))))
+      (eb ∙ (sym b ∙ (λ i. at (firstOf (eq i) (ep i) (et i) (es i) 1 0 3 2))))
+      (ec ∙ (sym c ∙ (λ i. at (firstOf (es i) (et i) (ep i) (eq i) 2 3 0 1))))
+      (ed ∙ (sym d ∙ (λ i. at (firstOf (et i) (es i) (eq i) (ep i) 3 2 1 0))))
+      ∙ (ap taken r-lowest ∙ sym (yes _ _ (ap used (sym r-lowest) ∙ u)))
+
+  pub merged-unused : used r ≡ false → {n : Prediction} → n ≡ unused → (n ∷ n ∷ n ∷ n ∷ []) ≡ mergedList list
+  unfolding mergedList
+  merged-unused u h = four-same h h h h ∙ sym (no _ _ (ap used (sym r-lowest) ∙ u))
+
+-- ---- both lists
 abbrev paired : List Prediction → List Prediction → List Motion
 paired p q = four (λ k. record { list0 = getD p k zeroPrediction; list1 = getD q k zeroPrediction })
 
-pub merged-both : (m : List Motion) (a b p q : List Prediction) → a ≡ four (λ k. getD m k zeroMotion .list0) → p ≡ mergedList a
-    → b ≡ four (λ k. getD m k zeroMotion .list1) → q ≡ mergedList b → paired p q ≡ merged m
+pub merged-both : (m : List Motion) {p q : List Prediction} → p ≡ mergedList (four (λ k. getD m k zeroMotion .list0)) → q ≡ mergedList (four (λ k. getD m k zeroMotion .list1))
+    → paired p q ≡ merged m
 unfolding merged
-merged-both m a b p q ea ep eb eq = let x = ep ∙ ap mergedList ea in let y = eq ∙ ap mergedList eb in λ i. paired (x i) (y i)
+merged-both m x y = λ i. paired (x i) (y i)
+
+-- ---- nothing to merge
+one-each : (f : ℕ → Prediction) → oneReferenceOf (f 0) (f 1) (f 2) (f 3) ≡ true → (k : ℕ) → k < 4 → f k .reference ≡ f 0 .reference
+one-each f e =
+    let ab = and-true (eqZ (f 1 .reference) (f 0 .reference) && eqZ (f 2 .reference) (f 0 .reference)) (eqZ (f 3 .reference) (f 0 .reference)) e in
+    let a = and-true (eqZ (f 1 .reference) (f 0 .reference)) (eqZ (f 2 .reference) (f 0 .reference)) (ab .0) in
+    each (λ k. f k .reference ≡ f 0 .reference) refl (eqZ-true _ _ (a .0)) (eqZ-true _ _ (a .1)) (eqZ-true _ _ (ab .1))
+
+pub merged-settled : (m : List Motion) → length m ≡ 4 → oneReference m ≡ true → AllEmpty m → m ≡ merged m
+unfolding oneReference
+merged-settled m l e empty =
+    let first : ℕ → Prediction = λ k. getD m k zeroMotion .list0 in
+    let second : ℕ → Prediction = λ k. getD m k zeroMotion .list1 in
+    let both = and-true (oneReferenceOf (first 0) (first 1) (first 2) (first 3)) (oneReferenceOf (second 0) (second 1) (second 2) (second 3)) e in
+    four-is m zeroMotion l ∙ sym (settled-merged m (record {
+      one0 = one-each first (both .0);
+      one1 = one-each second (both .1);
+      zero0 = λ k h. empty k h .0;
+      zero1 = λ k h. empty k h .1;
+    }))

@@ -1,2 +1,2 @@
--- What the functions on one list of a quadrant hand on.
-pub mod Lowest
+-- What the functions of step 2 hand on, and ask.
+pub mod Merging

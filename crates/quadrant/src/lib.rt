@@ -1,11 +1,11 @@
 // Steps 1 and 2 of "Inheriting", on one quadrant of four blocks in raster order, 0 1 above 2 3.
 ghost use Prim.Native.Nat.{_<_};
-ghost use Rattle.definitions.specs.Inheriting.{filled, having, merged, mergedList, zeroMotion, zeroPrediction, source, unused, withReference};
+ghost use Rattle.definitions.specs.Inheriting.{filled, lower, merged, mergedList, source, unused, withReference, zeroPrediction};
 ghost use Rattle.definitions.specs.Record.{used};
-ghost use Rattle.definitions.specs.Tests.{four};
-ghost use Rattle.quadrant.specs.Lowest.{lowerOf, lowestOf};
+ghost use Rattle.quadrant.specs.Merging.{AllEmpty, firstOf, oneReference, oneReferenceOf};
 ghost use lib.ListN.{getD};
 ghost use lib.Signed.{ltZ};
+ghost use mathlib.Core.List.{[], _∷_};
 ghost use mathlib.Core.Path.{_≡_};
 use definitions::Motion;
 use definitions::Prediction;
@@ -51,59 +51,66 @@ pub fn fill(clear: [bool; 4], m: [Motion; 4]) -> [Motion; 4]
 }
 
 // ---- Step 2: one reference for the quadrant in each list.
+// Which reference is lower, and whose vector is taken, cannot be foretold: where a test can be made without a branch, it is.
 fn is_used(p: Prediction) -> bool
     ensures { λ r. ⌜ r ≡ used (p .reference) ⌝ }
 {
     p.reference != -1
 }
 
-fn lower_of(a: i16, b: i16) -> i16 {
-    if (a == -1) | ((b != -1) & (b < a)) {
-        b
-    } else {
-        a
+fn is_lower(p: Prediction, q: Prediction) -> bool
+    ensures { λ r. ⌜ r ≡ ltZ (p .reference) (q .reference) ⌝ }
+{
+    p.reference < q.reference
+}
+
+// The one with the lower used reference: of it only the reference is read.
+fn lower_of(p: Prediction, q: Prediction) -> Prediction
+    ensures { λ r. ⌜ r .reference ≡ lower (p .reference) (q .reference) ⌝ }
+{
+    if !is_used(p) | (is_used(q) & is_lower(q, p)) {
+        return q;
     }
+    p
 }
 
-fn lowest_of(p: [Prediction; 4]) -> i16 {
-    let a = lower_of(p[0].reference, p[1].reference);
-    let b = lower_of(p[2].reference, p[3].reference);
-    lower_of(a, b)
-}
-
-fn having_of(p: [Prediction; 4], r: i16) -> [bool; 4] {
-    [
-        p[0].reference == r,
-        p[1].reference == r,
-        p[2].reference == r,
-        p[3].reference == r,
-    ]
-}
-
-fn with_reference(r: i16, p: Prediction) -> Prediction {
+fn with_reference(r: Prediction, p: Prediction) -> Prediction
+    ensures { λ b. ⌜ b ≡ withReference (r .reference) p ⌝ }
+{
     Prediction {
-        reference: r,
+        reference: r.reference,
         x: p.x,
         y: p.y,
     }
 }
 
-// Block k's part of a merged list: r with the vector of a block that had r.
-// The word of the first that had r: own, horizontal, vertical, diagonal.
-fn word_of(own: bool, h: bool, v: bool, d: bool, w: i16, wh: i16, wv: i16, wd: i16) -> i16 {
+// A block's part of a merged list: r with the vector of the first that had r, of the block itself, its horizontal, vertical and diagonal neighbour.
+fn taken(
+    r: Prediction,
+    own: bool,
+    h: bool,
+    v: bool,
+    d: bool,
+    p: Prediction,
+    ph: Prediction,
+    pv: Prediction,
+    pd: Prediction,
+) -> Prediction
+    ensures { λ t. ⌜ t ≡ withReference (r .reference) (firstOf own h v d p ph pv pd) ⌝ }
+{
     if own {
-        return w;
+        return with_reference(r, p);
     }
     if h {
-        return wh;
+        return with_reference(r, ph);
     }
     if v {
-        return wv;
+        return with_reference(r, pv);
     }
     if d {
-        return wd;
+        return with_reference(r, pd);
     }
-    w
+    with_reference(r, p)
 }
 
 fn unused_list() -> Prediction
@@ -116,69 +123,23 @@ fn unused_list() -> Prediction
     }
 }
 
-fn merge_list(p: Prediction, q: Prediction, s: Prediction, t: Prediction) -> [Prediction; 4] {
-    let r = lower_of(
-        lower_of(p.reference, q.reference),
-        lower_of(s.reference, t.reference),
-    );
-    if r != -1 {
-        let a = p.reference == r;
-        let b = q.reference == r;
-        let c = s.reference == r;
-        let d = t.reference == r;
-        return [
-            Prediction {
-                reference: r,
-                x: word_of(a, b, c, d, p.x, q.x, s.x, t.x),
-                y: word_of(a, b, c, d, p.y, q.y, s.y, t.y),
-            },
-            Prediction {
-                reference: r,
-                x: word_of(b, a, d, c, q.x, p.x, t.x, s.x),
-                y: word_of(b, a, d, c, q.y, p.y, t.y, s.y),
-            },
-            Prediction {
-                reference: r,
-                x: word_of(c, d, a, b, s.x, t.x, p.x, q.x),
-                y: word_of(c, d, a, b, s.y, t.y, p.y, q.y),
-            },
-            Prediction {
-                reference: r,
-                x: word_of(d, c, b, a, t.x, s.x, q.x, p.x),
-                y: word_of(d, c, b, a, t.y, s.y, q.y, p.y),
-            },
-        ];
+fn merge_list(p: Prediction, q: Prediction, s: Prediction, t: Prediction) -> [Prediction; 4]
+    ensures { λ r. ⌜ r ≡ mergedList (p ∷ q ∷ s ∷ t ∷ []) ⌝ }
+{
+    let r = lower_of(lower_of(p, q), lower_of(s, t));
+    if is_used(r) {
+        let hp = motion::same_reference(p, r);
+        let hq = motion::same_reference(q, r);
+        let hs = motion::same_reference(s, r);
+        let ht = motion::same_reference(t, r);
+        let a = taken(r, hp, hq, hs, ht, p, q, s, t);
+        let b = taken(r, hq, hp, ht, hs, q, p, t, s);
+        let c = taken(r, hs, ht, hp, hq, s, t, p, q);
+        let d = taken(r, ht, hs, hq, hp, t, s, q, p);
+        return [a, b, c, d];
     }
     let n = unused_list();
     [n, n, n, n]
-}
-
-fn first_lists(m: [Motion; 4]) -> [Prediction; 4]
-    ensures { λ r. ⌜ r ≡ four (λ k. getD m k zeroMotion .list0) ⌝ }
-{
-    let a = m[0];
-    let b = m[1];
-    let c = m[2];
-    let d = m[3];
-    let p = a.list0;
-    let q = b.list0;
-    let r = c.list0;
-    let s = d.list0;
-    [p, q, r, s]
-}
-
-fn second_lists(m: [Motion; 4]) -> [Prediction; 4]
-    ensures { λ r. ⌜ r ≡ four (λ k. getD m k zeroMotion .list1) ⌝ }
-{
-    let a = m[0];
-    let b = m[1];
-    let c = m[2];
-    let d = m[3];
-    let p = a.list1;
-    let q = b.list1;
-    let r = c.list1;
-    let s = d.list1;
-    [p, q, r, s]
 }
 
 fn joined_at(p: [Prediction; 4], q: [Prediction; 4], k: usize) -> Motion
@@ -190,36 +151,62 @@ fn joined_at(p: [Prediction; 4], q: [Prediction; 4], k: usize) -> Motion
     Motion { list0: a, list1: b }
 }
 
-fn is_settled_list(p: Prediction, q: Prediction, r: Prediction, s: Prediction) -> bool {
-    motion::same_reference(p, q) & motion::same_reference(p, r) & motion::same_reference(p, s)
-}
-
-pub fn is_settled(m: [Motion; 4]) -> bool {
-    let a = m[0];
-    let b = m[1];
-    let c = m[2];
-    let d = m[3];
-    is_settled_list(a.list0, b.list0, c.list0, d.list0)
-        & is_settled_list(a.list1, b.list1, c.list1, d.list1)
-}
-
-pub fn merge(m: [Motion; 4]) -> [Motion; 4]
+fn merge_both(m: [Motion; 4]) -> [Motion; 4]
     ensures { λ r. ⌜ r ≡ merged m ⌝ }
 {
-    if is_settled(m) {
-        return m;
-    }
-    merge_apart(m)
-}
-
-fn merge_apart(m: [Motion; 4]) -> [Motion; 4]
-    ensures { λ r. ⌜ r ≡ merged m ⌝ }
-{
-    let p = merge_list(m[0].list0, m[1].list0, m[2].list0, m[3].list0);
-    let q = merge_list(m[0].list1, m[1].list1, m[2].list1, m[3].list1);
+    let m0 = m[0];
+    let m1 = m[1];
+    let m2 = m[2];
+    let m3 = m[3];
+    let p0 = m0.list0;
+    let p1 = m1.list0;
+    let p2 = m2.list0;
+    let p3 = m3.list0;
+    let q0 = m0.list1;
+    let q1 = m1.list1;
+    let q2 = m2.list1;
+    let q3 = m3.list1;
+    let p = merge_list(p0, p1, p2, p3);
+    let q = merge_list(q0, q1, q2, q3);
     let a = joined_at(p, q, 0);
     let b = joined_at(p, q, 1);
     let c = joined_at(p, q, 2);
     let d = joined_at(p, q, 3);
     [a, b, c, d]
+}
+
+// The four have one reference.
+fn is_one(p: Prediction, q: Prediction, s: Prediction, t: Prediction) -> bool
+    ensures { λ r. ⌜ r ≡ oneReferenceOf p q s t ⌝ }
+{
+    motion::same_reference(q, p) & motion::same_reference(s, p) & motion::same_reference(t, p)
+}
+
+fn is_settled(m: [Motion; 4]) -> bool
+    ensures { λ r. ⌜ r ≡ oneReference m ⌝ }
+{
+    let m0 = m[0];
+    let m1 = m[1];
+    let m2 = m[2];
+    let m3 = m[3];
+    let p0 = m0.list0;
+    let p1 = m1.list0;
+    let p2 = m2.list0;
+    let p3 = m3.list0;
+    let q0 = m0.list1;
+    let q1 = m1.list1;
+    let q2 = m2.list1;
+    let q3 = m3.list1;
+    is_one(p0, p1, p2, p3) & is_one(q0, q1, q2, q3)
+}
+
+// Most quadrants have one reference in each list already.
+pub fn merge(m: [Motion; 4]) -> [Motion; 4]
+    requires { ⌜ AllEmpty m ⌝ }
+    ensures { λ r. ⌜ r ≡ merged m ⌝ }
+{
+    if is_settled(m) {
+        return m;
+    }
+    merge_both(m)
 }

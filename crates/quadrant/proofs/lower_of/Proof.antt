@@ -1,8 +1,11 @@
 -- `quadrant::lower_of` meets its contract. Assumes nothing.
-use mathlib.Core.Path.{sym, _∙_}
+use mathlib.Core.Bool.{not, _&&_, _||_}
+use mathlib.Core.Path.{_≡_, sym, _∙_}
+use lib.Signed.{ltZ}
+use Rattle.definitions.specs.Record.{used}
 use Rattle.definitions.proofs.Choices.{yes, no}
+use Rattle.quadrant.proofs.Merging.{lower-is}
 use borrow.Author.Needs.{needs}
-use Rattle.quadrant.specs.Lowest.{lowerOf}
 use Rattle.quadrant.proofs.lower_of.Statement.{statement}
 use Rattle.quadrant.proofs.lower_of.Tie as tie
 
@@ -15,37 +18,26 @@ is-used-requires-2 c κs = search needs
 is-lower-requires : tie.Need-is-lower-requires
 is-lower-requires c κs = search needs
 
+-- the test is that of `lower-is`
+test : (c : tie.After-is-lower)
+    → (not (c .before .before .is-used .result) || (c .before .is-used2 .result && c .is-lower .result))
+    ≡ (not (used (c .before .before .before .args .p .reference)) || (used (c .before .before .before .args .q .reference) && ltZ (c .before .before .before .args .q .reference) (c .before .before .before .args .p .reference)))
+test c =
+    let a = c .before .before .is-used .ensures in
+    let b = c .before .is-used2 .ensures in
+    let l = c .is-lower .ensures in
+    λ i. not (a i) || (b i && l i)
+
 returns : tie.Need-returns
-unfolding lowerOf
 returns c =
-    let first = c .before .before .before .before in
-    sym (yes _ _ (sym (first .before .is-used .ensures) ∙ first .if1 .taken)
-    ∙ (yes _ _ (sym (c .before .before .before .is-used2 .ensures) ∙ c .before .before .if2 .taken) ∙ yes _ _ (sym (c .before .is-lower .ensures) ∙ c .if3 .taken)))
+    let s = c .before .before .before .before .args in
+    sym (lower-is (s .p .reference) (s .q .reference) ∙ yes _ _ (sym (test (c .before)) ∙ c .if1 .taken))
 
 returns-2 : tie.Need-returns-2
-unfolding lowerOf
 returns-2 c =
-    let first = c .before .before .before .before in
-    sym (yes _ _ (sym (first .before .is-used .ensures) ∙ first .if1 .taken)
-    ∙ (yes _ _ (sym (c .before .before .before .is-used2 .ensures) ∙ c .before .before .if2 .taken) ∙ no _ _ (sym (c .before .is-lower .ensures) ∙ c .if3 .left)))
-
-returns-3 : tie.Need-returns-3
-unfolding lowerOf
-returns-3 c =
-    sym (yes _ _ (sym (c .before .before .before .is-used .ensures) ∙ c .before .before .if1 .taken) ∙ no _ _ (sym (c .before .is-used2 .ensures) ∙ c .if2 .left))
-
-returns-4 : tie.Need-returns-4
-unfolding lowerOf
-returns-4 c = sym (no _ _ (sym (c .before .is-used .ensures) ∙ c .if1 .left))
+    let s = c .before .before .before .before .args in
+    sym (lower-is (s .p .reference) (s .q .reference) ∙ no _ _ (sym (test (c .before)) ∙ c .if1 .left))
 
 pub lower-of-spec : {M : Type 1} → statement M
 lower-of-spec =
-    tie.close
-    (tie.spec
-    is-used-requires
-    is-used-requires-2
-    is-lower-requires
-    returns
-    returns-2
-    returns-3
-    returns-4)
+    tie.close (tie.spec is-used-requires is-used-requires-2 is-lower-requires returns returns-2)

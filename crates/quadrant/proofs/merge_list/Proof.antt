@@ -1,57 +1,84 @@
 -- `quadrant::merge_list` meets its contract. Assumes nothing.
-use mathlib.Core.Path.{sym, _∙_}
+use mathlib.Core.Path.{_≡_, sym, _∙_}
+use Rattle.definitions.specs.Inheriting.{lower}
 use Rattle.quadrant.proofs.Merging.{merged-used, merged-unused}
 use borrow.Author.Needs.{needs}
 use Rattle.quadrant.proofs.merge_list.Statement.{statement}
 use Rattle.quadrant.proofs.merge_list.Tie as tie
 
-lowest-of-requires : tie.Need-lowest-of-requires
-lowest-of-requires c κs = search needs
+lower-of-requires : tie.Need-lower-of-requires
+lower-of-requires c κs = search needs
+
+lower-of-requires-2 : tie.Need-lower-of-requires-2
+lower-of-requires-2 c κs = search needs
+
+lower-of-requires-3 : tie.Need-lower-of-requires-3
+lower-of-requires-3 c κs = search needs
 
 is-used-requires : tie.Need-is-used-requires
 is-used-requires c κs = search needs
 
-having-of-requires : tie.Need-having-of-requires
-having-of-requires c κs = search needs
+same-reference-requires : tie.Need-same-reference-requires
+same-reference-requires c κs = search needs
 
-merged-at-requires : tie.Need-merged-at-requires
-merged-at-requires c κs = search needs
+same-reference-requires-2 : tie.Need-same-reference-requires-2
+same-reference-requires-2 c κs = search needs
 
-merged-at-requires-2 : tie.Need-merged-at-requires-2
-merged-at-requires-2 c κs = search needs
+same-reference-requires-3 : tie.Need-same-reference-requires-3
+same-reference-requires-3 c κs = search needs
 
-merged-at-requires-3 : tie.Need-merged-at-requires-3
-merged-at-requires-3 c κs = search needs
+same-reference-requires-4 : tie.Need-same-reference-requires-4
+same-reference-requires-4 c κs = search needs
 
-merged-at-requires-4 : tie.Need-merged-at-requires-4
-merged-at-requires-4 c κs = search needs
+taken-requires : tie.Need-taken-requires
+taken-requires c κs = search needs
+
+taken-requires-2 : tie.Need-taken-requires-2
+taken-requires-2 c κs = search needs
+
+taken-requires-3 : tie.Need-taken-requires-3
+taken-requires-3 c κs = search needs
+
+taken-requires-4 : tie.Need-taken-requires-4
+taken-requires-4 c κs = search needs
 
 returns : tie.Need-returns
 returns c =
-    let had = c .before .before .before .before in
-    let first = had .before .before .before in
-    merged-used (first .before .args .p) (had .having-of .result) (first .lowest-of .ensures) (sym (had .before .before .is-used .ensures) ∙ had .before .if1 .taken)
-    (had .having-of .ensures) (c .before .before .before .merged-at .ensures) (c .before .before .merged-at2 .ensures) (c .before .merged-at3 .ensures) (c .merged-at4 .ensures)
+    let s = c .before .before .before .before .before .before .before .before .before .before .before .before .before .args in
+    let r = c .before .before .before .before .before .before .before .before .before .before .lower-of3 .result in
+    let low : r .reference ≡ lower (lower (s .p .reference) (s .q .reference)) (lower (s .s .reference) (s .t .reference)) =
+    let a = c .before .before .before .before .before .before .before .before .before .before .before .before .lower-of .ensures in let b = c .before .before .before .before .before .before .before .before .before .before .before .lower-of2 .ensures in c .before .before .before .before .before .before .before .before .before .before .lower-of3 .ensures ∙ (λ i. lower (a i) (b i)) in
+    merged-used (s .p) (s .q) (s .s) (s .t) (r .reference) low (sym (c .before .before .before .before .before .before .before .before .before .is-used .ensures) ∙ c .before .before .before .before .before .before .before .before .if1 .taken)
+    (c .before .before .before .before .before .before .before .same-reference .ensures) (c .before .before .before .before .before .before .same-reference2 .ensures) (c .before .before .before .before .before .same-reference3 .ensures) (c .before .before .before .before .same-reference4 .ensures)
+    (c .before .before .before .taken .ensures) (c .before .before .taken2 .ensures) (c .before .taken3 .ensures) (c .taken4 .ensures)
 
 unused-list-requires : tie.Need-unused-list-requires
 unused-list-requires c κs = search needs
 
 returns-2 : tie.Need-returns-2
 returns-2 c =
-    let first = c .before .before .before in
-    merged-unused (first .before .args .p) (first .lowest-of .ensures) (sym (c .before .before .is-used .ensures) ∙ c .before .if1 .left) (c .unused-list .ensures)
+    let s = c .before .before .before .before .before .before .args in
+    let r = c .before .before .before .lower-of3 .result in
+    let low : r .reference ≡ lower (lower (s .p .reference) (s .q .reference)) (lower (s .s .reference) (s .t .reference)) =
+    let a = c .before .before .before .before .before .lower-of .ensures in let b = c .before .before .before .before .lower-of2 .ensures in c .before .before .before .lower-of3 .ensures ∙ (λ i. lower (a i) (b i)) in
+    merged-unused (s .p) (s .q) (s .s) (s .t) (r .reference) low (sym (c .before .before .is-used .ensures) ∙ c .before .if1 .left) (c .unused-list .ensures)
 
 pub merge-list-spec : {M : Type 1} → statement M
 merge-list-spec =
     tie.close
     (tie.spec
-    lowest-of-requires
+    lower-of-requires
+    lower-of-requires-2
+    lower-of-requires-3
     is-used-requires
-    having-of-requires
-    merged-at-requires
-    merged-at-requires-2
-    merged-at-requires-3
-    merged-at-requires-4
+    same-reference-requires
+    same-reference-requires-2
+    same-reference-requires-3
+    same-reference-requires-4
+    taken-requires
+    taken-requires-2
+    taken-requires-3
+    taken-requires-4
     returns
     unused-list-requires
     returns-2)
