@@ -308,8 +308,15 @@ module _ (clear : List Bool) (m : List Motion) where
   unfolding filled
   filled-is k h = four-at (λ j. getD m (source clear j) zeroMotion) zeroMotion k h
 
-  filled-keeps : (P : Motion → Type 0) → ((j : ℕ) → j < 4 → P (getD m j zeroMotion)) → (k : ℕ) → k < 4 → P (getD (filled clear m) k zeroMotion)
+  pub filled-keeps : (P : Motion → Type 0) → ((j : ℕ) → j < 4 → P (getD m j zeroMotion)) → (k : ℕ) → k < 4 → P (getD (filled clear m) k zeroMotion)
   filled-keeps P a k h = subst P (sym (filled-is k h)) (a (source clear k) (source-below clear k h))
+
+  -- where all are clear, step 1 leaves them
+  pub filled-leaves : ((k : ℕ) → k < 4 → getD clear k false ≡ true) → filled clear m ≡ four (λ k. getD m k zeroMotion)
+  unfolding filled source
+  filled-leaves a =
+      let own : (k : ℕ) → k < 4 → getD m (source clear k) zeroMotion ≡ getD m k zeroMotion = λ k h. ap (λ (s : ℕ). getD m s zeroMotion) (yes _ _ (a k h)) in
+      four-same (own 0 (omega arith)) (own 1 (omega arith)) (own 2 (omega arith)) (own 3 (omega arith))
 
   -- where some block is clear, what holds of the clear ones holds of each
   filled-clear : (P : Motion → Type 0) → someOf clear ≡ true → ((j : ℕ) → j < 4 → getD clear j false ≡ true → P (getD m j zeroMotion)) → (k : ℕ) → k < 4 → P (getD (filled clear m) k zeroMotion)

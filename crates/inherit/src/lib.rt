@@ -1,8 +1,7 @@
-// Steps 1 to 3 of "Inheriting", on sixteen motions as four quadrants of four blocks; and the count of the intra set.
+// Steps 1 to 3 of "Inheriting": 1 and 2 on a quadrant of four motions, 3 on four such quadrants; and the count of the intra set.
 ghost use Prim.Native.Nat.{_<_};
-ghost use Rattle.definitions.specs.Inheriting.{clearOf, copied, copiedFrom, filled, liveOf, marked, merged, mostlyIntra, resolved, someOf};
-ghost use lib.ListN.{getD};
-ghost use mathlib.Core.List.{[]};
+ghost use Rattle.definitions.specs.Inheriting.{clearOf, copied, copiedFrom, filled, liveOf, marked, merged, mostlyIntra, someOf};
+ghost use Rattle.quadrant.specs.Merging.{AllEmpty};
 ghost use mathlib.Core.Path.{_≡_};
 use definitions::Motion;
 
@@ -82,7 +81,7 @@ fn copied_from(live: [bool; 4], q: usize) -> usize
     v
 }
 
-fn copy(live: [bool; 4], m: [[Motion; 4]; 4]) -> [[Motion; 4]; 4]
+fn copy_some(live: [bool; 4], m: [[Motion; 4]; 4]) -> [[Motion; 4]; 4]
     ensures { λ r. ⌜ r ≡ copied live m ⌝ }
 {
     let a = m[copied_from(live, 0)];
@@ -92,16 +91,19 @@ fn copy(live: [bool; 4], m: [[Motion; 4]; 4]) -> [[Motion; 4]; 4]
     [a, b, c, d]
 }
 
-// ---- Steps 1 and 2 of quadrant q.
-pub fn resolve_quadrant(set: u16, m: [Motion; 4], q: usize) -> [Motion; 4] {
-    let clear = clear_of(set, q);
-    let mut n = m;
-    if !(clear[0] & clear[1] & clear[2] & clear[3]) {
-        n = quadrant::fill(clear, m);
+pub fn copy(set: u16, m: [[Motion; 4]; 4]) -> [[Motion; 4]; 4]
+    ensures { λ r. ⌜ r ≡ copied (liveOf set) m ⌝ }
+{
+    if set == 0 {
+        return m;
     }
-    quadrant::merge(n)
+    copy_some(live_of(set), m)
 }
 
-pub fn copy_intra(set: u16, m: [[Motion; 4]; 4]) -> [[Motion; 4]; 4] {
-    copy(live_of(set), m)
+// ---- Steps 1 and 2 of quadrant q.
+pub fn resolve(set: u16, m: [Motion; 4], q: usize) -> [Motion; 4]
+    requires { ⌜ (q < 4) × AllEmpty m ⌝ }
+    ensures { λ r. ⌜ r ≡ merged (filled (clearOf set q) m) ⌝ }
+{
+    quadrant::merge(quadrant::fill(clear_of(set, q), m))
 }

@@ -40,7 +40,7 @@ fn source_of(good: [bool; 4], k: usize) -> usize
 }
 
 // ---- Step 1: intra blocks take a neighbour's motion.
-pub fn fill(clear: [bool; 4], m: [Motion; 4]) -> [Motion; 4]
+fn fill_some(clear: [bool; 4], m: [Motion; 4]) -> [Motion; 4]
     ensures { λ r. ⌜ r ≡ filled clear m ⌝ }
 {
     let a = m[source_of(clear, 0)];
@@ -48,6 +48,15 @@ pub fn fill(clear: [bool; 4], m: [Motion; 4]) -> [Motion; 4]
     let c = m[source_of(clear, 2)];
     let d = m[source_of(clear, 3)];
     [a, b, c, d]
+}
+
+pub fn fill(clear: [bool; 4], m: [Motion; 4]) -> [Motion; 4]
+    ensures { λ r. ⌜ r ≡ filled clear m ⌝ }
+{
+    if clear[0] & clear[1] & clear[2] & clear[3] {
+        return m;
+    }
+    fill_some(clear, m)
 }
 
 // ---- Step 2: one reference for the quadrant in each list.

@@ -1,72 +1,24 @@
 -- `inherit::copy` meets its contract. Assumes nothing.
-use Prim.Native.Nat.{ℕ}
-use lib.ListN.{getD}
-use mathlib.Core.List.{List, []}
-use mathlib.Core.Path.{ap}
-use Rattle.definitions.specs.declared.Motion.{Motion}
+use mathlib.Core.Bool.{Bool}
+use mathlib.Core.List.{List}
+use mathlib.Core.Path.{ap, _∙_}
 use Rattle.definitions.specs.Inheriting.{copied}
-use Rattle.definitions.proofs.Choices.{four-same}
+use Rattle.inherit.proofs.Copying.{copied-none}
 use borrow.Author.Needs.{needs}
 use Rattle.inherit.proofs.copy.Statement.{statement}
 use Rattle.inherit.proofs.copy.Tie as tie
 
-copied-from-requires : tie.Need-copied-from-requires
-copied-from-requires c κs = search needs
-
-mul-a : tie.Need-mul-a
-mul-a c = search needs
-
-array-copy-out-a : tie.Need-array-copy-out-a
-array-copy-out-a c = search needs
-
-copied-from-requires-2 : tie.Need-copied-from-requires-2
-copied-from-requires-2 c κs = search needs
-
-mul-b : tie.Need-mul-b
-mul-b c = search needs
-
-array-copy-out-b : tie.Need-array-copy-out-b
-array-copy-out-b c = search needs
-
-copied-from-requires-3 : tie.Need-copied-from-requires-3
-copied-from-requires-3 c κs = search needs
-
-mul-c : tie.Need-mul-c
-mul-c c = search needs
-
-array-copy-out-c : tie.Need-array-copy-out-c
-array-copy-out-c c = search needs
-
-copied-from-requires-4 : tie.Need-copied-from-requires-4
-copied-from-requires-4 c κs = search needs
-
-mul-d : tie.Need-mul-d
-mul-d c = search needs
-
-array-copy-out-d : tie.Need-array-copy-out-d
-array-copy-out-d c = search needs
-
 returns : tie.Need-returns
-unfolding copied
-returns c =
-    let quadrant : ℕ → List Motion = λ s. getD (c .before .before .before .before .before .before .before .before .args .t2) s [] in
-    four-same (ap quadrant (c .before .before .before .before .before .before .before .copied-from .ensures .0)) (ap quadrant (c .before .before .before .before .before .copied-from2 .ensures .0))
-    (ap quadrant (c .before .before .before .copied-from3 .ensures .0)) (ap quadrant (c .before .copied-from4 .ensures .0))
+returns c = copied-none (c .before .args .set) (c .before .args .m) (search needs) (c .if1 .taken)
+
+live-of-requires : tie.Need-live-of-requires
+live-of-requires c κs = search needs
+
+copy-some-requires : tie.Need-copy-some-requires
+copy-some-requires c κs = search needs
+
+returns-2 : tie.Need-returns-2
+returns-2 c = c .copy-some .ensures ∙ ap (λ (live : List Bool). copied live (c .before .before .before .args .m)) (c .before .live-of .ensures)
 
 pub copy-spec : {M : Type 1} → statement M
-copy-spec =
-    tie.close
-    (tie.spec
-    copied-from-requires
-    mul-a
-    array-copy-out-a
-    copied-from-requires-2
-    mul-b
-    array-copy-out-b
-    copied-from-requires-3
-    mul-c
-    array-copy-out-c
-    copied-from-requires-4
-    mul-d
-    array-copy-out-d
-    returns)
+copy-spec = tie.close (tie.spec returns live-of-requires copy-some-requires returns-2)

@@ -1,45 +1,28 @@
 -- `inherit::resolve` meets its contract. Assumes nothing.
-use mathlib.Core.Path.{_∙_}
-use Rattle.definitions.specs.Inheriting.{copied, resolved}
-use Rattle.definitions.proofs.Choices.{four-same}
+use mathlib.Core.Bool.{Bool}
+use mathlib.Core.List.{List}
+use mathlib.Core.Path.{ap, sym, subst, _∙_}
+use Rattle.definitions.specs.Inheriting.{filled, merged}
+use Rattle.definitions.proofs.Steps.{filled-keeps}
+use Rattle.quadrant.specs.Merging.{Empty, AllEmpty}
 use borrow.Author.Needs.{needs}
 use Rattle.inherit.proofs.resolve.Statement.{statement}
 use Rattle.inherit.proofs.resolve.Tie as tie
 
-merged-quadrant-requires : tie.Need-merged-quadrant-requires
-merged-quadrant-requires c κs = search needs
+clear-of-requires : tie.Need-clear-of-requires
+clear-of-requires c κs = search needs
 
-merged-quadrant-requires-2 : tie.Need-merged-quadrant-requires-2
-merged-quadrant-requires-2 c κs = search needs
+fill-requires : tie.Need-fill-requires
+fill-requires c κs = search needs
 
-merged-quadrant-requires-3 : tie.Need-merged-quadrant-requires-3
-merged-quadrant-requires-3 c κs = search needs
-
-merged-quadrant-requires-4 : tie.Need-merged-quadrant-requires-4
-merged-quadrant-requires-4 c κs = search needs
-
-live-of-requires : tie.Need-live-of-requires
-live-of-requires c κs = search needs
-
-copy-requires : tie.Need-copy-requires
-copy-requires c κs = search needs
+merge-requires : tie.Need-merge-requires
+merge-requires c κs =
+    let s = c .before .before in
+    subst AllEmpty (sym (c .fill .ensures)) (filled-keeps (c .before .clear-of .result) (s .args .m) (λ e. Empty (e .list0) × Empty (e .list1)) (s .pre .1))
 
 returns : tie.Need-returns
-unfolding resolved
 returns c =
-    let live = c .before .live-of .ensures in
-    let quadrants = four-same (c .before .before .before .before .before .merged-quadrant .ensures) (c .before .before .before .before .merged-quadrant2 .ensures)
-    (c .before .before .before .merged-quadrant3 .ensures) (c .before .before .merged-quadrant4 .ensures) in
-    c .copy .ensures ∙ (λ i. copied (live i) (quadrants i))
+    c .merge .ensures ∙ ap merged (c .before .fill .ensures ∙ ap (λ (clear : List Bool). filled clear (c .before .before .before .args .m)) (c .before .before .clear-of .ensures))
 
 pub resolve-spec : {M : Type 1} → statement M
-resolve-spec =
-    tie.close
-    (tie.spec
-    merged-quadrant-requires
-    merged-quadrant-requires-2
-    merged-quadrant-requires-3
-    merged-quadrant-requires-4
-    live-of-requires
-    copy-requires
-    returns)
+resolve-spec = tie.close (tie.spec clear-of-requires fill-requires merge-requires returns)
