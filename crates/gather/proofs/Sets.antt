@@ -1,44 +1,23 @@
--- A set with one member more, its size, and the table of its bits. Assumes nothing.
-use Prim.Native.Nat.{ℕ, zero, suc, _+_, _^_, _≤_, _<_}
-use mathlib.Core.Path.{_≡_, refl, sym, ap, _∙_}
-use mathlib.Core.Bool.{Bool}
-use mathlib.Core.List.{[], _∷_}
-use native.Mathlib.Nat.{pow-le-pow-right}
-use native.Mathlib.Numerals.{add-one}
+-- A set of sixteen from the sets of its four rows. Assumes nothing.
+use Prim.Native.Nat.{ℕ, _+_, _*_, _≤_}
+use mathlib.Core.Path.{_≡_, refl, sym, _∙_}
+use mathlib.Core.Bool.{Bool, true, false}
 use native.Mathlib.Omega.{arith}
-use lib.ListN.{getD}
 use Rattle.definitions.specs.Tests.{pick}
 use Rattle.definitions.specs.Inheriting.{setOf}
-use Rattle.definitions.proofs.Choices.{pick-cases, each}
-use Rattle.definitions.proofs.Records.{each16}
+use Rattle.gather.specs.Reads.{bitOf, rowSet}
 
-pub no-member : (f : ℕ → Bool) → 0 ≡ setOf 0 f
-unfolding setOf
-no-member f = refl
+weighted : (on : Bool) (n : ℕ) → pick on n 0 ≡ n * bitOf on
+unfolding pick
+weighted true n = omega arith
+weighted false n = omega arith
 
-set-below : (n : ℕ) (f : ℕ → Bool) → setOf n f < 2 ^ n
-unfolding setOf
-set-below zero f = omega arith
-set-below (suc n) f =
-    let h = set-below n f in
-    pick-cases (λ v. setOf n f + v < 2 ^ suc n) (f n) (2 ^ n) 0 (λ e. omega arith) (λ e. omega arith)
-
-module _ (f : ℕ → Bool) (i set b : ℕ) (is : set ≡ setOf i f) (member : b ≡ pick (f i) (2 ^ i) 0) where
-  pub set-more : set + b ≡ setOf (i + 1) f
-  unfolding setOf
-  set-more = (λ k. is k + member k) ∙ ap (λ (n : ℕ). setOf n f) (sym (add-one i))
-
-  pub set-fits : i < 16 → set + b < 65536
-  set-fits h =
-      let l : i + 1 ≤ 16 = omega arith in
-      let p : 2 ^ (i + 1) ≤ 2 ^ 16 = pow-le-pow-right {n = 2} (omega arith) l in
-      omega (arith, set-more, set-below (i + 1) f)
-
-pub bits-right : (i : ℕ) → i < 16 → getD (1 ∷ 2 ∷ 4 ∷ 8 ∷ 16 ∷ 32 ∷ 64 ∷ 128 ∷ 256 ∷ 512 ∷ 1024 ∷ 2048 ∷ 4096 ∷ 8192 ∷ 16384 ∷ 32768 ∷ []) i 0 ≡ 2 ^ i
-bits-right =
-    each16 (λ i. getD (1 ∷ 2 ∷ 4 ∷ 8 ∷ 16 ∷ 32 ∷ 64 ∷ 128 ∷ 256 ∷ 512 ∷ 1024 ∷ 2048 ∷ 4096 ∷ 8192 ∷ 16384 ∷ 32768 ∷ []) i 0 ≡ 2 ^ i)
-    refl refl refl refl refl refl refl refl refl refl refl refl refl refl refl refl
-
--- the first block of a quadrant, and the others from it
-pub first-low : (q : ℕ) → q < 4 → getD (0 ∷ 2 ∷ 8 ∷ 10 ∷ []) q 0 ≤ 10
-first-low = each (λ q. getD (0 ∷ 2 ∷ 8 ∷ 10 ∷ []) q 0 ≤ 10) (omega arith) (omega arith) (omega arith) (omega arith)
+pub rows-set : (on : ℕ → Bool)
+    → rowSet on + 16 * rowSet (λ i. on (4 + i)) + 256 * rowSet (λ i. on (8 + i)) + 4096 * rowSet (λ i. on (12 + i)) ≡ setOf 16 on
+unfolding rowSet setOf
+rows-set on =
+    omega (
+      arith, weighted (on 0) 1, weighted (on 1) 2, weighted (on 2) 4, weighted (on 3) 8, weighted (on 4) 16, weighted (on 5) 32, weighted (on 6) 64,
+      weighted (on 7) 128, weighted (on 8) 256, weighted (on 9) 512, weighted (on 10) 1024, weighted (on 11) 2048, weighted (on 12) 4096,
+      weighted (on 13) 8192, weighted (on 14) 16384, weighted (on 15) 32768,
+    )

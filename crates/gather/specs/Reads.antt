@@ -1,16 +1,32 @@
 -- What the blocks of a macroblock read, by the coordinates that its two axes give (across and down) and the base's width in macroblocks.
 use Prim.Native.Nat.{ℕ, _+_, _*_, _/_, _%_, _≤_, _<_}
 use mathlib.Core.Path.{_≡_}
-use mathlib.Core.Bool.{true}
+use mathlib.Core.Bool.{Bool, true}
 use mathlib.Core.List.{List}
 use lib.IntN.{ℤ}
 use lib.ListN.{length, getD}
 use Rattle.definitions.specs.declared.Motion.{Motion}
-use Rattle.definitions.specs.Tests.{four}
+use Rattle.definitions.specs.Tests.{four, pick}
 use Rattle.definitions.specs.BlockMap.{columnOf, blockIn}
 use Rattle.definitions.specs.Splits.{rasterOf}
 use Rattle.definitions.specs.Record.{recordWords, recordAt, isIntra, motionOf, wellFormed}
 use Rattle.definitions.specs.Inheriting.{setOf}
+
+-- the record, and the motion, that a block with coordinates x and y reads
+abbrev pub addressRead : ℕ → ℕ → ℕ → ℕ
+addressRead width x y = columnOf y * width + columnOf x
+
+abbrev pub recordRead : ℕ → List ℤ → ℕ → ℕ → List ℤ
+recordRead width base x y = recordAt base (addressRead width x y)
+
+unfoldable pub motionRead : ℕ → List ℤ → ℕ → ℕ → Motion
+motionRead width base x y = motionOf (recordRead width base x y) (4 * blockIn y + blockIn x)
+
+-- that record lies in the base and is well formed
+pub record ReadableAt (width : ℕ) (base : List ℤ) (x y : ℕ) : Type 0 where
+  pub low : addressRead width x y < 65536
+  pub fits : (addressRead width x y + 1) * recordWords ≤ length base
+  pub formed : wellFormed (recordRead width base x y) ≡ true
 
 -- the address and the block that block i reads
 abbrev pub addressBy : ℕ → List ℕ → List ℕ → ℕ → ℕ
@@ -30,6 +46,13 @@ motionBy width across down base i = motionOf (readBy width across down base i) (
 
 unfoldable pub gatheredBy : ℕ → List ℕ → List ℕ → List ℤ → List (List Motion)
 gatheredBy width across down base = four (λ q. four (λ k. motionBy width across down base (rasterOf q k)))
+
+-- the set of a row of four blocks, whose bits are 1, 2, 4 and 8
+abbrev pub bitOf : Bool → ℕ
+bitOf on = pick on 1 0
+
+unfoldable pub rowSet : (ℕ → Bool) → ℕ
+rowSet on = bitOf (on 0) + 2 * bitOf (on 1) + 4 * bitOf (on 2) + 8 * bitOf (on 3)
 
 -- the records that the blocks read lie in the base and are well formed
 pub record Readable (width : ℕ) (across down : List ℕ) (base : List ℤ) : Type 0 where

@@ -1,9 +1,9 @@
-// Gathering by the block map: the sixteen motions that the blocks of a macroblock read, and the set of those that read intra macroblocks.
-ghost use Prim.Native.Nat.{_*_, _+_, _<_, _^_, _≤_};
-ghost use Rattle.definitions.specs.BlockMap.{columnOf};
-ghost use Rattle.definitions.specs.Splits.{rasterOf};
-ghost use Rattle.definitions.specs.Tests.{four, pick};
-ghost use Rattle.gather.specs.Reads.{Readable, gatheredBy, motionBy, setBy};
+// Gathering by the block map: the motions that the blocks of a macroblock read, and the set of those that read intra macroblocks.
+ghost use Prim.Native.Nat.{_≤_};
+ghost use Rattle.definitions.specs.Record.{isIntra};
+ghost use Rattle.gather.specs.Reads.{Readable, ReadableAt, addressRead, bitOf, motionRead, recordRead, rowSet, setBy};
+ghost use lib.ListN.{getD};
+ghost use mathlib.Core.List.{[], _∷_};
 ghost use mathlib.Core.Path.{_≡_};
 use definitions::Motion;
 use records::is_intra;
@@ -12,17 +12,21 @@ use records::motion_of;
 // The base macroblock of the 4 by 4 block at coordinates x and y.
 fn address_of(width: usize, x: u32, y: u32) -> usize
     requires { ⌜ width ≤ 256 ⌝ }
-    ensures { λ r. ⌜ r ≡ columnOf y * width + columnOf x ⌝ }
+    ensures { λ r. ⌜ r ≡ addressRead width x y ⌝ }
 {
     (y / 4) as usize * width + (x / 4) as usize
 }
 
-fn motion_read(base: &[i16], width: usize, x: u32, y: u32) -> Motion {
+pub fn motion_read(base: &[i16], width: usize, x: u32, y: u32) -> Motion
+    requires { ⌜ ReadableAt width (now base) x y × (width ≤ 256) ⌝ }
+    ensures { λ r. ⌜ r ≡ motionRead width (now (base .entry)) x y ⌝ }
+{
     let a = address_of(width, x, y);
     let b = (4 * (y % 4) + x % 4) as usize;
     motion_of(base, a, b)
 }
 
+// The blocks of a quadrant: its columns read x0 and x1, its rows y0 and y1.
 pub fn quadrant_read(
     base: &[i16],
     width: usize,
@@ -30,7 +34,10 @@ pub fn quadrant_read(
     x1: u32,
     y0: u32,
     y1: u32,
-) -> [Motion; 4] {
+) -> [Motion; 4]
+    requires { ⌜ ReadableAt width (now base) x0 y0 × ReadableAt width (now base) x1 y0 × ReadableAt width (now base) x0 y1 × ReadableAt width (now base) x1 y1 × (width ≤ 256) ⌝ }
+    ensures { λ r. ⌜ r ≡ motionRead width (now (base .entry)) x0 y0 ∷ motionRead width (now (base .entry)) x1 y0 ∷ motionRead width (now (base .entry)) x0 y1 ∷ motionRead width (now (base .entry)) x1 y1 ∷ [] ⌝ }
+{
     let a = motion_read(base, width, x0, y0);
     let b = motion_read(base, width, x1, y0);
     let c = motion_read(base, width, x0, y1);
@@ -38,21 +45,32 @@ pub fn quadrant_read(
     [a, b, c, d]
 }
 
-fn intra_bit(base: &[i16], width: usize, x: u32, y: u32) -> u16 {
-    is_intra(base, address_of(width, x, y)) as u16
+fn intra_bit(base: &[i16], width: usize, x: u32, y: u32) -> u16
+    requires { ⌜ ReadableAt width (now base) x y × (width ≤ 256) ⌝ }
+    ensures { λ r. ⌜ (r ≡ bitOf (isIntra (recordRead width (now (base .entry)) x y))) × (r ≤ 1) ⌝ }
+{
+    if is_intra(base, address_of(width, x, y)) { 1 } else { 0 }
 }
 
-fn row_set(base: &[i16], width: usize, across: [u32; 4], y: u32) -> u16 {
-    intra_bit(base, width, across[0], y)
-        + 2 * intra_bit(base, width, across[1], y)
-        + 4 * intra_bit(base, width, across[2], y)
-        + 8 * intra_bit(base, width, across[3], y)
+fn row_set(base: &[i16], width: usize, across: [u32; 4], y: u32) -> u16
+    requires { ⌜ ReadableAt width (now base) (getD across 0 0) y × ReadableAt width (now base) (getD across 1 0) y × ReadableAt width (now base) (getD across 2 0) y × ReadableAt width (now base) (getD across 3 0) y × (width ≤ 256) ⌝ }
+    ensures { λ r. ⌜ (r ≡ rowSet (λ i. isIntra (recordRead width (now (base .entry)) (getD across i 0) y))) × (r ≤ 15) ⌝ }
+{
+    let a = intra_bit(base, width, across[0], y);
+    let b = intra_bit(base, width, across[1], y);
+    let c = intra_bit(base, width, across[2], y);
+    let d = intra_bit(base, width, across[3], y);
+    a + 2 * b + 4 * c + 8 * d
 }
 
 // The blocks that read intra macroblocks.
-pub fn intra_set(base: &[i16], width: usize, across: [u32; 4], down: [u32; 4]) -> u16 {
-    row_set(base, width, across, down[0])
-        + 16 * row_set(base, width, across, down[1])
-        + 256 * row_set(base, width, across, down[2])
-        + 4096 * row_set(base, width, across, down[3])
+pub fn intra_set(base: &[i16], width: usize, across: [u32; 4], down: [u32; 4]) -> u16
+    requires { ⌜ Readable width across down (now base) × (width ≤ 256) ⌝ }
+    ensures { λ r. ⌜ r ≡ setBy width across down (now (base .entry)) ⌝ }
+{
+    let a = row_set(base, width, across, down[0]);
+    let b = row_set(base, width, across, down[1]);
+    let c = row_set(base, width, across, down[2]);
+    let d = row_set(base, width, across, down[3]);
+    a + 16 * b + 256 * c + 4096 * d
 }

@@ -34,8 +34,8 @@ use write::write_record;
 
 // An axis at a macroblock: whether it is inside there, and then what is read.
 pub struct AxisRead {
-    pub reads: [u16; 4],
-    pub first: u16,
+    pub reads: [u32; 4],
+    pub first: u32,
     pub two: bool,
     pub inside: bool,
 }
@@ -45,10 +45,10 @@ pub fn axis_read(a: Axis, x: u32) -> AxisRead {
     let p = EnhancementSample(16 * x);
     if is_inside(a, p) {
         let step = axis_step(a, p);
-        let r = step.reads;
+        let reads = step.reads;
         return AxisRead {
-            reads: [r[0] as u16, r[1] as u16, r[2] as u16, r[3] as u16],
-            first: step.first as u16,
+            reads,
+            first: step.first,
             two: step.two,
             inside: true,
         };
@@ -141,8 +141,8 @@ fn named_of(h: AxisRead, v: AxisRead) -> Named
 {
     Named {
         class: class_of(h.two, v.two),
-        column: h.first as u32,
-        row: v.first as u32,
+        column: h.first,
+        row: v.first,
     }
 }
 
@@ -162,14 +162,14 @@ fn quadrant_made(
 
 fn motions_made(g: Axes, base: &[i16], h: AxisRead, v: AxisRead, set: u16) -> [[Motion; 4]; 4] {
     let width = (g.horizontal.base.0 / 16) as usize;
-    let x0 = h.reads[0] as u32;
-    let x1 = h.reads[1] as u32;
-    let x2 = h.reads[2] as u32;
-    let x3 = h.reads[3] as u32;
-    let y0 = v.reads[0] as u32;
-    let y1 = v.reads[1] as u32;
-    let y2 = v.reads[2] as u32;
-    let y3 = v.reads[3] as u32;
+    let x0 = h.reads[0];
+    let x1 = h.reads[1];
+    let x2 = h.reads[2];
+    let x3 = h.reads[3];
+    let y0 = v.reads[0];
+    let y1 = v.reads[1];
+    let y2 = v.reads[2];
+    let y3 = v.reads[3];
     let a = quadrant_made(base, width, x0, x1, y0, y1, set, 0);
     let b = quadrant_made(base, width, x2, x3, y0, y1, set, 1);
     let c = quadrant_made(base, width, x0, x1, y2, y3, set, 2);

@@ -1,96 +1,83 @@
 -- `gather::intra_set` meets its contract. Assumes nothing.
-use Prim.Native.Nat.{ℕ, _+_, _*_, _^_, _<_, _≤_, _-_}
-use mathlib.Core.Bool.{Bool}
-use mathlib.Core.Path.{sym, ap, subst, _∙_, _≡_}
+use Prim.Native.Nat.{_+_, _*_}
+use mathlib.Core.Path.{_∙_}
 use native.Mathlib.Omega.{arith}
-use lib.ListN.{length}
-use Rattle.definitions.specs.Tests.{pick}
-use Rattle.definitions.specs.Record.{recordWords, recordAt, isIntra}
-use Rattle.gather.proofs.Sets.{no-member, set-more, set-fits}
+use Rattle.definitions.specs.Record.{isIntra}
+use Rattle.gather.specs.Reads.{readBy, rowSet, setBy}
+use Rattle.gather.proofs.Reading.{readable-at}
+use Rattle.gather.proofs.Sets.{rows-set}
 use borrow.Author.Needs.{needs}
-use Rattle.gather.specs.Reads.{readBy, setBy}
-use Rattle.definitions.specs.Inheriting.{setOf}
 use Rattle.gather.proofs.intra_set.Statement.{statement}
 use Rattle.gather.proofs.intra_set.Tie as tie
 
-abbrev Inv-loop : tie.InvT-loop
-Inv-loop base width across down set₀ i₀ set i = (i ≤ 16) × (set ≡ setOf i (λ k. isIntra (readBy width across down base k)))
+array-read-row-set : tie.Need-array-read-row-set
+array-read-row-set c = search needs
 
-abbrev μ-loop : tie.MeasureT-loop
-μ-loop base width across down set₀ i₀ set i = 16 - i
+row-set-requires : tie.Need-row-set-requires
+row-set-requires c κs = (readable-at (c .pre .0) 0 (omega arith), readable-at (c .pre .0) 1 (omega arith), readable-at (c .pre .0) 2 (omega arith), readable-at (c .pre .0) 3 (omega arith), c .pre .1)
 
-loop-holds : tie.Need-loop-holds Inv-loop μ-loop
-loop-holds c = (search needs, no-member _)
+array-read-row-set-2 : tie.Need-array-read-row-set-2
+array-read-row-set-2 c = search needs
 
-mul-x : tie.Need-mul-x Inv-loop μ-loop
-mul-x c = search needs
+row-set-requires-2 : tie.Need-row-set-requires-2
+row-set-requires-2 c κs = (readable-at (c .before .pre .0) 4 (omega arith), readable-at (c .before .pre .0) 5 (omega arith), readable-at (c .before .pre .0) 6 (omega arith), readable-at (c .before .pre .0) 7 (omega arith), c .before .pre .1)
 
-array-read-x : tie.Need-array-read-x Inv-loop μ-loop
-array-read-x c = search needs
+array-read-row-set-3 : tie.Need-array-read-row-set-3
+array-read-row-set-3 c = search needs
 
-mul-y : tie.Need-mul-y Inv-loop μ-loop
-mul-y c = search needs
+row-set-requires-3 : tie.Need-row-set-requires-3
+row-set-requires-3 c κs = (readable-at (c .before .before .pre .0) 8 (omega arith), readable-at (c .before .before .pre .0) 9 (omega arith), readable-at (c .before .before .pre .0) 10 (omega arith), readable-at (c .before .before .pre .0) 11 (omega arith), c .before .before .pre .1)
 
-array-read-y : tie.Need-array-read-y Inv-loop μ-loop
-array-read-y c = search needs
+array-read-row-set-4 : tie.Need-array-read-row-set-4
+array-read-row-set-4 c = search needs
 
-address-of-requires : tie.Need-address-of-requires Inv-loop μ-loop
-address-of-requires c κs = search needs
+row-set-requires-4 : tie.Need-row-set-requires-4
+row-set-requires-4 c κs = (readable-at (c .before .before .before .pre .0) 12 (omega arith), readable-at (c .before .before .before .pre .0) 13 (omega arith), readable-at (c .before .before .before .pre .0) 14 (omega arith), readable-at (c .before .before .before .pre .0) 15 (omega arith), c .before .before .before .pre .1)
 
-is-intra-requires : tie.Need-is-intra-requires Inv-loop μ-loop
-is-intra-requires c κs =
-    let l = c .before .before .loop in
-    let s = c .before .before .before in
-    let h : l .i < 16 = omega arith in
-    subst (λ (x : ℕ). ((x + 1) * recordWords ≤ length (s .args .base .now)) × (x < 65536)) (sym (c .address-of .ensures)) (s .pre .0 .fits (l .i) h, s .pre .0 .low (l .i) h)
+mul-result : tie.Need-mul-result
+mul-result c = search needs
 
-bit-requires : tie.Need-bit-requires Inv-loop μ-loop
-bit-requires c κs = search needs
+add-result : tie.Need-add-result
+add-result c = search needs
 
--- the bit that is added is that of block i
-member : (c : tie.After-bit Inv-loop μ-loop)
-    → c .bit .result
-    ≡ pick (isIntra (readBy (c .before .before .before .before .before .args .width) (c .before .before .before .before .before .args .t3) (c .before .before .before .before .before .args .t4) (c .before .before .before .before .before .args .base .now) (c .before .before .before .before .loop .i)))
-    (2 ^ c .before .before .before .before .loop .i) 0
-member c =
-    let i = c .before .before .before .before .loop .i in
-    let base = c .before .before .before .before .before .args .base .now in
-    c .bit .ensures ∙ ap (λ (t : Bool). pick t (2 ^ i) 0) (c .before .is-intra .ensures ∙ ap (λ (a : ℕ). isIntra (recordAt base a)) (c .before .before .address-of .ensures))
+mul-result-2 : tie.Need-mul-result-2
+mul-result-2 c = search needs
 
-add-set : tie.Need-add-set Inv-loop μ-loop
-add-set c = record { fits = set-fits _ (c .before .before .before .before .loop .i) _ _ (c .before .before .before .before .loop .inv .1) (member c) (omega arith) }
+add-result-2 : tie.Need-add-result-2
+add-result-2 c = search needs
 
-add-i : tie.Need-add-i Inv-loop μ-loop
-add-i c = search needs
+mul-result-3 : tie.Need-mul-result-3
+mul-result-3 c = search needs
 
-loop-less : tie.Need-loop-less Inv-loop μ-loop
-loop-less c = search needs
+add-result-3 : tie.Need-add-result-3
+add-result-3 c = search needs
 
-loop-again : tie.Need-loop-again Inv-loop μ-loop
-loop-again c = (omega arith, set-more _ (c .before .before .before .before .loop .i) _ _ (c .before .before .before .before .loop .inv .1) (member c))
-
-returns : tie.Need-returns Inv-loop μ-loop
-unfolding setBy
+returns : tie.Need-returns
+unfolding rowSet setBy
 returns c =
-    let e : c .before .loop .i ≡ 16 = omega arith in
-    c .before .loop .inv .1 ∙ ap (λ (n : ℕ). setOf n (λ k. isIntra (readBy (c .before .before .args .width) (c .before .before .args .t3) (c .before .before .args .t4) (c .before .before .args .base .now) k))) e
+    let s = c .before .before .before .before .args in
+    let a = c .before .before .before .row-set .ensures .0 in
+    let b = c .before .before .row-set2 .ensures .0 in
+    let d = c .before .row-set3 .ensures .0 in
+    let e = c .row-set4 .ensures .0 in
+    (λ i. a i + 16 * b i + 256 * d i + 4096 * e i) ∙ rows-set (λ i. isIntra (readBy (s .width) (s .across) (s .t4) (s .base .now) i))
 
 pub intra-set-spec : {M : Type 1} → statement M
 intra-set-spec =
     tie.close
     (tie.spec
-    Inv-loop
-    μ-loop
-    loop-holds
-    mul-x
-    array-read-x
-    mul-y
-    array-read-y
-    address-of-requires
-    is-intra-requires
-    bit-requires
-    add-set
-    add-i
-    loop-less
-    loop-again
+    array-read-row-set
+    row-set-requires
+    array-read-row-set-2
+    row-set-requires-2
+    array-read-row-set-3
+    row-set-requires-3
+    array-read-row-set-4
+    row-set-requires-4
+    mul-result
+    add-result
+    mul-result-2
+    add-result-2
+    mul-result-3
+    add-result-3
     returns)
