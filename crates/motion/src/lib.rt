@@ -11,8 +11,11 @@ ghost use lib.ListN.{getD};
 ghost use mathlib.Core.Bool.{_&&_};
 ghost use mathlib.Core.Path.{_≡_};
 use definitions::Axes;
+use definitions::Axis;
 use definitions::Motion;
 use definitions::Prediction;
+use definitions::Split;
+use definitions::SubSplit;
 
 // ---- The same motion: both references and both vectors.
 pub fn same_reference(p: Prediction, q: Prediction) -> bool
@@ -24,19 +27,13 @@ pub fn same_reference(p: Prediction, q: Prediction) -> bool
 fn same_vector(p: Prediction, q: Prediction) -> bool
     ensures { λ r. ⌜ r ≡ (eqZ (p .x) (q .x) && eqZ (p .y) (q .y)) ⌝ }
 {
-    if p.x == q.x {
-        return p.y == q.y;
-    }
-    false
+    (p.x == q.x) & (p.y == q.y)
 }
 
 fn same_prediction(p: Prediction, q: Prediction) -> bool
     ensures { λ r. ⌜ r ≡ samePrediction p q ⌝ }
 {
-    if same_reference(p, q) {
-        return same_vector(p, q);
-    }
-    false
+    same_reference(p, q) & same_vector(p, q)
 }
 
 pub fn same_motion(m: Motion, n: Motion) -> bool
@@ -46,89 +43,125 @@ pub fn same_motion(m: Motion, n: Motion) -> bool
     let n0 = n.list0;
     let m1 = m.list1;
     let n1 = n.list1;
-    if same_prediction(m0, n0) {
-        return same_prediction(m1, n1);
+    same_prediction(m0, n0) & same_prediction(m1, n1)
+}
+
+// ---- Step 4. One rule for both axes: |v| is scaled to the nearest, halves up, and the sign put back.
+const POWER: u64 = 1099511627776; // 2^40
+
+// An axis's B and S, and 2^40 / B + 1: a product with it and a shift stand for a division by B, which is dear.
+struct Scale {
+    base: u32,
+    scaled: u32,
+    inverse: u64,
+}
+
+fn scale_of(a: Axis) -> Scale
+    requires { ⌜ AcceptedAxis a ⌝ }
+{
+    let b = a.base.0;
+    Scale {
+        base: b,
+        scaled: a.scaled.0,
+        inverse: POWER / b as u64 + 1,
     }
-    false
 }
 
-// ---- Step 4. One rule for both axes, by their B and S: |v| is scaled to the nearest, halves up, and the sign put back.
-fn scale_size(n: u32, b: u32, s: u32) -> u32
-    requires { ⌜ (n ≤ vectorLimit) × Sized b s ⌝ }
-    ensures { λ r. ⌜ (r ≡ (n * s + b / 2) / b) × (r ≤ 2 * n) ⌝ }
-{
-    (n * s + b / 2) / b
+// (|v|·S + B/2) / B
+fn scale_size(s: Scale, n: u32) -> u32 {
+    let sum = n * s.scaled + s.base / 2;
+    (sum as u64 * s.inverse / POWER) as u32
 }
 
-fn scale_word(v: i16, b: u32, s: u32) -> i16
-    requires { ⌜ (natAbs v ≤ vectorLimit) × Sized b s ⌝ }
-    ensures { λ r. ⌜ r ≡ scaledWord b s v ⌝ }
-{
-    if v < 0 {
-        let n = scale_size((0 - v) as u32, b, s) as i16;
-        return 0 - n;
-    }
-    scale_size(v as u32, b, s) as i16
+fn magnitude(v: i16) -> u32 {
+    if v < 0 { (0 - v) as u32 } else { v as u32 }
 }
 
-fn scale_prediction(g: Axes, p: Prediction) -> Prediction
-    requires { ⌜ AcceptedAxis (g .horizontal) × AcceptedAxis (g .vertical) × InRange p ⌝ }
-    ensures { λ r. ⌜ r ≡ scaledPrediction g p ⌝ }
-{
-    let h = g.horizontal;
-    let v = g.vertical;
+fn with_sign_of(v: i16, n: i16) -> i16 {
+    if v < 0 { 0 - n } else { n }
+}
+
+fn scale_word(s: Scale, v: i16) -> i16 {
+    with_sign_of(v, scale_size(s, magnitude(v)) as i16)
+}
+
+fn scale_prediction(h: Scale, v: Scale, p: Prediction) -> Prediction {
     Prediction {
         reference: p.reference,
-        x: scale_word(p.x, h.base.0, h.scaled.0),
-        y: scale_word(p.y, v.base.0, v.scaled.0),
+        x: scale_word(h, p.x),
+        y: scale_word(v, p.y),
     }
+}
+
+fn scale_with(h: Scale, v: Scale, m: Motion) -> Motion {
+    let p = m.list0;
+    let q = m.list1;
+    let a = scale_prediction(h, v, p);
+    let b = scale_prediction(h, v, q);
+    Motion { list0: a, list1: b }
 }
 
 pub fn scale_motion(g: Axes, m: Motion) -> Motion
     requires { ⌜ AcceptedAxis (g .horizontal) × AcceptedAxis (g .vertical) × (InRange (m .list0) × InRange (m .list1)) ⌝ }
     ensures { λ r. ⌜ r ≡ scaledMotion g m ⌝ }
 {
-    let p = m.list0;
-    let q = m.list1;
-    let a = scale_prediction(g, p);
-    let b = scale_prediction(g, q);
-    Motion { list0: a, list1: b }
+    scale_with(scale_of(g.horizontal), scale_of(g.vertical), m)
 }
 
-// The scaled motion of m where that of n is at hand: blocks of one piece have one motion, and a division is dear.
-fn scale_like(g: Axes, m: Motion, n: Motion, scaled: Motion) -> Motion
-    requires { ⌜ AcceptedAxis (g .horizontal) × AcceptedAxis (g .vertical) × (InRange (m .list0) × InRange (m .list1)) × (scaled ≡ scaledMotion g n) ⌝ }
-    ensures { λ r. ⌜ r ≡ scaledMotion g m ⌝ }
-{
-    if same_motion(m, n) {
-        return scaled;
+// Blocks of one piece have one motion: it is scaled once a piece.
+fn scale_quadrant(h: Scale, v: Scale, s: SubSplit, m: [Motion; 4]) -> [Motion; 4] {
+    let a = scale_with(h, v, m[0]);
+    match s {
+        SubSplit::S8x8 => [a; 4],
+        SubSplit::S8x4 => {
+            let c = scale_with(h, v, m[2]);
+            [a, a, c, c]
+        }
+        SubSplit::S4x8 => {
+            let b = scale_with(h, v, m[1]);
+            [a, b, a, b]
+        }
+        SubSplit::S4x4 => {
+            let b = scale_with(h, v, m[1]);
+            let c = scale_with(h, v, m[2]);
+            let d = scale_with(h, v, m[3]);
+            [a, b, c, d]
+        }
     }
-    scale_motion(g, m)
 }
 
-fn scale_quadrant(g: Axes, m: [Motion; 4], n: Motion, scaled: Motion) -> [Motion; 4]
-    requires { ⌜ AcceptedAxis (g .horizontal) × AcceptedAxis (g .vertical) × ((k : ℕ) → k < 4 → InRange (getD m k zeroMotion .list0) × InRange (getD m k zeroMotion .list1)) × (scaled ≡ scaledMotion g n) ⌝ }
-    ensures { λ r. ⌜ r ≡ four (λ k. scaledMotion g (getD m k zeroMotion)) ⌝ }
-{
-    let first = m[0];
-    let third = m[2];
-    let a = scale_like(g, first, n, scaled);
-    let b = scale_like(g, m[1], first, a);
-    let c = scale_like(g, third, first, a);
-    let d = scale_like(g, m[3], third, c);
-    [a, b, c, d]
-}
-
-// The sixteen blocks, as four quadrants of four.
-pub fn scale_all(g: Axes, m: [[Motion; 4]; 4]) -> [[Motion; 4]; 4]
-    requires { ⌜ AcceptedAxis (g .horizontal) × AcceptedAxis (g .vertical) × ((q k : ℕ) → q < 4 → k < 4 → InRange (at m q k .list0) × InRange (at m q k .list1)) ⌝ }
+// The sixteen blocks, as four quadrants of four, by their split.
+pub fn scale_by(g: Axes, s: Split, m: [[Motion; 4]; 4]) -> [[Motion; 4]; 4]
+    requires { ⌜ AcceptedAxis (g .horizontal) × AcceptedAxis (g .vertical) × ((q k : ℕ) → q < 4 → k < 4 → InRange (at m q k .list0) × InRange (at m q k .list1)) × (s ≡ chosen m) ⌝ }
     ensures { λ r. ⌜ r ≡ four (λ q. four (λ k. scaledMotion g (at m q k))) ⌝ }
 {
-    let first = m[0][0];
-    let scaled = scale_motion(g, first);
-    let a = scale_quadrant(g, m[0], first, scaled);
-    let b = scale_quadrant(g, m[1], first, scaled);
-    let c = scale_quadrant(g, m[2], first, scaled);
-    let d = scale_quadrant(g, m[3], first, scaled);
-    [a, b, c, d]
+    let h = scale_of(g.horizontal);
+    let v = scale_of(g.vertical);
+    match s {
+        Split::S16x16 => {
+            let a = scale_with(h, v, m[0][0]);
+            [[a; 4]; 4]
+        }
+        Split::S16x8 => {
+            let a = scale_with(h, v, m[0][0]);
+            let c = scale_with(h, v, m[2][0]);
+            [[a; 4], [a; 4], [c; 4], [c; 4]]
+        }
+        Split::S8x16 => {
+            let a = scale_with(h, v, m[0][0]);
+            let b = scale_with(h, v, m[1][0]);
+            [[a; 4], [b; 4], [a; 4], [b; 4]]
+        }
+        Split::S8x8(t) => {
+            let ta = t.a;
+            let tb = t.b;
+            let tc = t.c;
+            let td = t.d;
+            let a = scale_quadrant(h, v, ta, m[0]);
+            let b = scale_quadrant(h, v, tb, m[1]);
+            let c = scale_quadrant(h, v, tc, m[2]);
+            let d = scale_quadrant(h, v, td, m[3]);
+            [a, b, c, d]
+        }
+    }
 }

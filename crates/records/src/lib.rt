@@ -104,18 +104,14 @@ fn all_within(words: &[i16], first: usize, count: usize, range: Range) -> bool
     requires { ⌜ (first + count ≤ length (now words)) × (length (now words) ≡ recordWords) ⌝ }
     ensures { λ t. ⌜ t ≡ allWithin (now (words .entry)) first count range ⌝ }
 {
+    let mut right = true;
     let mut k: usize = 0;
     while k < count {
         let word = words[first + k];
-        if word < range.low {
-            return false;
-        }
-        if word > range.high {
-            return false;
-        }
+        right = right & (range.low <= word) & (word <= range.high);
         k += 1;
     }
-    true
+    right
 }
 
 fn sub_types_right(words: &[i16]) -> bool
@@ -184,87 +180,83 @@ fn head_rule(words: &[i16]) -> u32
     0
 }
 
-// ---- Rule 5: the vector words of a block
-fn list_right(words: &[i16], b: usize, l: usize) -> bool
-    requires { ⌜ (length (now words) ≡ recordWords) × (b < 16) × (l < 2) ⌝ }
-    ensures { λ t. ⌜ t ≡ listRight (now (words .entry)) b l ⌝ }
-{
-    let p = prediction_in(words, b, l);
-    let vector = 13 + 4 * b + 2 * l;
-    if p.reference == UNUSED {
-        return all_within(words, vector, 2, ONLY_ZERO);
+// ---- Rule 5: the vector words of a quadrant
+fn range_of(reference: i16) -> Range {
+    if reference == UNUSED {
+        ONLY_ZERO
+    } else {
+        VECTORS
     }
-    all_within(words, vector, 2, VECTORS)
 }
 
-fn vectors_right(words: &[i16], b: usize) -> bool
-    requires { ⌜ (length (now words) ≡ recordWords) × (b < 16) ⌝ }
-    ensures { λ t. ⌜ t ≡ vectorsRight (now (words .entry)) b ⌝ }
-{
-    if list_right(words, b, 0) {
-        return list_right(words, b, 1);
-    }
-    false
+fn is_in(range: Range, word: i16) -> bool {
+    (range.low <= word) & (word <= range.high)
 }
 
-// ---- Rule 6: one motion in each piece
-// The block at place k of quadrant q.
-fn raster(q: usize, k: usize) -> usize
-    requires { ⌜ (q < 4) × (k < 4) ⌝ }
-    ensures { λ b. ⌜ (b ≡ rasterOf q k) × (b < 16) ⌝ }
-{
-    FIRST_BLOCKS[q] + PLACES[k]
+fn pair_right(words: &[i16], first: usize, range0: Range, range1: Range) -> bool {
+    is_in(range0, words[first])
+        & is_in(range0, words[first + 1])
+        & is_in(range1, words[first + 2])
+        & is_in(range1, words[first + 3])
+        & is_in(range0, words[first + 4])
+        & is_in(range0, words[first + 5])
+        & is_in(range1, words[first + 6])
+        & is_in(range1, words[first + 7])
 }
 
-// In an 8×8 split, the first block of the sub-partition that block b stands in.
-fn sub_first_block(words: &[i16], b: usize) -> usize
-    requires { ⌜ (length (now words) ≡ recordWords) × (b < 16) ⌝ }
-    ensures { λ d. ⌜ (d ≡ subFirstBlock (subSplitOf (subTypeOf (now (words .entry)) (quadrantOf b))) b) × (d < 16) ⌝ }
-{
-    let q = 2 * (b / 8) + b % 4 / 2;
-    let k = 2 * (b / 4 % 2) + b % 2;
-    let sub = words[1 + q];
-    if sub == 0 {
-        return raster(q, 0);
-    }
-    if sub == 1 {
-        return raster(q, k / 2 * 2);
-    }
-    if sub == 2 {
-        return raster(q, k % 2);
-    }
-    b
+fn vectors_right(words: &[i16], q: usize) -> bool {
+    let range0 = range_of(words[5 + 2 * q]);
+    let range1 = range_of(words[6 + 2 * q]);
+    let first = 13 + 32 * (q / 2) + 8 * (q % 2);
+    pair_right(words, first, range0, range1) & pair_right(words, first + 16, range0, range1)
 }
 
-// The first block of the piece that block b stands in; of an intra record, which has no pieces, b itself.
-fn first_block(words: &[i16], b: usize) -> usize
-    requires { ⌜ (length (now words) ≡ recordWords) × (b < 16) ⌝ }
-    ensures { λ d. ⌜ (d ≡ firstBlockOf (now (words .entry)) b) × (d < 16) ⌝ }
-{
+// ---- Rule 6
+fn kept(words: &[i16], q: usize) -> usize {
     let kind = words[0];
     if kind == 0 {
-        return b;
+        return 15;
     }
     if kind == 1 {
         return 0;
     }
     if kind == 2 {
-        return b / 8 * 8;
+        return 8;
     }
     if kind == 3 {
-        return b % 4 / 2 * 2;
+        return 2;
     }
-    sub_first_block(words, b)
+    let sub = words[1 + q];
+    if sub == 0 {
+        return 10;
+    }
+    if sub == 1 {
+        return 14;
+    }
+    if sub == 2 {
+        return 11;
+    }
+    15
 }
 
-// Block b has the motion of its piece's first block.
-fn same_as_first(words: &[i16], b: usize) -> bool
-    requires { ⌜ (length (now words) ≡ recordWords) × (b < 16) ⌝ }
-    ensures { λ t. ⌜ t ≡ sameAsFirst (now (words .entry)) b ⌝ }
-{
-    let m = motion_in(words, b);
-    let n = motion_in(words, first_block(words, b));
-    same_motion(m, n)
+fn same_vectors(words: &[i16], b: usize, d: usize) -> bool {
+    (words[13 + 4 * b] == words[13 + 4 * d])
+        & (words[14 + 4 * b] == words[14 + 4 * d])
+        & (words[15 + 4 * b] == words[15 + 4 * d])
+        & (words[16 + 4 * b] == words[16 + 4 * d])
+}
+
+fn same_as_first(words: &[i16], q: usize) -> bool {
+    let i = 8 * (q / 2) + 2 * (q % 2);
+    let keep = kept(words, q);
+    let d = i & keep;
+    let e = 2 * (d / 8) + d % 4 / 2;
+    (words[5 + 2 * q] == words[5 + 2 * e])
+        & (words[6 + 2 * q] == words[6 + 2 * e])
+        & same_vectors(words, i, d)
+        & same_vectors(words, i + 1, (i + 1) & keep)
+        & same_vectors(words, i + 4, (i + 4) & keep)
+        & same_vectors(words, i + 5, (i + 5) & keep)
 }
 
 // ---- The check
@@ -298,7 +290,7 @@ pub fn check(base: &[i16], from: usize, to: usize) -> Verdict
         }
         // rule 5
         let mut b: usize = 0;
-        while b < 16 {
+        while b < 4 {
             if !vectors_right(words, b) {
                 rule = 5;
                 break 'records;
@@ -307,7 +299,7 @@ pub fn check(base: &[i16], from: usize, to: usize) -> Verdict
         }
         // rule 6
         b = 0;
-        while b < 16 {
+        while b < 4 {
             if !same_as_first(words, b) {
                 rule = 6;
                 break 'records;
