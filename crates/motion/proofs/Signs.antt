@@ -1,11 +1,11 @@
 -- A word by its sign and its size. Assumes nothing.
-use Prim.Native.Nat.{ℕ, zero, suc, _+_, _-_, _<_, _^_}
+use Prim.Native.Nat.{ℕ, zero, suc, _+_, _-_, _<_}
 use mathlib.Core.Path.{_≡_, refl, ap, subst, _∙_}
 use mathlib.Core.Bool.{true, false}
 use native.Mathlib.Omega.{arith}
 use lib.Dec.{T}
 use lib.IntN.{ℤ, pos, negsuc, natAbs, _-ℤ_}
-use lib.Signed.{ltZ}
+use lib.Signed.{ltZ, _≤ℤ_}
 use mir.Syntax.{w16}
 use mir.Val.{SFits, toZ, ofZ}
 use mir.Facts.{toZ-ofZ}
@@ -22,14 +22,6 @@ pub signed-below : (v : ℤ) (n : ℕ) → ltZ v (pos 0) ≡ true → signed v n
 signed-below (pos z) n t = let l : z < 0 = ltb-true z 0 t in absurd (omega arith)
 signed-below (negsuc z) n t = refl
 
-pub back : (n : ℕ) → pos 0 -ℤ pos n ≡ minus n
-back zero = refl
-back (suc n) = sub-neg 0 (suc n) (omega arith) ∙ ap negsuc (let e : suc n - 1 ≡ n = omega arith in e)
-
-pub minus-fits : (n : ℕ) → n < 2 ^ 15 → SFits w16 (minus n)
-minus-fits zero h = record { sfits = h }
-minus-fits (suc n) h = record { sfits = omega arith }
-
 -- not below 0
 pub kept : (v : ℤ) → ltZ v (pos 0) ≡ false → v ≡ pos (natAbs v)
 kept (pos n) t = refl
@@ -38,6 +30,21 @@ kept (negsuc n) t = absurd (subst T t tt)
 pub signed-above : (v : ℤ) (n : ℕ) → ltZ v (pos 0) ≡ false → signed v n ≡ pos n
 signed-above (pos z) n t = refl
 signed-above (negsuc z) n t = absurd (subst T t tt)
+
+pub natural : (n : ℤ) → pos 0 ≤ℤ n → n ≡ pos (natAbs n)
+natural (pos n) h = refl
+natural (negsuc n) h = absurd (h .le)
+
+-- and turned round
+pub opposite : (n : ℤ) → pos 0 ≤ℤ n → pos 0 -ℤ n ≡ minus (natAbs n)
+opposite (pos zero) h = refl
+opposite (pos (suc n)) h = sub-neg 0 (suc n) (omega arith) ∙ ap negsuc (let e : suc n - 1 ≡ n = omega arith in e)
+opposite (negsuc n) h = absurd (h .le)
+
+pub opposite-fits : (n : ℤ) → pos 0 ≤ℤ n → SFits w16 n → SFits w16 (minus (natAbs n))
+opposite-fits (pos zero) h f = f
+opposite-fits (pos (suc n)) h f = record { sfits = omega (arith, f .sfits) }
+opposite-fits (negsuc n) h f = absurd (h .le)
 
 -- a word handed to a function and a word handed back are read from their bits
 pub by-words : (f : ℤ → ℤ) (v r : ℤ) → SFits w16 v → SFits w16 r → r ≡ f (toZ w16 (ofZ w16 v)) → toZ w16 (ofZ w16 r) ≡ f v

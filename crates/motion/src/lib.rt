@@ -1,13 +1,16 @@
 // A block's motion: whether two are the same, and step 4 of "Inheriting", the vectors scaled.
 ghost use Prim.Native.Nat.{ℕ, _*_, _+_, _/_, _<_, _≤_};
-ghost use Rattle.definitions.specs.Accepted.{AcceptedAxis, Sized};
-ghost use Rattle.definitions.specs.Inheriting.{at, zeroMotion, scaledMotion, scaledPrediction, scaledWord};
+ghost use Rattle.definitions.proofs.Shapes.{quadrantShape};
+ghost use Rattle.definitions.specs.Accepted.{AcceptedAxis};
+ghost use Rattle.definitions.specs.Inheriting.{at, chosen, scaledMotion, scaledWord, zeroMotion};
 ghost use Rattle.definitions.specs.Record.{vectorLimit};
 ghost use Rattle.definitions.specs.Splits.{sameMotion, samePrediction};
-ghost use Rattle.definitions.specs.Tests.{eqZ, four};
+ghost use Rattle.definitions.specs.Tests.{eqZ, four, signed};
 ghost use Rattle.motion.specs.Range.{InRange};
-ghost use lib.IntN.{natAbs};
+ghost use Rattle.motion.specs.Scales.{AcceptedScale, motionBy, predictionBy, scaleOf};
+ghost use lib.IntN.{natAbs, pos};
 ghost use lib.ListN.{getD};
+ghost use lib.Signed.{_≤ℤ_};
 ghost use mathlib.Core.Bool.{_&&_};
 ghost use mathlib.Core.Path.{_≡_};
 use definitions::Axes;
@@ -58,6 +61,7 @@ struct Scale {
 
 fn scale_of(a: Axis) -> Scale
     requires { ⌜ AcceptedAxis a ⌝ }
+    ensures { λ r. ⌜ r ≡ scaleOf a ⌝ }
 {
     let b = a.base.0;
     Scale {
@@ -68,24 +72,39 @@ fn scale_of(a: Axis) -> Scale
 }
 
 // (|v|·S + B/2) / B
-fn scale_size(s: Scale, n: u32) -> u32 {
+fn scale_size(s: Scale, n: u32) -> u32
+    requires { ⌜ (n ≤ vectorLimit) × AcceptedScale s ⌝ }
+    ensures { λ r. ⌜ (r ≡ (n * s .scaled + s .base / 2) / s .base) × (r ≤ 2 * n) ⌝ }
+{
     let sum = n * s.scaled + s.base / 2;
     (sum as u64 * s.inverse / POWER) as u32
 }
 
-fn magnitude(v: i16) -> u32 {
+fn magnitude(v: i16) -> u32
+    requires { ⌜ natAbs v ≤ vectorLimit ⌝ }
+    ensures { λ r. ⌜ r ≡ natAbs v ⌝ }
+{
     if v < 0 { (0 - v) as u32 } else { v as u32 }
 }
 
-fn with_sign_of(v: i16, n: i16) -> i16 {
+fn with_sign_of(v: i16, n: i16) -> i16
+    requires { ⌜ pos 0 ≤ℤ n ⌝ }
+    ensures { λ r. ⌜ r ≡ signed v (natAbs n) ⌝ }
+{
     if v < 0 { 0 - n } else { n }
 }
 
-fn scale_word(s: Scale, v: i16) -> i16 {
+fn scale_word(s: Scale, v: i16) -> i16
+    requires { ⌜ (natAbs v ≤ vectorLimit) × AcceptedScale s ⌝ }
+    ensures { λ r. ⌜ r ≡ scaledWord (s .base) (s .scaled) v ⌝ }
+{
     with_sign_of(v, scale_size(s, magnitude(v)) as i16)
 }
 
-fn scale_prediction(h: Scale, v: Scale, p: Prediction) -> Prediction {
+fn scale_prediction(h: Scale, v: Scale, p: Prediction) -> Prediction
+    requires { ⌜ AcceptedScale h × AcceptedScale v × InRange p ⌝ }
+    ensures { λ r. ⌜ r ≡ predictionBy h v p ⌝ }
+{
     Prediction {
         reference: p.reference,
         x: scale_word(h, p.x),
@@ -93,7 +112,10 @@ fn scale_prediction(h: Scale, v: Scale, p: Prediction) -> Prediction {
     }
 }
 
-fn scale_with(h: Scale, v: Scale, m: Motion) -> Motion {
+fn scale_with(h: Scale, v: Scale, m: Motion) -> Motion
+    requires { ⌜ AcceptedScale h × AcceptedScale v × (InRange (m .list0) × InRange (m .list1)) ⌝ }
+    ensures { λ r. ⌜ r ≡ motionBy h v m ⌝ }
+{
     let p = m.list0;
     let q = m.list1;
     let a = scale_prediction(h, v, p);
@@ -109,7 +131,10 @@ pub fn scale_motion(g: Axes, m: Motion) -> Motion
 }
 
 // Blocks of one piece have one motion: it is scaled once a piece.
-fn scale_quadrant(h: Scale, v: Scale, s: SubSplit, m: [Motion; 4]) -> [Motion; 4] {
+fn scale_quadrant(h: Scale, v: Scale, s: SubSplit, m: [Motion; 4]) -> [Motion; 4]
+    requires { ⌜ AcceptedScale h × AcceptedScale v × ((k : ℕ) → k < 4 → InRange (getD m k zeroMotion .list0) × InRange (getD m k zeroMotion .list1)) × (s ≡ quadrantShape m) ⌝ }
+    ensures { λ r. ⌜ r ≡ four (λ k. motionBy h v (getD m k zeroMotion)) ⌝ }
+{
     let a = scale_with(h, v, m[0]);
     match s {
         SubSplit::S8x8 => [a; 4],

@@ -1,10 +1,9 @@
--- `motion::scale_prediction` meets its contract. What the machine reads back of a word is the word. Assumes nothing.
+-- `motion::scale_prediction` meets its contract. Assumes nothing.
 use mathlib.Core.Path.{_≡_}
 use mir.Facts.{toZ-ofZ}
 use mir.Syntax.{w16}
 use mir.Val.{SFits, toZ, ofZ}
-use Rattle.definitions.specs.Geometry.{baseSize, scaledSize}
-use Rattle.definitions.specs.Inheriting.{scaledWord, scaledPrediction}
+use Rattle.definitions.specs.Inheriting.{scaledWord}
 use Rattle.motion.proofs.Range.{size-of}
 use Rattle.motion.proofs.Signs.{by-words}
 use borrow.Author.Needs.{needs}
@@ -13,27 +12,24 @@ use Rattle.motion.proofs.scale_prediction.Tie as tie
 
 scale-word-requires : tie.Need-scale-word-requires
 scale-word-requires c κs =
-    let s = c .before .before .before in
+    let s = c .before in
     let f : SFits w16 (s .args .p .x) = search needs in
-    rw (toZ-ofZ f) (size-of (s .args .p .x) (s .pre .2 .x), s .pre .0 .sized)
+    rw (toZ-ofZ f) (size-of (s .args .p .x) (s .pre .2 .x), s .pre .0)
 
 scale-word-requires-2 : tie.Need-scale-word-requires-2
 scale-word-requires-2 c κs =
-    let s = c .before .before .before .before .before in
+    let s = c .before .before .before in
     let f : SFits w16 (s .args .p .y) = search needs in
-    rw (toZ-ofZ f) (size-of (s .args .p .y) (s .pre .2 .y), s .pre .1 .sized)
+    rw (toZ-ofZ f) (size-of (s .args .p .y) (s .pre .2 .y), s .pre .1)
 
 returns : tie.Need-returns
-unfolding scaledPrediction
 returns c =
-    let a = c .before .before .before .before .before .before .before .args in
+    let a = c .before .before .before .before .before .args in
     let first = c .before .before .before .scale-word in
     let last = c .before .scale-word2 in
-    let h = a .g .horizontal in
-    let v = a .g .vertical in
     let r : toZ w16 (ofZ w16 (a .p .reference)) ≡ a .p .reference = toZ-ofZ (search needs) in
-    let x = by-words (scaledWord (baseSize h) (scaledSize h)) (a .p .x) (first .result) (search needs) (search needs) (first .ensures) in
-    let y = by-words (scaledWord (baseSize v) (scaledSize v)) (a .p .y) (last .result) (search needs) (search needs) (last .ensures) in
+    let x = by-words (scaledWord (a .h .base) (a .h .scaled)) (a .p .x) (first .result) (search needs) (search needs) (first .ensures) in
+    let y = by-words (scaledWord (a .v .base) (a .v .scaled)) (a .p .y) (last .result) (search needs) (search needs) (last .ensures) in
     λ i. record { reference = r i; x = x i; y = y i }
 
 pub scale-prediction-spec : {M : Type 1} → statement M

@@ -1,0 +1,32 @@
+-- A product and a division by p stand for a division by b. Assumes nothing.
+use Prim.Native.Nat.{ℕ, _+_, _*_, _/_, _^_, _≤_, _<_}
+use mathlib.Core.Path.{_≡_}
+use native.Mathlib.Nat.{div-mul-le-self, lt-div-mul-add, div-eq-of-lt-le, div-le-of-le-mul, mul-le-mul, mul-le-mul-left, mul-le-mul-right, lt-of-mul-lt-mul-right}
+use native.Mathlib.Omega.{arith}
+use Rattle.definitions.specs.Accepted.{Sized}
+use Rattle.definitions.specs.Record.{vectorLimit}
+use Rattle.motion.specs.Scales.{inverseOf}
+
+-- b · (p / b + 1) is above p by at most b: so small an error, x times, does not reach the next multiple of p
+inverse-is : (p b x : ℕ) → 0 < b → x * b < p → x * (p / b + 1) / p ≡ x / b
+inverse-is p b x hb few =
+    let low : x / b * p ≤ x * (p / b + 1) =
+    omega (arith, mul-le-mul-left (x / b) (lt-div-mul-add {a = p} hb), mul-le-mul-right (p / b + 1) (div-mul-le-self x b)) in
+    let high : x * (p / b + 1) * b < (x / b + 1) * p * b =
+    omega (arith, mul-le-mul-left x (div-mul-le-self p b), mul-le-mul-right p (lt-div-mul-add {a = x} hb)) in
+    div-eq-of-lt-le p low (lt-of-mul-lt-mul-right b high)
+
+module _ (b s n : ℕ) (h : n ≤ vectorLimit) (z : Sized b s) where
+  pub sum-high : n * s + b / 2 ≤ 2 ^ 26 + 2 ^ 11
+  sum-high =
+      let k : s ≤ 2 ^ 13 = omega arith in
+      omega (arith, mul-le-mul h k)
+
+  pub product-high : (n * s + b / 2) * inverseOf b < 2 ^ 64
+  product-high =
+      let k : 2 ^ 40 / b ≤ 2 ^ 36 = div-le-of-le-mul b (omega arith) in
+      let l : inverseOf b ≤ 2 ^ 36 + 1 = omega arith in
+      omega (arith, mul-le-mul sum-high l)
+
+  pub size-is : (n * s + b / 2) * inverseOf b / 2 ^ 40 ≡ (n * s + b / 2) / b
+  size-is = inverse-is (2 ^ 40) b (n * s + b / 2) (omega arith) (omega (arith, mul-le-mul sum-high (z .base-high)))

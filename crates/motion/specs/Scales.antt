@@ -1,0 +1,30 @@
+-- Step 4 of "Inheriting", by numbers that are computed once for an axis.
+use Prim.Native.Nat.{ℕ, _+_, _/_, _^_}
+use mathlib.Core.Path.{_≡_}
+use Rattle.definitions.specs.declared.Axis.{Axis}
+use Rattle.definitions.specs.declared.Motion.{Motion}
+use Rattle.definitions.specs.declared.Prediction.{Prediction}
+use Rattle.definitions.specs.Accepted.{Sized}
+use Rattle.definitions.specs.Geometry.{baseSize, scaledSize}
+use Rattle.definitions.specs.Inheriting.{scaledWord}
+use Rattle.motion.specs.declared.Scale.{Scale}
+
+-- B, S, and what stands for a division by B
+abbrev pub inverseOf : ℕ → ℕ
+inverseOf b = 2 ^ 40 / b + 1
+
+abbrev pub scaleOf : Axis → Scale
+scaleOf a = record { base = baseSize a; scaled = scaledSize a; inverse = inverseOf (baseSize a) }
+
+-- a scale of an accepted geometry
+pub record AcceptedScale (s : Scale) : Type 0 where
+  pub sized : Sized (s .base) (s .scaled)
+  pub inverse : s .inverse ≡ inverseOf (s .base)
+
+-- a prediction and a motion by the horizontal and the vertical scale
+abbrev pub predictionBy : Scale → Scale → Prediction → Prediction
+predictionBy h v p =
+    record { reference = p .reference; x = scaledWord (h .base) (h .scaled) (p .x); y = scaledWord (v .base) (v .scaled) (p .y) }
+
+abbrev pub motionBy : Scale → Scale → Motion → Motion
+motionBy h v m = record { list0 = predictionBy h v (m .list0); list1 = predictionBy h v (m .list1) }
