@@ -5,10 +5,13 @@ use mathlib.Core.Bool.{Bool, true, false, _&&_, _||_, and-assoc, and-true}
 use mathlib.Core.List.{List, [], _∷_, _++_}
 use native.Mathlib.Nat.{add-zero}
 use native.Mathlib.Omega.{arith}
+use lib.Bits.{bitAnd, and-zero-r, and-le-r}
+use lib.Dec.{eqb}
 use lib.IntN.{ℤ, pos}
 use lib.ListN.{getD}
 use mir.Syntax.{w16}
 use mir.Val.{SFits, ofZ}
+use borrow.Author.Tests.{eqb-true}
 use Rattle.definitions.specs.declared.Motion.{Motion}
 use Rattle.definitions.specs.declared.SubSplit.{SubSplit}
 use Rattle.definitions.specs.declared.SubSplit.the-variants.{S8x8, S8x4, S4x8, S4x4}
@@ -16,33 +19,19 @@ use Rattle.definitions.specs.declared.SubSplits.{SubSplits}
 use Rattle.definitions.specs.declared.Split.{Split}
 use Rattle.definitions.specs.declared.Split.the-variants.{S16x16, S16x8, S8x16, S8x8 as Quarters}
 use Rattle.definitions.specs.Tests.{pick, eqZ, allBelow, allOf}
-use Rattle.definitions.specs.Splits.{sameMotion, quadrantOf, placeOf, rasterOf, subPieces, alike, oneEach}
-use Rattle.definitions.specs.Record.{typeOf, subTypeOf, isIntra, motionOf, subSplitOf, splitSaid, rule6}
+use Rattle.definitions.specs.Splits.{samePrediction, sameMotion, quadrantOf, placeOf, rasterOf, subPieces, alike, oneEach}
+use Rattle.definitions.specs.Record.{wordOf, typeOf, subTypeOf, isIntra, motionOf, subSplitOf, splitSaid, rule6}
 use Rattle.definitions.proofs.Choices.{yes, no, each, below-true, below-intro, below-same}
 use Rattle.definitions.proofs.Motions.{motion-same}
-use Rattle.definitions.proofs.Records.{raster-quadrant, raster-place, raster-below, raster-is}
-use Rattle.records.specs.Checking.{subFirstBlock, subSplitAt, firstBlockIn, firstBlockOf, sameAsFirst}
+use Rattle.definitions.proofs.Records.{raster-quadrant, raster-place, raster-below}
+use Rattle.records.specs.Checking.{subFirstBlock, subSplitAt, firstBlockIn, firstBlockOf, sameReferences, sameVectors, sameAsFirst}
 use Rattle.records.proofs.Words.{word-is, word-is-not}
-use Rattle.records.proofs.Searches.{below-both}
-
--- two tests that hold in the same cases
-same-test : (a b : Bool) → (a ≡ true → b ≡ true) → (b ≡ true → a ≡ true) → a ≡ b
-same-test true b f g = sym (f refl)
-same-test false true f g = g refl
-same-test false false f g = refl
+use Rattle.records.proofs.Searches.{and-swap, below-both, by-quadrants}
 
 all-append : {A : Type 0} (f : A → Bool) (k l : List A) → allOf f (k ++ l) ≡ (allOf f k && allOf f l)
 unfolding allOf
 all-append f [] l = refl
 all-append f (x ∷ xs) l = ap (λ (t : Bool). f x && t) (all-append f xs l) ∙ sym (and-assoc (f x) (allOf f xs) (allOf f l))
-
--- the blocks by quadrant and place
-by-quadrants : (f : ℕ → Bool) → allBelow 16 f ≡ allBelow 4 (λ q. allBelow 4 (λ k. f (rasterOf q k)))
-by-quadrants f =
-    same-test _ _
-    (λ e. below-intro 4 _ (λ q hq. below-intro 4 _ (λ k hk. below-true 16 f e (rasterOf q k) (raster-below q k hq hk))))
-    (λ e. below-intro 16 f (λ b h.
-    ap f (sym (raster-is b h)) ∙ below-true 4 (λ k. f (rasterOf (quadrantOf b) k)) (below-true 4 _ e (quadrantOf b) (omega arith)) (placeOf b) (omega arith)))
 
 -- a quadrant's first block, and a place in it: rasterOf is their sum
 abbrev first : ℕ → ℕ
@@ -121,9 +110,9 @@ module _ (r : List ℤ) where
   by-type true = below-intro 16 _ (λ b h. motion-same (motionOf r b) (motionOf r b) refl)
   by-type false = by-first-blocks (motionOf r) (splitSaid r)
 
-  pub same-all : rule6 r ≡ allBelow 16 (sameAsFirst r)
-  unfolding rule6 firstBlockOf
-  same-all = sym (by-type (isIntra r))
+  pub same-all : rule6 r ≡ allBelow 4 (sameAsFirst r)
+  unfolding rule6 firstBlockOf sameAsFirst
+  same-all = sym (by-type (isIntra r)) ∙ by-quadrants (asAt (motionOf r) (firstBlockOf r))
 
 -- ---- The tests of the type and of the sub-type
 module _ (z : ℤ) (fits : SFits w16 z) where
@@ -184,3 +173,121 @@ module _ (r : List ℤ) (fits : SFits w16 (typeOf r)) (b : ℕ) where
             said-first (Quarters said) (past (no _ _ (is-not (typeOf r) fits 3 (omega arith) n3)))
             ∙ ap (λ (s : SubSplit). subFirstBlock s b)
             (each (λ q. subSplitAt said q ≡ subSplitOf (subTypeOf r q)) refl refl refl refl (quadrantOf b) (omega arith))
+
+-- ---- The bits kept
+-- two functions that agree below 16, as computed
+agree : (f g : ℕ → ℕ) → allBelow 16 (λ b. eqb (f b) (g b)) ≡ true → (b : ℕ) → b < 16 → f b ≡ g b
+agree f g e b h = eqb-true (f b) (g b) (below-true 16 (λ b. eqb (f b) (g b)) e b h)
+
+abbrev subBits : SubSplit → ℕ
+subBits S8x8 = 10
+subBits S8x4 = 14
+subBits S4x8 = 11
+subBits S4x4 = 15
+
+sub-bits : (s : SubSplit) (b : ℕ) → b < 16 → bitAnd b (subBits s) ≡ subFirstBlock s b
+unfolding allBelow
+sub-bits S8x8 = agree (λ b. bitAnd b 10) (subFirstBlock S8x8) refl
+sub-bits S8x4 = agree (λ b. bitAnd b 14) (subFirstBlock S8x4) refl
+sub-bits S4x8 = agree (λ b. bitAnd b 11) (subFirstBlock S4x8) refl
+sub-bits S4x4 = agree (λ b. bitAnd b 15) (subFirstBlock S4x4) refl
+
+pub sub-kept : (z : ℤ) (s : SubSplit) → subSplitOf z ≡ s → (b : ℕ) → b < 16 → bitAnd b (subBits s) ≡ subFirstBlock (subSplitOf z) b
+sub-kept z s e b h = sub-bits s b h ∙ ap (λ (s : SubSplit). subFirstBlock s b) (sym e)
+
+pub kept-all : (b : ℕ) → b < 16 → bitAnd b 15 ≡ b
+kept-all = sub-bits S4x4
+
+pub kept-none : (b : ℕ) → b < 16 → bitAnd b 0 ≡ 0
+kept-none b h = and-zero-r b
+
+pub kept-row : (b : ℕ) → b < 16 → bitAnd b 8 ≡ b / 8 * 8
+unfolding allBelow
+kept-row = agree (λ b. bitAnd b 8) (λ b. b / 8 * 8) refl
+
+pub kept-column : (b : ℕ) → b < 16 → bitAnd b 2 ≡ b % 4 / 2 * 2
+unfolding allBelow
+kept-column = agree (λ b. bitAnd b 2) (λ b. b % 4 / 2 * 2) refl
+
+pub kept-below : (b keep : ℕ) → keep < 16 → bitAnd b keep < 16
+kept-below b keep h = omega (arith, and-le-r b keep)
+
+-- whichever bits are kept, the blocks of a quadrant go to one quadrant
+abbrev test : ℕ → ℕ → ℕ → Bool
+test keep q k = eqb (quadrantOf (bitAnd (rasterOf q k) keep)) (quadrantOf (bitAnd (rasterOf q 0) keep))
+
+tested : allBelow 16 (λ keep. allBelow 4 (λ q. allBelow 4 (test keep q))) ≡ true
+unfolding allBelow
+tested = refl
+
+one-quadrant :
+    (keep : ℕ) → keep < 16 → (q : ℕ) → q < 4 → (k : ℕ) → k < 4 → quadrantOf (bitAnd (rasterOf q k) keep) ≡ quadrantOf (bitAnd (rasterOf q 0) keep)
+one-quadrant keep h q hq k hk =
+    let of-keep = below-true 16 (λ keep. allBelow 4 (λ q. allBelow 4 (test keep q))) tested keep h in
+    eqb-true _ _ (below-true 4 (test keep q) (below-true 4 (λ q. allBelow 4 (test keep q)) of-keep q hq) k hk)
+
+-- ---- A quadrant's references once, and the vectors of its blocks
+module _ (r : List ℤ) where
+  abbrev sameWord : ℕ → ℕ → Bool
+  sameWord v w = eqZ (wordOf r v) (wordOf r w)
+
+  pub references-same : (q e : ℕ) → (sameWord (5 + 2 * q) (5 + 2 * e) && sameWord (5 + 2 * q + 1) (5 + 2 * e + 1)) ≡ sameReferences r q e
+  unfolding sameReferences allBelow
+  references-same q e = rw (add-zero (5 + 2 * q), add-zero (5 + 2 * e))
+
+  pub vectors-same :
+      (b d : ℕ) →
+      (((sameWord (13 + 4 * b) (13 + 4 * d) && sameWord (13 + 4 * b + 1) (13 + 4 * d + 1)) && sameWord (13 + 4 * b + 2) (13 + 4 * d + 2))
+      && sameWord (13 + 4 * b + 3) (13 + 4 * d + 3))
+      ≡ sameVectors r b d
+  unfolding sameVectors allBelow
+  vectors-same b d =
+      let p : 13 + 4 * b + 2 + 1 ≡ 13 + 4 * b + 3 = omega arith in
+      let q : 13 + 4 * d + 2 + 1 ≡ 13 + 4 * d + 3 = omega arith in
+      rw (add-zero (13 + 4 * b), add-zero (13 + 4 * d), p, q) (simp and-assoc)
+
+  motion-parts : (b d : ℕ) → sameMotion (motionOf r b) (motionOf r d) ≡ (sameReferences r (quadrantOf b) (quadrantOf d) && sameVectors r b d)
+  unfolding sameMotion samePrediction motionOf sameReferences sameVectors allBelow
+  motion-parts b d = and-swap (reference 0) (vector 0) (reference 1) (vector 1)
+    where
+      reference : ℕ → Bool
+      reference l = sameWord (5 + 2 * quadrantOf b + l) (5 + 2 * quadrantOf d + l)
+
+      vector : ℕ → Bool
+      vector l = sameWord (13 + 4 * b + 2 * l) (13 + 4 * d + 2 * l) && sameWord (13 + 4 * b + 2 * l + 1) (13 + 4 * d + 2 * l + 1)
+
+once : (t : Bool) (f : ℕ → Bool) → ((((t && f 0) && f 1) && f 2) && f 3) ≡ allBelow 4 (λ k. t && f k)
+unfolding allBelow
+once true f = refl
+once false f = refl
+
+module _ (r : List ℤ) (q keep : ℕ) (hq : q < 4) (small : keep < 16) (firsts : (b : ℕ) → b < 16 → quadrantOf b ≡ q → bitAnd b keep ≡ firstBlockOf r b) where
+  abbrev i : ℕ
+  i = 8 * (q / 2) + 2 * (q % 2)
+
+  at : i ≡ first q
+  at = each (λ q. 8 * (q / 2) + 2 * (q % 2) ≡ first q) refl refl refl refl q hq
+
+  abbrev references : ℕ → Bool
+  references b = sameReferences r q (quadrantOf (bitAnd b keep))
+
+  abbrev vectors : ℕ → Bool
+  vectors b = sameVectors r b (bitAnd b keep)
+
+  one-block :
+      (k : ℕ) →
+      k < 4 →
+      (references (rasterOf q 0) && vectors (rasterOf q k)) ≡ sameMotion (motionOf r (rasterOf q k)) (motionOf r (firstBlockOf r (rasterOf q k)))
+  one-block k hk =
+      let here : quadrantOf (rasterOf q k) ≡ q = raster-quadrant q k hq hk in
+      let there = one-quadrant keep small q hq k hk in
+      sym
+      (ap (λ (d : ℕ). sameMotion (motionOf r (rasterOf q k)) (motionOf r d)) (sym (firsts (rasterOf q k) (raster-below q k hq hk) here))
+      ∙ (motion-parts r (rasterOf q k) (bitAnd (rasterOf q k) keep) ∙ (λ j. sameReferences r (here j) (there j) && vectors (rasterOf q k))))
+
+  pub quadrant-same : ((((references i && vectors i) && vectors (i + 1)) && vectors (i + 4)) && vectors (i + 5)) ≡ sameAsFirst r q
+  unfolding sameAsFirst
+  quadrant-same =
+      let at0 : i ≡ rasterOf q 0 = at ∙ sym (add-zero (first q)) in
+      (λ j. (((references (at0 j) && vectors (at0 j)) && vectors (at j + 1)) && vectors (at j + 4)) && vectors (at j + 5))
+      ∙ (once (references (rasterOf q 0)) (λ k. vectors (rasterOf q k)) ∙ below-same 4 _ _ one-block)

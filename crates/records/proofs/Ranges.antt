@@ -1,5 +1,5 @@
 -- Rules 2 to 5 as ranges of words. Assumes nothing.
-use Prim.Native.Nat.{ℕ, _+_, _-_, _*_}
+use Prim.Native.Nat.{ℕ, _+_, _-_, _*_, _/_, _%_, _<_}
 use mathlib.Core.Path.{_≡_, refl, sym, ap, _∙_}
 use mathlib.Core.Bool.{Bool, true, false, not, _&&_, and-assoc, and-comm, and-true, and-false, Bool·not-not}
 use mathlib.Core.List.{List}
@@ -13,31 +13,10 @@ use Rattle.definitions.specs.declared.Prediction.{Prediction}
 use Rattle.definitions.specs.Tests.{minus, eqZ, between, allBelow}
 use Rattle.definitions.specs.Record.{vectorLimit, wordOf, typeOf, isIntra, referenceOf, predictionOf, used, vectorWord, rule1, rule2, rule3, rule4, rule5}
 use Rattle.definitions.specs.Splits.{quadrantOf}
-use Rattle.definitions.proofs.Choices.{and-intro, eqZ-true, yes, no, below-same}
+use Rattle.definitions.proofs.Choices.{and-intro, eqZ-true, yes, no, below-same, each}
 use Rattle.records.specs.declared.Range.{Range}
-use Rattle.records.specs.Checking.{within, allWithin, quadrantUsed, listRight, vectorsRight}
-use Rattle.records.proofs.Searches.{below-both}
-
--- ---- A range by the machine's two comparisons
-leb-not : (a b : ℕ) (t : Bool) → ltb b a ≡ t → leb a b ≡ not t
-leb-not a b true e = lt-leb a b (ltb-true b a e)
-leb-not a b false e = le-leb a b (ltb-false b a e)
-
-leZ-not : (a b : ℤ) → leZ a b ≡ not (ltZ b a)
-leZ-not (pos a) (pos b) = leb-not a b _ refl
-leZ-not (pos a) (negsuc b) = refl
-leZ-not (negsuc a) (pos b) = refl
-leZ-not (negsuc a) (negsuc b) = leb-not b a _ refl
-
-module _ (range : Range) (z : ℤ) where
-  pub too-low : ltZ z (range .low) ≡ true → within range z ≡ false
-  too-low e = rw (leZ-not (range .low) z, e)
-
-  pub too-high : ltZ (range .high) z ≡ true → within range z ≡ false
-  too-high e = rw (leZ-not z (range .high), e) (and-false (leZ (range .low) z))
-
-  pub is-within : ltZ z (range .low) ≡ false → ltZ (range .high) z ≡ false → within range z ≡ true
-  is-within l h = and-intro (leZ-not (range .low) z ∙ ap not l) (leZ-not z (range .high) ∙ ap not h)
+use Rattle.records.specs.Checking.{within, allWithin, quadrantUsed, listRight, blockWithin, vectorsRight}
+use Rattle.records.proofs.Searches.{below-both, by-quadrants}
 
 -- ---- A range of one number
 same-nat : (a b : ℕ) (t u : Bool) → leb a b ≡ t → leb b a ≡ u → (t && u) ≡ eqb b a
@@ -119,32 +98,43 @@ word-zero t v e = rw e (narrowed (minus vectorLimit) (pos (vectorLimit - 1)) v r
 word-any : (t : Bool) (v : ℤ) → t ≡ true → vectorWord t v ≡ within vectorRange v
 word-any t v e = rw e (and-true (within vectorRange v))
 
-two-words : (r : List ℤ) (w : ℕ) (range : Range) → allWithin r w 2 range ≡ (within range (wordOf r w) && within range (wordOf r (w + 1)))
-unfolding allWithin allBelow
-two-words r w range = rw (add-zero w)
+module _ (reference : ℤ) where
+  pub range-zero : eqZ reference (minus 1) ≡ true → (v : ℤ) → within (only (pos 0)) v ≡ vectorWord (used reference) v
+  range-zero e v = sym (word-zero (used reference) v (ap not e))
 
-module _ (r : List ℤ) (b l : ℕ) (p : Prediction) (here : p ≡ predictionOf r b l) where
-  abbrev isUsed : Bool
-  isUsed = used (referenceOf r (quadrantOf b) l)
+  pub range-any : eqZ reference (minus 1) ≡ false → (v : ℤ) → within vectorRange v ≡ vectorWord (used reference) v
+  range-any e v = sym (word-any (used reference) v (ap not e))
 
-  abbrev first : ℕ
-  first = 13 + 4 * b + 2 * l
+-- the words of a block, and of a quadrant's four blocks
+module _ (r : List ℤ) where
+  pub block-words :
+      (f g : ℤ → Bool) (w : ℕ) → (((f (wordOf r w) && f (wordOf r (w + 1))) && g (wordOf r (w + 2))) && g (wordOf r (w + 3))) ≡ blockWithin f g r w
+  block-words f g w = and-assoc (f (wordOf r w) && f (wordOf r (w + 1))) (g (wordOf r (w + 2))) (g (wordOf r (w + 3)))
 
-  by-reference : {t : Bool} → eqZ (p .reference) (minus 1) ≡ t → isUsed ≡ not t
-  by-reference e = ap (λ (p : Prediction). used (p .reference)) (sym here) ∙ ap not e
+  abbrev quadrantWithin : (ℤ → Bool) → (ℤ → Bool) → ℕ → Bool
+  quadrantWithin f g w = ((blockWithin f g r w && blockWithin f g r (w + 4)) && blockWithin f g r (w + 16)) && blockWithin f g r (w + 20)
 
-  pub vectors-zero : eqZ (p .reference) (minus 1) ≡ true → listRight r b l ≡ allWithin r first 2 (only (pos 0))
-  vectors-zero e =
-      let x = word-zero isUsed (wordOf r first) (by-reference e) in
-      let y = word-zero isUsed (wordOf r (first + 1)) (by-reference e) in
-      (λ i. x i && y i) ∙ sym (two-words r first (only (pos 0)))
+  by-words :
+      (q : ℕ) →
+      q < 4 →
+      quadrantWithin (vectorWord (used (referenceOf r q 0))) (vectorWord (used (referenceOf r q 1))) (13 + 32 * (q / 2) + 8 * (q % 2)) ≡ vectorsRight r q
+  unfolding vectorsRight allBelow
+  by-words =
+      each
+      (λ q. quadrantWithin (vectorWord (used (referenceOf r q 0))) (vectorWord (used (referenceOf r q 1))) (13 + 32 * (q / 2) + 8 * (q % 2)) ≡ vectorsRight r q)
+      refl refl refl refl
 
-  pub vectors-any : eqZ (p .reference) (minus 1) ≡ false → listRight r b l ≡ allWithin r first 2 vectorRange
-  vectors-any e =
-      let x = word-any isUsed (wordOf r first) (by-reference e) in
-      let y = word-any isUsed (wordOf r (first + 1)) (by-reference e) in
-      (λ i. x i && y i) ∙ sym (two-words r first vectorRange)
+  pub quadrant-right :
+      (q : ℕ) →
+      q < 4 →
+      (f g : ℤ → Bool) →
+      ((v : ℤ) → f v ≡ vectorWord (used (wordOf r (5 + 2 * q))) v) →
+      ((v : ℤ) → g v ≡ vectorWord (used (wordOf r (5 + 2 * q + 1))) v) →
+      quadrantWithin f g (13 + 32 * (q / 2) + 8 * (q % 2)) ≡ vectorsRight r q
+  quadrant-right q h f g e0 e1 =
+      (λ i. quadrantWithin (λ v. (e0 v ∙ ap (λ (w : ℕ). vectorWord (used (wordOf r w)) v) (sym (add-zero (5 + 2 * q)))) i) (λ v. e1 v i) (13 + 32 * (q / 2) + 8 * (q % 2)))
+      ∙ by-words q h
 
-pub vectors-all : (r : List ℤ) → rule5 r ≡ allBelow 16 (vectorsRight r)
+pub vectors-all : (r : List ℤ) → rule5 r ≡ allBelow 4 (vectorsRight r)
 unfolding rule5 vectorsRight
-vectors-all r = refl
+vectors-all r = by-quadrants (λ b. allBelow 2 (listRight r b))

@@ -1,13 +1,15 @@
 -- Tests at each index below a number: two at once, and a search for the first index at which one fails, a turn at a time. Assumes nothing.
 use Prim.Native.Nat.{ℕ, zero, suc, _+_, _<_, _≤_}
-use mathlib.Core.Path.{_≡_, refl, sym, _∙_}
+use mathlib.Core.Path.{_≡_, refl, sym, ap, _∙_}
 use mathlib.Core.Bool.{Bool, true, false, _&&_, and-false}
 use native.Mathlib.Numerals.{add-one}
 use native.Mathlib.Omega.{arith}
 use Rattle.definitions.specs.Tests.{allBelow}
-use Rattle.definitions.proofs.Choices.{and-intro, below-true}
+use Rattle.definitions.specs.Splits.{quadrantOf, placeOf, rasterOf}
+use Rattle.definitions.proofs.Choices.{and-intro, below-true, below-intro}
+use Rattle.definitions.proofs.Records.{raster-below, raster-is}
 
-and-swap : (a b c d : Bool) → ((a && b) && (c && d)) ≡ ((a && c) && (b && d))
+pub and-swap : (a b c d : Bool) → ((a && b) && (c && d)) ≡ ((a && c) && (b && d))
 and-swap true true c d = refl
 and-swap true false c d = sym (and-false c)
 and-swap false b c d = refl
@@ -28,7 +30,12 @@ pub search-more : (f : ℕ → Bool) (k : ℕ) → allBelow k f ≡ true → f k
 unfolding allBelow
 search-more f k passed here = rw add-one (and-intro passed here)
 
-pub search-end : (f : ℕ → Bool) (n k : ℕ) → k ≤ n → n ≤ k → allBelow k f ≡ true → allBelow n f ≡ true
+-- the test so far, and the next
+pub below-more : (f : ℕ → Bool) (k : ℕ) {t u : Bool} → t ≡ allBelow k f → u ≡ f k → (t && u) ≡ allBelow (k + 1) f
+unfolding allBelow
+below-more f k so-far here = rw add-one (λ i. so-far i && here i)
+
+pub search-end : (f : ℕ → Bool) (n k : ℕ) → k ≤ n → n ≤ k → {t : Bool} → allBelow k f ≡ t → allBelow n f ≡ t
 search-end f n k le ge passed = let e : k ≡ n = omega arith in rw e at passed
 
 pub search-fault : (f : ℕ → Bool) (n k : ℕ) → k < n → f k ≡ false → allBelow n f ≡ false
@@ -37,3 +44,17 @@ search-fault f n k lt here = fault (allBelow n f) refl
     fault : (t : Bool) → allBelow n f ≡ t → t ≡ false
     fault true e = sym (below-true n f e k lt) ∙ here
     fault false e = refl
+
+-- two tests that hold in the same cases
+same-test : (a b : Bool) → (a ≡ true → b ≡ true) → (b ≡ true → a ≡ true) → a ≡ b
+same-test true b f g = sym (f refl)
+same-test false true f g = g refl
+same-test false false f g = refl
+
+-- the blocks by quadrant and place
+pub by-quadrants : (f : ℕ → Bool) → allBelow 16 f ≡ allBelow 4 (λ q. allBelow 4 (λ k. f (rasterOf q k)))
+by-quadrants f =
+    same-test _ _
+    (λ e. below-intro 4 _ (λ q hq. below-intro 4 _ (λ k hk. below-true 16 f e (rasterOf q k) (raster-below q k hq hk))))
+    (λ e. below-intro 16 f (λ b h.
+    ap f (sym (raster-is b h)) ∙ below-true 4 (λ k. f (rasterOf (quadrantOf b) k)) (below-true 4 _ e (quadrantOf b) (omega arith)) (placeOf b) (omega arith)))

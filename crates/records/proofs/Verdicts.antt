@@ -80,17 +80,17 @@ module _ (base : List ℤ) (a to : ℕ) where
     verdict-head n e broken = verdict-here n (broken-head r n (sym e) broken) broken
 
     module _ (head : headBroken r ≡ 0) where
-      pub verdict-5 : (b : ℕ) → b < 16 → vectorsRight r b ≡ false → foundAt a 5 ≡ verdict
-      verdict-5 b h e = verdict-here 5 (broken-5 r head (vectors-all r ∙ search-fault (vectorsRight r) 16 b h e)) (λ z. omega arith)
+      pub verdict-5 : (q : ℕ) → q < 4 → vectorsRight r q ≡ false → foundAt a 5 ≡ verdict
+      verdict-5 q h e = verdict-here 5 (broken-5 r head (vectors-all r ∙ search-fault (vectorsRight r) 4 q h e)) (λ z. omega arith)
 
-      module _ (b5 : ℕ) (le5 : b5 ≤ 16) (ge5 : 16 ≤ b5) (passed5 : allBelow b5 (vectorsRight r) ≡ true) where
+      module _ (q5 : ℕ) (le5 : q5 ≤ 4) (ge5 : 4 ≤ q5) (passed5 : allBelow q5 (vectorsRight r) ≡ true) where
         right5 : rule5 r ≡ true
-        right5 = vectors-all r ∙ search-end (vectorsRight r) 16 b5 le5 ge5 passed5
+        right5 = vectors-all r ∙ search-end (vectorsRight r) 4 q5 le5 ge5 passed5
 
-        pub verdict-6 : (b : ℕ) → b < 16 → sameAsFirst r b ≡ false → foundAt a 6 ≡ verdict
-        verdict-6 b h e = verdict-here 6 (broken-6 r head right5 (same-all r ∙ search-fault (sameAsFirst r) 16 b h e)) (λ z. omega arith)
+        pub verdict-6 : (q : ℕ) → q < 4 → sameAsFirst r q ≡ false → foundAt a 6 ≡ verdict
+        verdict-6 q h e = verdict-here 6 (broken-6 r head right5 (same-all r ∙ search-fault (sameAsFirst r) 4 q h e)) (λ z. omega arith)
 
         pub verdict-next :
-            (b6 : ℕ) → b6 ≤ 16 → 16 ≤ b6 → allBelow b6 (sameAsFirst r) ≡ true → verdict ≡ verdictOf (recordTests base (addresses (a + 1) to))
-        verdict-next b6 le6 ge6 passed6 =
-            verdict-more (broken-none r head right5 (same-all r ∙ search-end (sameAsFirst r) 16 b6 le6 ge6 passed6))
+            (q6 : ℕ) → q6 ≤ 4 → 4 ≤ q6 → allBelow q6 (sameAsFirst r) ≡ true → verdict ≡ verdictOf (recordTests base (addresses (a + 1) to))
+        verdict-next q6 le6 ge6 passed6 =
+            verdict-more (broken-none r head right5 (same-all r ∙ search-end (sameAsFirst r) 4 q6 le6 ge6 passed6))

@@ -1,11 +1,9 @@
 -- What the machine's comparisons of two words tell of the words. Assumes nothing.
 use mathlib.Core.Path.{_≡_, sym, _∙_}
-use mathlib.Core.Bool.{Bool, true, false}
+use mathlib.Core.Bool.{true, false}
 use lib.IntN.{ℤ}
-use lib.Signed.{ltZ}
 use mir.Syntax.{w16}
-use mir.Val.{SFits, ofZ, toZ}
-use mir.Facts.{toZ-ofZ}
+use mir.Val.{SFits, ofZ}
 use borrow.Author.Tests.{eq-eqb, ne-eqb}
 use Rattle.definitions.specs.Tests.{eqZ}
 use Rattle.definitions.proofs.Motions.{word-same}
@@ -16,6 +14,3 @@ module _ (a b : ℤ) (fa : SFits w16 a) (fb : SFits w16 b) where
 
   pub word-is-not : (ofZ w16 a ≡ ofZ w16 b → ⊥) → eqZ a b ≡ false
   word-is-not ne = sym (word-same a b fa fb) ∙ ne-eqb _ _ ne
-
-  pub word-less : {t : Bool} → ltZ (toZ w16 (ofZ w16 a)) (toZ w16 (ofZ w16 b)) ≡ t → ltZ a b ≡ t
-  word-less e = sym (λ i. ltZ (toZ-ofZ fa i) (toZ-ofZ fb i)) ∙ e

@@ -12,7 +12,7 @@ use Rattle.definitions.specs.declared.Split.{Split}
 use Rattle.definitions.specs.declared.Split.the-variants.{S16x16, S16x8, S8x16, S8x8 as Quarters}
 use Rattle.definitions.specs.declared.Verdict.{Verdict}
 use Rattle.definitions.specs.declared.Verdict.the-variants.{Accepted, Refused}
-use Rattle.definitions.specs.Tests.{pick, between, allBelow, upTo}
+use Rattle.definitions.specs.Tests.{pick, eqZ, between, allBelow, upTo}
 use Rattle.definitions.specs.Splits.{sameMotion, quadrantOf, placeOf, rasterOf}
 use Rattle.definitions.specs.Record.{wordOf, referenceOf, vectorXOf, vectorYOf, motionOf, isIntra, used, splitSaid, vectorWord, rule1, rule2, rule3, rule4}
 use Rattle.records.specs.declared.Range.{Range}
@@ -32,13 +32,17 @@ headBroken r = pick (not (rule1 r)) 1 (pick (not (rule2 r)) 2 (pick (not (rule3 
 abbrev pub quadrantUsed : List ℤ → ℕ → Bool
 quadrantUsed r q = used (referenceOf r q 0) || used (referenceOf r q 1)
 
--- rule 5 of a block in one list, and of a block
+-- rule 5 of a block in one list, and of the blocks of a quadrant
 abbrev pub listRight : List ℤ → ℕ → ℕ → Bool
 listRight r b l =
     vectorWord (used (referenceOf r (quadrantOf b) l)) (vectorXOf r b l) && vectorWord (used (referenceOf r (quadrantOf b) l)) (vectorYOf r b l)
 
 unfoldable pub vectorsRight : List ℤ → ℕ → Bool
-vectorsRight r b = allBelow 2 (listRight r b)
+vectorsRight r q = allBelow 4 (λ k. allBelow 2 (listRight r (rasterOf q k)))
+
+-- the vector words of a block, from word w on, pass: those of list 0 a test f, those of list 1 a test g
+abbrev pub blockWithin : (ℤ → Bool) → (ℤ → Bool) → List ℤ → ℕ → Bool
+blockWithin f g r w = (f (wordOf r w) && f (wordOf r (w + 1))) && (g (wordOf r (w + 2)) && g (wordOf r (w + 3)))
 
 -- rule 6: the first block of the piece that block b stands in
 abbrev pub subFirstBlock : SubSplit → ℕ → ℕ
@@ -60,9 +64,16 @@ firstBlockIn (Quarters t) b = subFirstBlock (subSplitAt t (quadrantOf b)) b
 unfoldable pub firstBlockOf : List ℤ → ℕ → ℕ
 firstBlockOf r b = pick (isIntra r) b (firstBlockIn (splitSaid r) b)
 
--- block b has the motion of that block
-abbrev pub sameAsFirst : List ℤ → ℕ → Bool
-sameAsFirst r b = sameMotion (motionOf r b) (motionOf r (firstBlockOf r b))
+-- the blocks of a quadrant have the motions of those blocks
+unfoldable pub sameAsFirst : List ℤ → ℕ → Bool
+sameAsFirst r q = allBelow 4 (λ k. sameMotion (motionOf r (rasterOf q k)) (motionOf r (firstBlockOf r (rasterOf q k))))
+
+-- two quadrants have the same references, two blocks the same vectors
+unfoldable pub sameReferences : List ℤ → ℕ → ℕ → Bool
+sameReferences r q e = allBelow 2 (λ l. eqZ (referenceOf r q l) (referenceOf r e l))
+
+unfoldable pub sameVectors : List ℤ → ℕ → ℕ → Bool
+sameVectors r b d = allBelow 2 (λ l. eqZ (vectorXOf r b l) (vectorXOf r d l) && eqZ (vectorYOf r b l) (vectorYOf r d l))
 
 -- what a search says that ended at an address with a broken rule, or with none (0)
 unfoldable pub foundAt : ℕ → ℕ → Verdict

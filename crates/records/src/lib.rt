@@ -1,17 +1,18 @@
 // Motion records: reading one of a list of records, and the check that they are well formed.
 ghost use mathlib.Core.Path.{_≡_};
-ghost use Prim.Native.Nat.{_+_, _*_, _≤_, _<_};
+ghost use Prim.Native.Nat.{ℕ, _+_, _*_, _≤_, _<_};
+ghost use lib.IntN.{ℤ};
 ghost use lib.ListN.{length};
-ghost use Rattle.definitions.specs.Tests.{allBelow};
-ghost use Rattle.definitions.specs.Splits.{quadrantOf, rasterOf};
-ghost use Rattle.definitions.specs.Record.{recordWords, recordAt, isIntra, predictionOf, motionOf, subTypeOf, subSplitOf, rule2, rule4};
+ghost use lib.Bits.{bitAnd};
+ghost use Rattle.definitions.specs.Tests.{eqZ, allBelow};
+ghost use Rattle.definitions.specs.Splits.{quadrantOf};
+ghost use Rattle.definitions.specs.Record.{recordWords, recordAt, wordOf, isIntra, predictionOf, motionOf, used, subTypeOf, subSplitOf, vectorWord, rule2, rule4};
 ghost use Rattle.definitions.specs.Refusals.{verdictOf, recordTests};
-ghost use Rattle.records.specs.Checking.{allWithin, quadrantUsed, listRight, vectorsRight, subFirstBlock, firstBlockOf, sameAsFirst, headBroken, foundAt, addresses};
+ghost use Rattle.records.specs.Checking.{within, allWithin, quadrantUsed, blockWithin, vectorsRight, subFirstBlock, firstBlockOf, sameReferences, sameVectors, sameAsFirst, headBroken, foundAt, addresses};
 use definitions::Motion;
 use definitions::Prediction;
 use definitions::Refusal;
 use definitions::Verdict;
-use motion::same_motion;
 
 const RECORD_WORDS: usize = 77;
 
@@ -43,11 +44,6 @@ const ONLY_UNUSED: Range = Range {
 };
 
 const ONLY_ZERO: Range = Range { low: 0, high: 0 };
-
-// The blocks as four quadrants of four: the first block of each quadrant, and the places in one.
-const FIRST_BLOCKS: [usize; 4] = [0, 2, 8, 10];
-
-const PLACES: [usize; 4] = [0, 1, 4, 5];
 
 // ---- Reading
 // The words of the record at address a.
@@ -99,6 +95,15 @@ pub fn motion_of(base: &[i16], a: usize, b: usize) -> Motion
 }
 
 // ---- Rules 1 to 4: words 0 to 12
+// Here and below every test is made: `&` has no branch, and words are taken several at once.
+fn word_within(words: &[i16], w: usize, range: Range) -> bool
+    requires { ⌜ (length (now words) ≡ recordWords) × (w < recordWords) ⌝ }
+    ensures { λ t. ⌜ t ≡ within range (wordOf (now (words .entry)) w) ⌝ }
+{
+    let word = words[w];
+    (range.low <= word) & (word <= range.high)
+}
+
 // Count words from the first on are in the range.
 fn all_within(words: &[i16], first: usize, count: usize, range: Range) -> bool
     requires { ⌜ (first + count ≤ length (now words)) × (length (now words) ≡ recordWords) ⌝ }
@@ -107,8 +112,7 @@ fn all_within(words: &[i16], first: usize, count: usize, range: Range) -> bool
     let mut right = true;
     let mut k: usize = 0;
     while k < count {
-        let word = words[first + k];
-        right = right & (range.low <= word) & (word <= range.high);
+        right = right & word_within(words, first + k, range);
         k += 1;
     }
     right
@@ -181,51 +185,49 @@ fn head_rule(words: &[i16]) -> u32
 }
 
 // ---- Rule 5: the vector words of a quadrant
-fn range_of(reference: i16) -> Range {
-    if reference == UNUSED {
-        ONLY_ZERO
-    } else {
-        VECTORS
+// The range that the reference at word w allows its vector words.
+fn range_by(words: &[i16], w: usize) -> Range
+    requires { ⌜ (length (now words) ≡ recordWords) × (w < recordWords) ⌝ }
+    ensures { λ range. ⌜ ((v : ℤ) → within range v ≡ vectorWord (used (wordOf (now (words .entry)) w)) v) ⌝ }
+{
+    if words[w] == UNUSED {
+        return ONLY_ZERO;
     }
+    VECTORS
 }
 
-fn is_in(range: Range, word: i16) -> bool {
-    (range.low <= word) & (word <= range.high)
+// A block's four vector words, from the first on: those of list 0 are in range0, those of list 1 in range1.
+fn block_within(words: &[i16], first: usize, range0: Range, range1: Range) -> bool
+    requires { ⌜ (length (now words) ≡ recordWords) × (first + 4 ≤ recordWords) ⌝ }
+    ensures { λ t. ⌜ t ≡ blockWithin (within range0) (within range1) (now (words .entry)) first ⌝ }
+{
+    word_within(words, first, range0)
+        & word_within(words, first + 1, range0)
+        & word_within(words, first + 2, range1)
+        & word_within(words, first + 3, range1)
 }
 
-fn pair_right(words: &[i16], first: usize, range0: Range, range1: Range) -> bool {
-    is_in(range0, words[first])
-        & is_in(range0, words[first + 1])
-        & is_in(range1, words[first + 2])
-        & is_in(range1, words[first + 3])
-        & is_in(range0, words[first + 4])
-        & is_in(range0, words[first + 5])
-        & is_in(range1, words[first + 6])
-        & is_in(range1, words[first + 7])
-}
-
-fn vectors_right(words: &[i16], q: usize) -> bool {
-    let range0 = range_of(words[5 + 2 * q]);
-    let range1 = range_of(words[6 + 2 * q]);
+fn vectors_right(words: &[i16], q: usize) -> bool
+    requires { ⌜ (length (now words) ≡ recordWords) × (q < 4) ⌝ }
+    ensures { λ t. ⌜ t ≡ vectorsRight (now (words .entry)) q ⌝ }
+{
+    let reference = 5 + 2 * q;
+    let range0 = range_by(words, reference);
+    let range1 = range_by(words, reference + 1);
     let first = 13 + 32 * (q / 2) + 8 * (q % 2);
-    pair_right(words, first, range0, range1) & pair_right(words, first + 16, range0, range1)
+    block_within(words, first, range0, range1)
+        & block_within(words, first + 4, range0, range1)
+        & block_within(words, first + 16, range0, range1)
+        & block_within(words, first + 20, range0, range1)
 }
 
-// ---- Rule 6
-fn kept(words: &[i16], q: usize) -> usize {
-    let kind = words[0];
-    if kind == 0 {
-        return 15;
-    }
-    if kind == 1 {
-        return 0;
-    }
-    if kind == 2 {
-        return 8;
-    }
-    if kind == 3 {
-        return 2;
-    }
+// ---- Rule 6: one motion in each piece
+// The bits of a block's number that tell pieces apart: with these alone kept, it is the number of its piece's first block.
+// Those of quadrant q in an 8×8 split:
+fn sub_kept(words: &[i16], q: usize) -> usize
+    requires { ⌜ (length (now words) ≡ recordWords) × (q < 4) ⌝ }
+    ensures { λ keep. ⌜ (keep < 16) × ((b : ℕ) → b < 16 → bitAnd b keep ≡ subFirstBlock (subSplitOf (subTypeOf (now (words .entry)) q)) b) ⌝ }
+{
     let sub = words[1 + q];
     if sub == 0 {
         return 10;
@@ -239,20 +241,65 @@ fn kept(words: &[i16], q: usize) -> usize {
     15
 }
 
-fn same_vectors(words: &[i16], b: usize, d: usize) -> bool {
-    (words[13 + 4 * b] == words[13 + 4 * d])
-        & (words[14 + 4 * b] == words[14 + 4 * d])
-        & (words[15 + 4 * b] == words[15 + 4 * d])
-        & (words[16 + 4 * b] == words[16 + 4 * d])
+// Those of quadrant q. An intra record has no pieces: each block stands for itself.
+fn kept(words: &[i16], q: usize) -> usize
+    requires { ⌜ (length (now words) ≡ recordWords) × (q < 4) ⌝ }
+    ensures { λ keep. ⌜ (keep < 16) × ((b : ℕ) → b < 16 → quadrantOf b ≡ q → bitAnd b keep ≡ firstBlockOf (now (words .entry)) b) ⌝ }
+{
+    let kind = words[0];
+    if kind == 0 {
+        return 15;
+    }
+    if kind == 1 {
+        return 0;
+    }
+    if kind == 2 {
+        return 8;
+    }
+    if kind == 3 {
+        return 2;
+    }
+    sub_kept(words, q)
 }
 
-fn same_as_first(words: &[i16], q: usize) -> bool {
+fn same_word(words: &[i16], v: usize, w: usize) -> bool
+    requires { ⌜ (length (now words) ≡ recordWords) × (v < recordWords) × (w < recordWords) ⌝ }
+    ensures { λ t. ⌜ t ≡ eqZ (wordOf (now (words .entry)) v) (wordOf (now (words .entry)) w) ⌝ }
+{
+    words[v] == words[w]
+}
+
+fn same_references(words: &[i16], q: usize, e: usize) -> bool
+    requires { ⌜ (length (now words) ≡ recordWords) × (q < 4) × (e < 4) ⌝ }
+    ensures { λ t. ⌜ t ≡ sameReferences (now (words .entry)) q e ⌝ }
+{
+    let v = 5 + 2 * q;
+    let w = 5 + 2 * e;
+    same_word(words, v, w) & same_word(words, v + 1, w + 1)
+}
+
+fn same_vectors(words: &[i16], b: usize, d: usize) -> bool
+    requires { ⌜ (length (now words) ≡ recordWords) × (b < 16) × (d < 16) ⌝ }
+    ensures { λ t. ⌜ t ≡ sameVectors (now (words .entry)) b d ⌝ }
+{
+    let v = 13 + 4 * b;
+    let w = 13 + 4 * d;
+    same_word(words, v, w)
+        & same_word(words, v + 1, w + 1)
+        & same_word(words, v + 2, w + 2)
+        & same_word(words, v + 3, w + 3)
+}
+
+// The blocks of quadrant q have the motion of their pieces' first blocks. These lie in one quadrant e, so the references are compared once.
+fn same_as_first(words: &[i16], q: usize) -> bool
+    requires { ⌜ (length (now words) ≡ recordWords) × (q < 4) ⌝ }
+    ensures { λ t. ⌜ t ≡ sameAsFirst (now (words .entry)) q ⌝ }
+{
     let i = 8 * (q / 2) + 2 * (q % 2);
     let keep = kept(words, q);
     let d = i & keep;
     let e = 2 * (d / 8) + d % 4 / 2;
-    (words[5 + 2 * q] == words[5 + 2 * e])
-        & (words[6 + 2 * q] == words[6 + 2 * e])
+    same_references(words, q, e)
         & same_vectors(words, i, d)
         & same_vectors(words, i + 1, (i + 1) & keep)
         & same_vectors(words, i + 4, (i + 4) & keep)
@@ -289,22 +336,22 @@ pub fn check(base: &[i16], from: usize, to: usize) -> Verdict
             break 'records;
         }
         // rule 5
-        let mut b: usize = 0;
-        while b < 4 {
-            if !vectors_right(words, b) {
+        let mut q: usize = 0;
+        while q < 4 {
+            if !vectors_right(words, q) {
                 rule = 5;
                 break 'records;
             }
-            b += 1;
+            q += 1;
         }
         // rule 6
-        b = 0;
-        while b < 4 {
-            if !same_as_first(words, b) {
+        q = 0;
+        while q < 4 {
+            if !same_as_first(words, q) {
                 rule = 6;
                 break 'records;
             }
-            b += 1;
+            q += 1;
         }
         a += 1;
     }
