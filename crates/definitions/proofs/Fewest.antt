@@ -60,7 +60,7 @@ module _ (m : ℕ → Motion) where
   each-alike [] e = refl
   each-alike (i ∷ is) e = of-each (λ j. sameMotion (m j) (m i)) (λ j. m j ≡ m i) (λ j. motion-same (m j) (m i)) is e
 
-  one-each : (s : Split) → oneEach m s ≡ true → OneEach m s
+  pub one-each : (s : Split) → oneEach m s ≡ true → OneEach m s
   unfolding oneEach
   one-each s e = each-of (alike m) (Alike m) alike-each (pieces s) e
 

@@ -143,7 +143,7 @@ having-some p =
 
 -- ---- a merged list
 -- a reference that is not used is −1
-not-used : (r : ℤ) → used r ≡ false → r ≡ minus 1
+pub not-used : (r : ℤ) → used r ≡ false → r ≡ minus 1
 not-used r e = eqZ-true r (minus 1) (not-false (eqZ r (minus 1)) e)
 
 module _ (p : List Prediction) (k : ℕ) (h : k < 4) where

@@ -1,23 +1,26 @@
 // Gathering by the block map: the motions that the blocks of a macroblock read, and the set of those that read intra macroblocks.
 ghost use Prim.Native.Nat.{_≤_};
-ghost use Rattle.definitions.specs.Record.{isIntra};
+ghost use Rattle.definitions.specs.Record.{isIntra, typeOf};
 ghost use Rattle.gather.specs.Reads.{Readable, ReadableAt, addressRead, bitOf, motionRead, recordRead, rowSet, setBy};
+ghost use Rattle.definitions.specs.Tests.{eqZ};
+ghost use lib.IntN.{pos};
 ghost use lib.ListN.{getD};
 ghost use mathlib.Core.List.{[], _∷_};
 ghost use mathlib.Core.Path.{_≡_};
 use definitions::Motion;
 use records::is_intra;
+use records::is_whole;
 use records::motion_of;
 
 // The base macroblock of the 4 by 4 block at coordinates x and y.
-fn address_of(width: usize, x: u32, y: u32) -> usize
+fn address_of(width: usize, x: u16, y: u16) -> usize
     requires { ⌜ width ≤ 256 ⌝ }
     ensures { λ r. ⌜ r ≡ addressRead width x y ⌝ }
 {
     (y / 4) as usize * width + (x / 4) as usize
 }
 
-pub fn motion_read(base: &[i16], width: usize, x: u32, y: u32) -> Motion
+pub fn motion_read(base: &[i16], width: usize, x: u16, y: u16) -> Motion
     requires { ⌜ ReadableAt width (now base) x y × (width ≤ 256) ⌝ }
     ensures { λ r. ⌜ r ≡ motionRead width (now (base .entry)) x y ⌝ }
 {
@@ -30,10 +33,10 @@ pub fn motion_read(base: &[i16], width: usize, x: u32, y: u32) -> Motion
 pub fn quadrant_read(
     base: &[i16],
     width: usize,
-    x0: u32,
-    x1: u32,
-    y0: u32,
-    y1: u32,
+    x0: u16,
+    x1: u16,
+    y0: u16,
+    y1: u16,
 ) -> [Motion; 4]
     requires { ⌜ ReadableAt width (now base) x0 y0 × ReadableAt width (now base) x1 y0 × ReadableAt width (now base) x0 y1 × ReadableAt width (now base) x1 y1 × (width ≤ 256) ⌝ }
     ensures { λ r. ⌜ r ≡ motionRead width (now (base .entry)) x0 y0 ∷ motionRead width (now (base .entry)) x1 y0 ∷ motionRead width (now (base .entry)) x0 y1 ∷ motionRead width (now (base .entry)) x1 y1 ∷ [] ⌝ }
@@ -45,14 +48,29 @@ pub fn quadrant_read(
     [a, b, c, d]
 }
 
-fn intra_bit(base: &[i16], width: usize, x: u32, y: u32) -> u16
+// The macroblock that a block with coordinates x and y reads is intra; is of type 1, 16×16.
+pub fn reads_intra(base: &[i16], width: usize, x: u16, y: u16) -> bool
+    requires { ⌜ ReadableAt width (now base) x y × (width ≤ 256) ⌝ }
+    ensures { λ r. ⌜ r ≡ isIntra (recordRead width (now (base .entry)) x y) ⌝ }
+{
+    is_intra(base, address_of(width, x, y))
+}
+
+pub fn reads_whole(base: &[i16], width: usize, x: u16, y: u16) -> bool
+    requires { ⌜ ReadableAt width (now base) x y × (width ≤ 256) ⌝ }
+    ensures { λ r. ⌜ r ≡ eqZ (typeOf (recordRead width (now (base .entry)) x y)) (pos 1) ⌝ }
+{
+    is_whole(base, address_of(width, x, y))
+}
+
+fn intra_bit(base: &[i16], width: usize, x: u16, y: u16) -> u16
     requires { ⌜ ReadableAt width (now base) x y × (width ≤ 256) ⌝ }
     ensures { λ r. ⌜ (r ≡ bitOf (isIntra (recordRead width (now (base .entry)) x y))) × (r ≤ 1) ⌝ }
 {
-    if is_intra(base, address_of(width, x, y)) { 1 } else { 0 }
+    if reads_intra(base, width, x, y) { 1 } else { 0 }
 }
 
-fn row_set(base: &[i16], width: usize, across: [u32; 4], y: u32) -> u16
+fn row_set(base: &[i16], width: usize, across: [u16; 4], y: u16) -> u16
     requires { ⌜ ReadableAt width (now base) (getD across 0 0) y × ReadableAt width (now base) (getD across 1 0) y × ReadableAt width (now base) (getD across 2 0) y × ReadableAt width (now base) (getD across 3 0) y × (width ≤ 256) ⌝ }
     ensures { λ r. ⌜ (r ≡ rowSet (λ i. isIntra (recordRead width (now (base .entry)) (getD across i 0) y))) × (r ≤ 15) ⌝ }
 {
@@ -64,7 +82,7 @@ fn row_set(base: &[i16], width: usize, across: [u32; 4], y: u32) -> u16
 }
 
 // The blocks that read intra macroblocks.
-pub fn intra_set(base: &[i16], width: usize, across: [u32; 4], down: [u32; 4]) -> u16
+pub fn intra_set(base: &[i16], width: usize, across: [u16; 4], down: [u16; 4]) -> u16
     requires { ⌜ Readable width across down (now base) × (width ≤ 256) ⌝ }
     ensures { λ r. ⌜ r ≡ setBy width across down (now (base .entry)) ⌝ }
 {

@@ -1,3 +1,5 @@
 pub mod Paper
 pub mod Reading
-pub mod Making
+mod Making
+mod Motions
+mod Single

@@ -1,25 +1,40 @@
 -- An axis at a macroblock, inside and outside. Assumes nothing.
-use Prim.Native.Nat.{ℕ}
-use mathlib.Core.Path.{_≡_, sym, _∙_}
+use Prim.Native.Nat.{ℕ, _<_}
+use mathlib.Core.Path.{_≡_, sym, ap, subst, _∙_}
 use mathlib.Core.Bool.{true, false}
+use native.Mathlib.Omega.{arith}
+use lib.ListN.{getD}
 use Rattle.definitions.specs.declared.Axis.{Axis}
 use Rattle.definitions.specs.declared.AxisStep.{AxisStep}
-use Rattle.definitions.specs.Geometry.{insideAxis, sampleOf}
-use Rattle.definitions.specs.BlockMap.{stepOf}
-use Rattle.definitions.proofs.Choices.{yes, no}
-use Rattle.macroblock.specs.Made.{noStep, readOf}
+use Rattle.macroblock.specs.declared.AxisRead.{AxisRead}
+use Rattle.definitions.specs.Geometry.{baseSize, scaledSize, insideAxis, sampleOf, cOf}
+use Rattle.definitions.specs.BlockMap.{stepOf, coordinateOf}
+use Rattle.definitions.specs.Accepted.{AcceptedAxis, Inside}
+use Rattle.definitions.proofs.Accepted.{inside-axis}
+use Rattle.definitions.proofs.Choices.{yes, no, four-at}
+use Rattle.definitions.proofs.Map.{f-below, coordinate-below}
+use Rattle.macroblock.specs.Made.{Small, readIn, nowhere, readOf}
 
 module _ (a : Axis) (x : ℕ) where
-  pub read-inside : (step : AxisStep) → insideAxis a (sampleOf x) ≡ true → step ≡ stepOf a (sampleOf x) → record { inside = true; step = step } ≡ readOf a x
+  pub read-inside : {step : AxisStep} {r : AxisRead} → insideAxis a (sampleOf x) ≡ true → step ≡ stepOf a (sampleOf x) → r ≡ readIn step → r ≡ readOf a x
   unfolding readOf
-  read-inside step e s =
-      let p = sym e in
-      let q = s ∙ sym (yes _ _ e) in
-      λ i. record { inside = p i; step = q i }
+  read-inside e s p = p ∙ (ap readIn s ∙ sym (yes _ _ e))
 
-  pub read-outside : insideAxis a (sampleOf x) ≡ false → record { inside = false; step = noStep } ≡ readOf a x
+  pub read-outside : {r : AxisRead} → insideAxis a (sampleOf x) ≡ false → r ≡ nowhere → r ≡ readOf a x
   unfolding readOf
-  read-outside e =
-      let p = sym e in
-      let q = sym (no (stepOf a (sampleOf x)) noStep e) in
-      λ i. record { inside = p i; step = q i }
+  read-outside e p = p ∙ sym (no _ _ e)
+
+  -- columns and coordinates lie inside the base, which has 256 columns at the most
+  pub step-small : {step : AxisStep} → AcceptedAxis a → insideAxis a (sampleOf x) ≡ true → step ≡ stepOf a (sampleOf x) → Small step
+  step-small {step} acc e s = subst Small (sym s) small
+    where
+      at-c : Inside (baseSize a) (scaledSize a) (cOf a (sampleOf x))
+      at-c = inside-axis a (sampleOf x) acc e
+
+      small : Small (stepOf a (sampleOf x))
+      unfolding stepOf
+      small = record {
+        reads = λ i h. subst (λ (n : ℕ). n < 65536) (sym (four-at (coordinateOf (baseSize a) (scaledSize a) (cOf a (sampleOf x))) 0 i h))
+            (omega (arith, acc .sized .base-high, coordinate-below (baseSize a) (scaledSize a) (cOf a (sampleOf x)) at-c i h));
+        first = omega (arith, acc .sized .base-high, f-below (baseSize a) (scaledSize a) (cOf a (sampleOf x)) at-c);
+      }

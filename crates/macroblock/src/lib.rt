@@ -1,17 +1,20 @@
 // What is made of one macroblock, on a geometry and records that were checked: the calls share it.
-ghost use Prim.Native.Nat.{_<_};
+ghost use Prim.Native.Nat.{_<_, _≤_};
 ghost use Rattle.definitions.specs.Accepted.{AcceptedAxis};
 ghost use Rattle.definitions.specs.Answer.{subTypes, unusedMotion};
 ghost use Rattle.definitions.specs.Geometry.{baseSize, macroblocks};
-ghost use Rattle.definitions.specs.Inheriting.{motionAt};
+ghost use Rattle.definitions.specs.Inheriting.{chosen, clearOf, filled, merged, motionAt};
 ghost use Rattle.definitions.specs.Record.{laidOut, subTypeNumber, typeNumber};
-ghost use Rattle.gather.specs.Reads.{setBy};
-ghost use Rattle.macroblock.specs.Made.{Placeable, Ready, madeBy, motionsBy, namedBy, placedBy, readOf};
+ghost use Rattle.gather.specs.Reads.{ReadableAt, motionRead, recordRead, setBy};
+ghost use Rattle.macroblock.specs.Made.{Placeable, Ready, Small, inheritedBy, madeBy, motionsBy, namedBy, nowhere, oneColumn, placedBy, readIn, readOf, resolvedBy};
 ghost use lib.ListN.{getD, length};
+ghost use mathlib.Core.Bool.{_&&_, true};
+ghost use mathlib.Core.List.{[], _∷_};
 ghost use mathlib.Core.Path.{_≡_};
 use definitions::Answer;
 use definitions::Axes;
 use definitions::Axis;
+use definitions::AxisStep;
 use definitions::EnhancementSample;
 use definitions::Motion;
 use definitions::Named;
@@ -19,50 +22,66 @@ use definitions::Prediction;
 use definitions::Split;
 use definitions::SubSplit;
 use gather::intra_set;
+use gather::motion_read;
 use gather::quadrant_read;
+use gather::reads_intra;
+use gather::reads_whole;
 use geometry::axis_step;
 use geometry::class_of;
 use geometry::is_inside;
-use inherit::copy_intra;
 use inherit::mostly_intra;
-use inherit::resolve_quadrant;
 use motion::scale_by;
 use motion::scale_motion;
-use records::motion_of;
 use split::choose;
 use write::write_record;
 
-// An axis at a macroblock: whether it is inside there, and then what is read.
+// An axis at a macroblock: whether it is inside there, and then what of its step the making asks for (outside, zeros).
+// Twelve bytes, since a picture keeps one for each column.
 pub struct AxisRead {
-    pub reads: [u32; 4],
-    pub first: u32,
+    pub reads: [u16; 4],
+    pub first: u16,
     pub two: bool,
     pub inside: bool,
 }
 
-// Column or row x of a picture.
-pub fn axis_read(a: Axis, x: u32) -> AxisRead {
-    let p = EnhancementSample(16 * x);
-    if is_inside(a, p) {
-        let step = axis_step(a, p);
-        let reads = step.reads;
-        return AxisRead {
-            reads,
-            first: step.first,
-            two: step.two,
-            inside: true,
-        };
+fn read_in(s: AxisStep) -> AxisRead
+    requires { ⌜ Small s ⌝ }
+    ensures { λ r. ⌜ r ≡ readIn s ⌝ }
+{
+    AxisRead {
+        reads: [
+            s.reads[0] as u16,
+            s.reads[1] as u16,
+            s.reads[2] as u16,
+            s.reads[3] as u16,
+        ],
+        first: s.first as u16,
+        two: s.two,
+        inside: true,
     }
-    nowhere()
 }
 
-pub fn nowhere() -> AxisRead {
+pub fn read_nowhere() -> AxisRead
+    ensures { λ r. ⌜ r ≡ nowhere ⌝ }
+{
     AxisRead {
         reads: [0; 4],
         first: 0,
         two: false,
         inside: false,
     }
+}
+
+// Column or row x of a picture.
+pub fn axis_read(a: Axis, x: u32) -> AxisRead
+    requires { ⌜ AcceptedAxis a × (x < 256) ⌝ }
+    ensures { λ r. ⌜ r ≡ readOf a x ⌝ }
+{
+    let p = EnhancementSample(16 * x);
+    if is_inside(a, p) {
+        return read_in(axis_step(a, p));
+    }
+    read_nowhere()
 }
 
 // ---- The written record
@@ -141,26 +160,33 @@ fn named_of(h: AxisRead, v: AxisRead) -> Named
 {
     Named {
         class: class_of(h.two, v.two),
-        column: h.first,
-        row: v.first,
+        column: h.first as u32,
+        row: v.first as u32,
     }
 }
 
+// Steps 1 and 2: the motions of quadrant q, whose columns read x0 and x1 and whose rows y0 and y1.
 fn quadrant_made(
     base: &[i16],
     width: usize,
-    x0: u32,
-    x1: u32,
-    y0: u32,
-    y1: u32,
+    x0: u16,
+    x1: u16,
+    y0: u16,
+    y1: u16,
     set: u16,
     q: usize,
-) -> [Motion; 4] {
-    let m = quadrant_read(base, width, x0, x1, y0, y1);
-    resolve_quadrant(set, m, q)
+) -> [Motion; 4]
+    requires { ⌜ ReadableAt width (now base) x0 y0 × ReadableAt width (now base) x1 y0 × ReadableAt width (now base) x0 y1 × ReadableAt width (now base) x1 y1 × (width ≤ 256) × (q < 4) ⌝ }
+    ensures { λ r. ⌜ r ≡ merged (filled (clearOf set q) (motionRead width (now (base .entry)) x0 y0 ∷ motionRead width (now (base .entry)) x1 y0 ∷ motionRead width (now (base .entry)) x0 y1 ∷ motionRead width (now (base .entry)) x1 y1 ∷ [])) ⌝ }
+{
+    inherit::resolve(set, quadrant_read(base, width, x0, x1, y0, y1), q)
 }
 
-fn motions_made(g: Axes, base: &[i16], h: AxisRead, v: AxisRead, set: u16) -> [[Motion; 4]; 4] {
+// Steps 1 to 3: the motions of the blocks.
+fn motions_made(g: Axes, base: &[i16], h: AxisRead, v: AxisRead, set: u16) -> [[Motion; 4]; 4]
+    requires { ⌜ Ready g h v (now base) × (set ≡ setBy (macroblocks (baseSize (g .horizontal))) (h .reads) (v .reads) (now base)) ⌝ }
+    ensures { λ r. ⌜ r ≡ resolvedBy g h v (now (base .entry)) ⌝ }
+{
     let width = (g.horizontal.base.0 / 16) as usize;
     let x0 = h.reads[0];
     let x1 = h.reads[1];
@@ -174,13 +200,60 @@ fn motions_made(g: Axes, base: &[i16], h: AxisRead, v: AxisRead, set: u16) -> [[
     let b = quadrant_made(base, width, x2, x3, y0, y1, set, 1);
     let c = quadrant_made(base, width, x0, x1, y2, y3, set, 2);
     let d = quadrant_made(base, width, x2, x3, y2, y3, set, 3);
-    if set == 0 {
-        return [a, b, c, d];
-    }
-    copy_intra(set, [a, b, c, d])
+    inherit::copy(set, [a, b, c, d])
 }
 
-fn make(g: Axes, base: &[i16], h: AxisRead, v: AxisRead, out: &mut [i16]) -> Answer
+// Steps 1 to 5. The split is chosen before the vectors are scaled, which keeps different motions different.
+fn make_inherited(
+    g: Axes,
+    base: &[i16],
+    h: AxisRead,
+    v: AxisRead,
+    set: u16,
+    out: &mut [i16],
+) -> Split
+    requires { ⌜ Ready g h v (now base) × (set ≡ setBy (macroblocks (baseSize (g .horizontal))) (h .reads) (v .reads) (now base)) × (length (now out) ≡ 77) ⌝ }
+    ensures split { λ r. ⌜ r ≡ chosen (motionsBy g h v (now (base .entry))) ⌝ }
+    ensures written { λ r. ⌜ now (out .exit) ≡ inheritedBy g h v (now (base .entry)) ⌝ }
+{
+    let m = motions_made(g, base, h, v, set);
+    let s = choose(m);
+    write_split(out, s, scale_by(g, s, m));
+    s
+}
+
+// All four coordinates lie in one column (row).
+fn is_one(reads: [u16; 4]) -> bool
+    ensures { λ r. ⌜ r ≡ oneColumn reads ⌝ }
+{
+    let first = reads[0] / 4;
+    (reads[1] / 4 == first) & (reads[2] / 4 == first) & (reads[3] / 4 == first)
+}
+
+// Where one macroblock is read: intra, or of one motion, it needs no step.
+fn make_of_one(g: Axes, base: &[i16], h: AxisRead, v: AxisRead, out: &mut [i16]) -> Answer
+    requires { ⌜ Ready g h v (now base) × ((oneColumn (h .reads) && oneColumn (v .reads)) ≡ true) × (length (now out) ≡ 77) ⌝ }
+    ensures answer { λ r. ⌜ r ≡ madeBy g h v (now (base .entry)) .answer ⌝ }
+    ensures written { λ r. ⌜ now (out .exit) ≡ madeBy g h v (now (base .entry)) .written ⌝ }
+{
+    let width = (g.horizontal.base.0 / 16) as usize;
+    let x = h.reads[0];
+    let y = v.reads[0];
+    let named = named_of(h, v);
+    if reads_intra(base, width, x, y) {
+        write_unused(out, 0);
+        return Answer::Intra(named);
+    }
+    if reads_whole(base, width, x, y) {
+        let m = scale_motion(g, motion_read(base, width, x, y));
+        write_split(out, Split::S16x16, [[m; 4]; 4]);
+        return Answer::Inherited(named, Split::S16x16);
+    }
+    let s = make_inherited(g, base, h, v, 0, out);
+    Answer::Inherited(named, s)
+}
+
+fn make_of_more(g: Axes, base: &[i16], h: AxisRead, v: AxisRead, out: &mut [i16]) -> Answer
     requires { ⌜ Ready g h v (now base) × (length (now out) ≡ 77) ⌝ }
     ensures answer { λ r. ⌜ r ≡ madeBy g h v (now (base .entry)) .answer ⌝ }
     ensures written { λ r. ⌜ now (out .exit) ≡ madeBy g h v (now (base .entry)) .written ⌝ }
@@ -189,43 +262,12 @@ fn make(g: Axes, base: &[i16], h: AxisRead, v: AxisRead, out: &mut [i16]) -> Ans
     let across = h.reads;
     let down = v.reads;
     let named = named_of(h, v);
-    let mut set: u16 = 0;
-    if h.two | v.two {
-        set = intra_set(
-            base,
-            width,
-            [
-                across[0] as u32,
-                across[1] as u32,
-                across[2] as u32,
-                across[3] as u32,
-            ],
-            [
-                down[0] as u32,
-                down[1] as u32,
-                down[2] as u32,
-                down[3] as u32,
-            ],
-        );
-    } else {
-        let a = v.first as usize * width + h.first as usize;
-        let kind = base[77 * a];
-        if kind == 0 {
-            set = 65535;
-        }
-        if kind == 1 {
-            let m = scale_motion(g, motion_of(base, a, 0));
-            write_split(out, Split::S16x16, [[m; 4]; 4]);
-            return Answer::Inherited(named, Split::S16x16);
-        }
-    }
+    let set = intra_set(base, width, across, down);
     if mostly_intra(set) {
         write_unused(out, 0);
         return Answer::Intra(named);
     }
-    let m = motions_made(g, base, h, v, set);
-    let s = choose(m);
-    write_split(out, s, scale_by(g, s, m));
+    let s = make_inherited(g, base, h, v, set, out);
     Answer::Inherited(named, s)
 }
 
@@ -236,7 +278,12 @@ pub fn place(g: Axes, base: &[i16], h: AxisRead, v: AxisRead, out: &mut [i16]) -
     ensures written { λ r. ⌜ now (out .exit) ≡ placedBy g h v (now (base .entry)) .written ⌝ }
 {
     if h.inside & v.inside {
-        return make(g, base, h, v, out);
+        let across = h.reads;
+        let down = v.reads;
+        if is_one(across) & is_one(down) {
+            return make_of_one(g, base, h, v, out);
+        }
+        return make_of_more(g, base, h, v, out);
     }
     write_unused(out, 5);
     Answer::Outside

@@ -22,7 +22,7 @@ use geometry::Checked;
 use geometry::Geometry;
 use macroblock::AxisRead;
 use macroblock::axis_read;
-use macroblock::nowhere;
+use macroblock::read_nowhere;
 use macroblock::place;
 use records::check;
 use upsample::base_count;
@@ -30,14 +30,15 @@ use upsample::refused;
 
 const RECORD_WORDS: usize = 77;
 
-// The axis at each column (row): 256 is the most that a picture has.
-fn axis_reads(a: Axis) -> [AxisRead; 256]
+// The horizontal axis at each column of the picture; 256 is the most.
+fn column_reads(a: Axis) -> [AxisRead; 256]
     requires { ⌜ AcceptedAxis a ⌝ }
-    ensures { λ r. ⌜ AxisReads a 256 r ⌝ }
+    ensures { λ r. ⌜ AxisReads a (macroblocks (fullSize a)) r ⌝ }
 {
-    let mut reads = [nowhere(); 256];
+    let width = a.full.0 / 16;
+    let mut reads = [read_nowhere(); 256];
     let mut x: u32 = 0;
-    while x < a.full.0 / 16 {
+    while x < width {
         reads[x as usize] = axis_read(a, x);
         x += 1;
     }
@@ -80,6 +81,7 @@ fn fill(g: Axes, base: &[i16], out: &mut [i16]) -> Counts
     ensures counts { λ r. ⌜ r ≡ countsOf (upTo (fullCount g) (madeAt g (now (base .entry)))) ⌝ }
     ensures words { λ r. ⌜ now (out .exit) ≡ forEach (upTo (fullCount g) (madeAt g (now (base .entry)))) (λ m. m .written) ⌝ }
 {
+    let columns = column_reads(g.horizontal);
     let width = g.horizontal.full.0 / 16;
     let total = full_count(g);
     let mut counts = Counts {
@@ -87,26 +89,25 @@ fn fill(g: Axes, base: &[i16], out: &mut [i16]) -> Counts
         intra: 0,
         outside: 0,
     };
-    let mut a: usize = 0;
+    let mut v = read_nowhere();
     let mut x: u32 = 0;
     let mut y: u32 = 0;
-    let mut v = nowhere();
-    let across = axis_reads(g.horizontal);
+    let mut a: usize = 0;
     while a < total {
         if x == 0 {
             v = axis_read(g.vertical, y);
         }
-        let h = across[x as usize];
         let from = RECORD_WORDS * a;
         let to = from + RECORD_WORDS;
+        let h = columns[x as usize];
         let answer = place(g, base, h, v, &mut out[from..to]);
         counts = count(counts, answer);
-        a += 1;
         x += 1;
         if x == width {
             x = 0;
             y += 1;
         }
+        a += 1;
     }
     counts
 }

@@ -1,12 +1,12 @@
 // Motion records: reading one of a list of records, and the check that they are well formed.
 ghost use mathlib.Core.Path.{_≡_};
 ghost use Prim.Native.Nat.{ℕ, _+_, _*_, _≤_, _<_};
-ghost use lib.IntN.{ℤ};
+ghost use lib.IntN.{pos, ℤ};
 ghost use lib.ListN.{length};
 ghost use lib.Bits.{bitAnd};
-ghost use Rattle.definitions.specs.Tests.{eqZ, allBelow};
+ghost use Rattle.definitions.specs.Tests.{allBelow, eqZ};
 ghost use Rattle.definitions.specs.Splits.{quadrantOf};
-ghost use Rattle.definitions.specs.Record.{recordWords, recordAt, wordOf, isIntra, predictionOf, motionOf, used, subTypeOf, subSplitOf, vectorWord, rule2, rule4};
+ghost use Rattle.definitions.specs.Record.{isIntra, motionOf, predictionOf, recordAt, recordWords, rule2, rule4, subSplitOf, subTypeOf, typeOf, used, vectorWord, wordOf};
 ghost use Rattle.definitions.specs.Refusals.{verdictOf, recordTests};
 ghost use Rattle.records.specs.Checking.{within, allWithin, quadrantUsed, blockWithin, vectorsRight, subFirstBlock, firstBlockOf, sameReferences, sameVectors, sameAsFirst, headBroken, foundAt, addresses};
 use definitions::Motion;
@@ -85,6 +85,15 @@ pub fn is_intra(base: &[i16], a: usize) -> bool
 {
     let words = record_at(base, a);
     words[0] == 0
+}
+
+// Of type 1, 16×16.
+pub fn is_whole(base: &[i16], a: usize) -> bool
+    requires { ⌜ ((a + 1) * recordWords ≤ length (now base)) × (a < 65536) ⌝ }
+    ensures { λ t. ⌜ t ≡ eqZ (typeOf (recordAt (now (base .entry)) a)) (pos 1) ⌝ }
+{
+    let words = record_at(base, a);
+    words[0] == 1
 }
 
 pub fn motion_of(base: &[i16], a: usize, b: usize) -> Motion

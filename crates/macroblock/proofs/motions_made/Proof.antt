@@ -1,47 +1,87 @@
--- `macroblock::motions_made` meets its contract. Assumes nothing.
-use Rattle.macroblock.proofs.Making.{resolved-range}
-use Rattle.macroblock.specs.Made.{motionsBy}
-use Rattle.gather.specs.Reads.{gatheredBy}
-use Rattle.motion.specs.Range.{InRange}
-use Rattle.definitions.proofs.Steps.{Both}
-use Rattle.definitions.specs.Inheriting.{at, resolved, scaledMotion}
-use Rattle.definitions.specs.Tests.{four}
-use Rattle.definitions.specs.Geometry.{baseSize, macroblocks}
-use Rattle.definitions.specs.declared.Motion.{Motion}
-use mathlib.Core.List.{List}
-use mathlib.Core.Path.{sym, ap, subst, _∙_}
-use Prim.Native.Nat.{ℕ, _<_}
 use borrow.Author.Needs.{needs}
 use Rattle.macroblock.proofs.motions_made.Statement.{statement}
 use Rattle.macroblock.proofs.motions_made.Tie as tie
+use Rattle.macroblock.proofs.motions_made.Reads as reads
+use Rattle.macroblock.proofs.motions_made.Lts as lts
+use Rattle.inherit.proofs.copy.Reads as copy-reads
+use Rattle.macroblock.proofs.quadrant_made.Reads as quadrant-made-reads
 
+-- src/lib.rt:190:17
 cast-width : tie.Need-cast-width
 cast-width c = search needs
 
-motions-read-requires : tie.Need-motions-read-requires
-motions-read-requires c κs = search needs
+-- src/lib.rt:191:14
+element-copy-out-x0 : tie.Need-element-copy-out-x0
+element-copy-out-x0 c = search needs
 
-resolve-requires : tie.Need-resolve-requires
-resolve-requires c κs = search needs
+-- src/lib.rt:192:14
+element-copy-out-x1 : tie.Need-element-copy-out-x1
+element-copy-out-x1 c = search needs
 
-scale-all-requires : tie.Need-scale-all-requires
-scale-all-requires c κs =
-    let s = c .before .before .before .before .before in
-    let w = macroblocks (baseSize (s .args .g .horizontal)) in
-    let e = c .resolve .ensures ∙ ap (resolved (s .args .set)) (c .before .motions-read .ensures) in
-    let Right : List (List Motion) → Type 0 = λ m. (q k : ℕ) → q < 4 → k < 4 → Both InRange (at m q k) in
-    (s .pre .0 .horizontal, s .pre .0 .vertical, subst Right (sym e) (resolved-range w (s .args .h .reads) (s .args .v .reads) (s .args .base .now) (s .pre .0 .readable) (s .args .set)))
+-- src/lib.rt:193:14
+element-copy-out-x2 : tie.Need-element-copy-out-x2
+element-copy-out-x2 c = search needs
 
+-- src/lib.rt:194:14
+element-copy-out-x3 : tie.Need-element-copy-out-x3
+element-copy-out-x3 c = search needs
+
+-- src/lib.rt:195:14
+element-copy-out-y0 : tie.Need-element-copy-out-y0
+element-copy-out-y0 c = search needs
+
+-- src/lib.rt:196:14
+element-copy-out-y1 : tie.Need-element-copy-out-y1
+element-copy-out-y1 c = search needs
+
+-- src/lib.rt:197:14
+element-copy-out-y2 : tie.Need-element-copy-out-y2
+element-copy-out-y2 c = search needs
+
+-- src/lib.rt:198:14
+element-copy-out-y3 : tie.Need-element-copy-out-y3
+element-copy-out-y3 c = search needs
+
+-- src/lib.rt:199:9
+quadrant-made-requires : tie.Need-quadrant-made-requires
+quadrant-made-requires c κs = ?
+
+-- src/lib.rt:200:9
+quadrant-made-requires-2 : tie.Need-quadrant-made-requires-2
+quadrant-made-requires-2 c κs = ?
+
+-- src/lib.rt:201:9
+quadrant-made-requires-3 : tie.Need-quadrant-made-requires-3
+quadrant-made-requires-3 c κs = ?
+
+-- src/lib.rt:202:9
+quadrant-made-requires-4 : tie.Need-quadrant-made-requires-4
+quadrant-made-requires-4 c κs = ?
+
+-- src/lib.rt:203:5
+copy-requires : tie.Need-copy-requires
+copy-requires c κs = search needs
+
+-- src/lib.rt:186:1
 returns : tie.Need-returns
-unfolding motionsBy
-returns c =
-    let s = c .before .before .before .before .before .before in
-    let made : List (List Motion) → List (List Motion) = λ m. four (λ q. four (λ k. scaledMotion (s .args .g) (at m q k))) in
-    let g = gatheredBy (macroblocks (baseSize (s .args .g .horizontal))) (s .args .h .reads) (s .args .v .reads) (s .args .base .now) in
-    c .scale-all .ensures
-    ∙ ap made (c .before .resolve .ensures ∙ (ap (resolved (s .args .set)) (c .before .before .motions-read .ensures) ∙ ap (λ (n : ℕ). resolved n g) (s .pre .1)))
+returns c = ?
 
 pub motions-made-spec : {M : Type 1} → statement M
 motions-made-spec =
     tie.close
-    (tie.spec cast-width motions-read-requires resolve-requires scale-all-requires returns)
+    (tie.spec
+    cast-width
+    element-copy-out-x0
+    element-copy-out-x1
+    element-copy-out-x2
+    element-copy-out-x3
+    element-copy-out-y0
+    element-copy-out-y1
+    element-copy-out-y2
+    element-copy-out-y3
+    quadrant-made-requires
+    quadrant-made-requires-2
+    quadrant-made-requires-3
+    quadrant-made-requires-4
+    copy-requires
+    returns)

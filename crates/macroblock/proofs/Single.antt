@@ -1,0 +1,155 @@
+-- Where one macroblock is read: the set is all or nothing, and one motion in the record is one motion for all blocks. Assumes nothing.
+use Prim.Native.Nat.{ℕ, _+_, _*_, _/_, _%_, _<_}
+use mathlib.Core.Path.{_≡_, refl, sym, ap, _∙_}
+use mathlib.Core.Bool.{Bool, true, false, _&&_, _||_}
+use mathlib.Core.List.{List, [], _∷_}
+use native.Mathlib.Omega.{arith}
+use lib.IntN.{ℤ, pos}
+use lib.ListN.{getD}
+use borrow.Author.Tests.{eqb-true}
+use Rattle.definitions.specs.declared.Axes.{Axes}
+use Rattle.definitions.specs.declared.Motion.{Motion}
+use Rattle.definitions.specs.declared.Split.{Split}
+use Rattle.definitions.specs.declared.Split.the-variants.{S16x16}
+use Rattle.definitions.specs.Tests.{pick, eqZ, four}
+use Rattle.definitions.specs.Geometry.{baseSize, macroblocks}
+use Rattle.definitions.specs.BlockMap.{columnOf, blockIn}
+use Rattle.definitions.specs.Splits.{sameMotion, oneEach}
+use Rattle.definitions.specs.Record.{recordAt, isIntra, typeOf, motionOf, splitSaid, rule6}
+use Rattle.definitions.specs.Inheriting.{zeroMotion, setOf, mostlyIntra, clearOf, filled, merged, copied, copiedFrom, liveOf, someOf, resolved, scaledMotion, chosen}
+use Rattle.definitions.proofs.Choices.{and-true, or-true, eqZ-true, each, four-same, yes, no}
+use Rattle.definitions.proofs.Formed.{rules-of}
+use Rattle.definitions.proofs.Fewest.{one-each, chosen-is}
+use Rattle.definitions.proofs.Motions.{motion-same}
+use Rattle.definitions.proofs.Records.{each16}
+use Rattle.definitions.proofs.Sameness.{set-same}
+use Rattle.definitions.proofs.Shapes.{samePairs, shapeOf, quadrantShape, shapesOf, splitOf, allWhole}
+use Rattle.definitions.proofs.Steps.{Both, filled-leaves, settled-merged}
+use Rattle.quadrant.specs.Merging.{Empty}
+use Rattle.gather.specs.Reads.{ReadableAt, Readable, addressRead, recordRead, motionRead, addressBy, readBy, blockBy, motionBy, setBy, gatheredBy}
+use Rattle.gather.proofs.Reading.{readable-at}
+use Rattle.macroblock.specs.declared.AxisRead.{AxisRead}
+use Rattle.macroblock.specs.Made.{Ready, oneColumn, resolvedBy, motionsBy}
+use Rattle.macroblock.proofs.Motions.{read-empty}
+
+one-column : (reads : List ℕ) → oneColumn reads ≡ true → (i : ℕ) → i < 4 → columnOf (getD reads i 0) ≡ columnOf (getD reads 0 0)
+unfolding oneColumn
+one-column reads e =
+    let ab = and-true _ _ e in
+    let a = and-true _ _ (ab .0) in
+    each (λ i. columnOf (getD reads i 0) ≡ columnOf (getD reads 0 0)) refl (eqb-true _ _ (a .0)) (eqb-true _ _ (a .1)) (eqb-true _ _ (ab .1))
+
+-- a set of all sixteen, and of none
+all-or-none : (t : Bool) → setOf 16 (λ i. t) ≡ pick t 65535 0
+unfolding setOf pick
+all-or-none true = refl
+all-or-none false = refl
+
+module _ (g : Axes) (h v : AxisRead) (base : List ℤ) (ready : Ready g h v base) (one : (oneColumn (h .reads) && oneColumn (v .reads)) ≡ true) where
+  abbrev width : ℕ
+  width = macroblocks (baseSize (g .horizontal))
+
+  abbrev x : ℕ
+  x = getD (h .reads) 0 0
+
+  abbrev y : ℕ
+  y = getD (v .reads) 0 0
+
+  abbrev it : List ℤ
+  it = recordRead width base x y
+
+  pub first-readable : ReadableAt width base x y
+  first-readable = readable-at (ready .readable) 0 (omega arith)
+
+  same-read : (i : ℕ) → i < 16 → readBy width (h .reads) (v .reads) base i ≡ it
+  same-read i l =
+      let both = and-true (oneColumn (h .reads)) (oneColumn (v .reads)) one in
+      let p = one-column (h .reads) (both .0) (i % 4) (omega arith) in
+      let q = one-column (v .reads) (both .1) (i / 4) (omega arith) in
+      λ t. recordAt base (q t * width + p t)
+
+  set-is : setBy width (h .reads) (v .reads) base ≡ pick (isIntra it) 65535 0
+  unfolding setBy
+  set-is = set-same 16 _ (λ i. isIntra it) (λ i l. ap isIntra (same-read i l)) ∙ all-or-none (isIntra it)
+
+  pub set-all : isIntra it ≡ true → 65535 ≡ setBy width (h .reads) (v .reads) base
+  set-all e = sym (set-is ∙ yes _ _ e)
+
+  pub set-none : isIntra it ≡ false → 0 ≡ setBy width (h .reads) (v .reads) base
+  set-none e = sym (set-is ∙ no _ _ e)
+
+  -- ---- a record of type 1
+  module _ (not-intra : isIntra it ≡ false) (whole : eqZ (typeOf it) (pos 1) ≡ true) where
+    abbrev n : Motion
+    n = motionRead width base x y
+
+    one-motion : oneEach (motionOf it) S16x16 ≡ true
+    unfolding rule6 splitSaid
+    one-motion =
+        let six : (isIntra it || oneEach (motionOf it) (splitSaid it)) ≡ true = rules-of it (first-readable .formed) .pieces in
+        ap (oneEach (motionOf it)) (sym (yes _ _ whole)) ∙ by (isIntra it) not-intra six
+      where
+        by : {o : Bool} (t : Bool) → t ≡ false → (t || o) ≡ true → o ≡ true
+        by true e s = cc
+        by false e s = s
+
+    all-same : (b : ℕ) → b < 16 → motionOf it b ≡ motionOf it 0
+    all-same =
+        let e = one-each (motionOf it) S16x16 one-motion .0 in
+        each16 (λ b. motionOf it b ≡ motionOf it 0) refl (e .0) (e .1 .0) (e .1 .1 .0) (e .1 .1 .1 .0) (e .1 .1 .1 .1 .0) (e .1 .1 .1 .1 .1 .0) (e .1 .1 .1 .1 .1 .1 .0)
+        (e .1 .1 .1 .1 .1 .1 .1 .0) (e .1 .1 .1 .1 .1 .1 .1 .1 .0) (e .1 .1 .1 .1 .1 .1 .1 .1 .1 .0) (e .1 .1 .1 .1 .1 .1 .1 .1 .1 .1 .0) (e .1 .1 .1 .1 .1 .1 .1 .1 .1 .1 .1 .0)
+        (e .1 .1 .1 .1 .1 .1 .1 .1 .1 .1 .1 .1 .0) (e .1 .1 .1 .1 .1 .1 .1 .1 .1 .1 .1 .1 .1 .0) (e .1 .1 .1 .1 .1 .1 .1 .1 .1 .1 .1 .1 .1 .1 .0)
+
+    each-read : (i : ℕ) → i < 16 → motionBy width (h .reads) (v .reads) base i ≡ n
+    unfolding motionBy motionRead
+    each-read i l =
+        ap (λ (r : List ℤ). motionOf r (blockBy (h .reads) (v .reads) i)) (same-read i l)
+        ∙ (all-same (blockBy (h .reads) (v .reads) i) (omega arith) ∙ sym (all-same (4 * blockIn y + blockIn x) (omega arith)))
+
+    abbrev quadrant : List Motion
+    quadrant = four (λ k. n)
+
+    gathered-is : gatheredBy width (h .reads) (v .reads) base ≡ four (λ q. quadrant)
+    unfolding gatheredBy
+    gathered-is =
+        let e : (i : ℕ) → i < 16 → motionBy width (h .reads) (v .reads) base i ≡ n = each-read in
+        four-same
+        (four-same (e 0 (omega arith)) (e 1 (omega arith)) (e 4 (omega arith)) (e 5 (omega arith)))
+        (four-same (e 2 (omega arith)) (e 3 (omega arith)) (e 6 (omega arith)) (e 7 (omega arith)))
+        (four-same (e 8 (omega arith)) (e 9 (omega arith)) (e 12 (omega arith)) (e 13 (omega arith)))
+        (four-same (e 10 (omega arith)) (e 11 (omega arith)) (e 14 (omega arith)) (e 15 (omega arith)))
+
+    settled : merged quadrant ≡ quadrant
+    settled =
+        let empty = read-empty width base x y first-readable in
+        settled-merged quadrant (record {
+          one0 = each _ refl refl refl refl;
+          one1 = each _ refl refl refl refl;
+          zero0 = each _ (empty .0) (empty .0) (empty .0) (empty .0);
+          zero1 = each _ (empty .1) (empty .1) (empty .1) (empty .1);
+        })
+
+    unchanged : (q : ℕ) → q < 4 → merged (filled (clearOf 0 q) quadrant) ≡ quadrant
+    unchanged q l = ap merged (filled-leaves (clearOf 0 q) quadrant (clear q l)) ∙ settled
+      where
+        clear : (q : ℕ) → q < 4 → (k : ℕ) → k < 4 → getD (clearOf 0 q) k false ≡ true
+        unfolding clearOf
+        clear = each (λ q. (k : ℕ) → k < 4 → getD (clearOf 0 q) k false ≡ true) (each _ refl refl refl refl) (each _ refl refl refl refl) (each _ refl refl refl refl) (each _ refl refl refl refl)
+
+    resolved-is : resolvedBy g h v base ≡ four (λ q. quadrant)
+    unfolding resolvedBy resolved copied copiedFrom liveOf someOf clearOf pick
+    resolved-is =
+        ap (λ (s : ℕ). resolved s (gatheredBy width (h .reads) (v .reads) base)) (sym (set-none not-intra))
+        ∙ (ap (resolved 0) gathered-is
+        ∙ four-same (unchanged 0 (omega arith)) (unchanged 1 (omega arith)) (unchanged 2 (omega arith)) (unchanged 3 (omega arith)))
+
+    pub whole-motions : motionsBy g h v base ≡ four (λ q. four (λ k. scaledMotion g n))
+    unfolding motionsBy
+    whole-motions = ap (λ (m : List (List Motion)). four (λ q. four (λ k. scaledMotion g (getD (getD m q []) k zeroMotion)))) resolved-is
+
+    pub whole-split : S16x16 ≡ chosen (motionsBy g h v base)
+    whole-split = sym (ap chosen whole-motions ∙ (chosen-is (four (λ q. four (λ k. scaledMotion g n))) ∙ uniform (scaledMotion g n)))
+      where
+        uniform : (m : Motion) → splitOf (four (λ q. four (λ k. m))) ≡ S16x16
+        unfolding splitOf shapesOf quadrantShape shapeOf samePairs allWhole pick
+        uniform m = rw (motion-same m m refl)
