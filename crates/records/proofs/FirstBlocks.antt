@@ -1,4 +1,4 @@
--- Rule 6 block by block: each block has the motion of the first block of its piece. Assumes nothing.
+-- Rule 6 by quadrants: each block has the motion of the first block of its piece, whose number is the block's with some bits alone kept. Assumes nothing.
 use Prim.Native.Nat.{ℕ, _+_, _*_, _/_, _%_, _<_}
 use mathlib.Core.Path.{_≡_, refl, sym, ap, _∙_}
 use mathlib.Core.Bool.{Bool, true, false, _&&_, _||_, and-assoc, and-true}
@@ -19,7 +19,7 @@ use Rattle.definitions.specs.declared.SubSplits.{SubSplits}
 use Rattle.definitions.specs.declared.Split.{Split}
 use Rattle.definitions.specs.declared.Split.the-variants.{S16x16, S16x8, S8x16, S8x8 as Quarters}
 use Rattle.definitions.specs.Tests.{pick, eqZ, allBelow, allOf}
-use Rattle.definitions.specs.Splits.{samePrediction, sameMotion, quadrantOf, placeOf, rasterOf, subPieces, alike, oneEach}
+use Rattle.definitions.specs.Splits.{samePrediction, sameMotion, quadrantOf, rasterOf, subPieces, alike, oneEach}
 use Rattle.definitions.specs.Record.{wordOf, typeOf, subTypeOf, isIntra, motionOf, subSplitOf, splitSaid, rule6}
 use Rattle.definitions.proofs.Choices.{yes, no, each, below-true, below-intro, below-same}
 use Rattle.definitions.proofs.Motions.{motion-same}

@@ -5,15 +5,12 @@ use mathlib.Core.Bool.{Bool, true, false, not, _&&_, and-assoc, and-comm, and-tr
 use mathlib.Core.List.{List}
 use native.Mathlib.Nat.{le-antisymm, add-zero}
 use native.Mathlib.Omega.{arith}
-use lib.Dec.{leb, ltb, eqb}
+use lib.Dec.{leb, eqb}
 use lib.IntN.{ℤ, pos, negsuc}
-use lib.Signed.{leZ, ltZ}
-use borrow.Author.Tests.{ltb-true, ltb-false, leb-true, leb-false, lt-leb, le-leb, eq-eqb, ne-eqb}
-use Rattle.definitions.specs.declared.Prediction.{Prediction}
+use borrow.Author.Tests.{leb-true, leb-false, eq-eqb, ne-eqb}
 use Rattle.definitions.specs.Tests.{minus, eqZ, between, allBelow}
-use Rattle.definitions.specs.Record.{vectorLimit, wordOf, typeOf, isIntra, referenceOf, predictionOf, used, vectorWord, rule1, rule2, rule3, rule4, rule5}
-use Rattle.definitions.specs.Splits.{quadrantOf}
-use Rattle.definitions.proofs.Choices.{and-intro, eqZ-true, yes, no, below-same, each}
+use Rattle.definitions.specs.Record.{vectorLimit, wordOf, typeOf, isIntra, referenceOf, used, vectorWord, rule1, rule2, rule3, rule4, rule5}
+use Rattle.definitions.proofs.Choices.{eqZ-true, yes, no, below-same, each}
 use Rattle.records.specs.declared.Range.{Range}
 use Rattle.records.specs.Checking.{within, allWithin, quadrantUsed, listRight, blockWithin, vectorsRight}
 use Rattle.records.proofs.Searches.{below-both, by-quadrants}

@@ -1,4 +1,4 @@
--- Tests at each index below a number: two at once, and a search for the first index at which one fails, a turn at a time. Assumes nothing.
+-- Tests at each index below a number: two at once, a search for the first index at which one fails, a turn at a time, and the blocks by quadrants. Assumes nothing.
 use Prim.Native.Nat.{ℕ, zero, suc, _+_, _<_, _≤_}
 use mathlib.Core.Path.{_≡_, refl, sym, ap, _∙_}
 use mathlib.Core.Bool.{Bool, true, false, _&&_, and-false}
@@ -6,7 +6,7 @@ use native.Mathlib.Numerals.{add-one}
 use native.Mathlib.Omega.{arith}
 use Rattle.definitions.specs.Tests.{allBelow}
 use Rattle.definitions.specs.Splits.{quadrantOf, placeOf, rasterOf}
-use Rattle.definitions.proofs.Choices.{and-intro, below-true, below-intro}
+use Rattle.definitions.proofs.Choices.{below-true, below-intro}
 use Rattle.definitions.proofs.Records.{raster-below, raster-is}
 
 pub and-swap : (a b c d : Bool) → ((a && b) && (c && d)) ≡ ((a && c) && (b && d))
@@ -26,14 +26,13 @@ pub search-none : (f : ℕ → Bool) → allBelow 0 f ≡ true
 unfolding allBelow
 search-none f = refl
 
-pub search-more : (f : ℕ → Bool) (k : ℕ) → allBelow k f ≡ true → f k ≡ true → allBelow (k + 1) f ≡ true
-unfolding allBelow
-search-more f k passed here = rw add-one (and-intro passed here)
-
 -- the test so far, and the next
 pub below-more : (f : ℕ → Bool) (k : ℕ) {t u : Bool} → t ≡ allBelow k f → u ≡ f k → (t && u) ≡ allBelow (k + 1) f
 unfolding allBelow
 below-more f k so-far here = rw add-one (λ i. so-far i && here i)
+
+pub search-more : (f : ℕ → Bool) (k : ℕ) → allBelow k f ≡ true → f k ≡ true → allBelow (k + 1) f ≡ true
+search-more f k passed here = sym (below-more f k (sym passed) (sym here))
 
 pub search-end : (f : ℕ → Bool) (n k : ℕ) → k ≤ n → n ≤ k → {t : Bool} → allBelow k f ≡ t → allBelow n f ≡ t
 search-end f n k le ge passed = let e : k ≡ n = omega arith in rw e at passed

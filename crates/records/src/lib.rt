@@ -104,7 +104,7 @@ pub fn motion_of(base: &[i16], a: usize, b: usize) -> Motion
 }
 
 // ---- Rules 1 to 4: words 0 to 12
-// Here and below every test is made: `&` has no branch, and words are taken several at once.
+// Both tests are made: `&` has no branch. So it is wherever words are tested by `&` below, and the compiler takes several at once.
 fn word_within(words: &[i16], w: usize, range: Range) -> bool
     requires { ⌜ (length (now words) ≡ recordWords) × (w < recordWords) ⌝ }
     ensures { λ t. ⌜ t ≡ within range (wordOf (now (words .entry)) w) ⌝ }
@@ -216,6 +216,7 @@ fn block_within(words: &[i16], first: usize, range0: Range, range1: Range) -> bo
         & word_within(words, first + 3, range1)
 }
 
+// The blocks of quadrant q, two rows of two: a row of four blocks is sixteen words.
 fn vectors_right(words: &[i16], q: usize) -> bool
     requires { ⌜ (length (now words) ≡ recordWords) × (q < 4) ⌝ }
     ensures { λ t. ⌜ t ≡ vectorsRight (now (words .entry)) q ⌝ }
@@ -299,7 +300,8 @@ fn same_vectors(words: &[i16], b: usize, d: usize) -> bool
         & same_word(words, v + 3, w + 3)
 }
 
-// The blocks of quadrant q have the motion of their pieces' first blocks. These lie in one quadrant e, so the references are compared once.
+// The blocks of quadrant q, which are i, i + 1, i + 4 and i + 5, have the motion of their pieces' first blocks.
+// Those lie in one quadrant, e, so references are compared once.
 fn same_as_first(words: &[i16], q: usize) -> bool
     requires { ⌜ (length (now words) ≡ recordWords) × (q < 4) ⌝ }
     ensures { λ t. ⌜ t ≡ sameAsFirst (now (words .entry)) q ⌝ }
