@@ -28,11 +28,11 @@ pub record Fewest (m : ℕ → Motion) (s : Split) : Type 0 where
   pub more : (t : Split) → oneEach m t ≡ true → t ≢ s → count s < count t
 
 -- ---- one motion in each piece, as equations
-abbrev pub Each : {A : Type 0} → (A → Type 0) → List A → Type 0
+abbrev Each : {A : Type 0} → (A → Type 0) → List A → Type 0
 Each P [] = Unit
 Each P (x ∷ xs) = P x × Each P xs
 
-abbrev pub Alike : (ℕ → Motion) → List ℕ → Type 0
+abbrev Alike : (ℕ → Motion) → List ℕ → Type 0
 Alike m [] = Unit
 Alike m (i ∷ is) = Each (λ j. m j ≡ m i) is
 

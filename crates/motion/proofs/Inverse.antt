@@ -1,4 +1,4 @@
--- A product and a division by p stand for a division by b. Assumes nothing.
+-- A product with p / b + 1, over p, is a quotient by b. Assumes nothing.
 use Prim.Native.Nat.{ℕ, _+_, _*_, _/_, _^_, _≤_, _<_}
 use mathlib.Core.Path.{_≡_}
 use native.Mathlib.Nat.{div-mul-le-self, lt-div-mul-add, div-eq-of-lt-le, div-le-of-le-mul, mul-le-mul, mul-le-mul-left, mul-le-mul-right, lt-of-mul-lt-mul-right}
@@ -7,7 +7,7 @@ use Rattle.definitions.specs.Accepted.{Sized}
 use Rattle.definitions.specs.Record.{vectorLimit}
 use Rattle.motion.specs.Scales.{inverseOf}
 
--- b · (p / b + 1) is above p by at most b: so small an error, x times, does not reach the next multiple of p
+-- b · (p / b + 1) is above p, by at most b: x times that is less than p, so the quotient is not raised.
 inverse-is : (p b x : ℕ) → 0 < b → x * b < p → x * (p / b + 1) / p ≡ x / b
 inverse-is p b x hb few =
     let low : x / b * p ≤ x * (p / b + 1) =
@@ -16,17 +16,17 @@ inverse-is p b x hb few =
     omega (arith, mul-le-mul-left x (div-mul-le-self p b), mul-le-mul-right p (lt-div-mul-add {a = x} hb)) in
     div-eq-of-lt-le p low (lt-of-mul-lt-mul-right b high)
 
-module _ (b s n : ℕ) (h : n ≤ vectorLimit) (z : Sized b s) where
-  pub sum-high : n * s + b / 2 ≤ 2 ^ 26 + 2 ^ 11
-  sum-high =
-      let k : s ≤ 2 ^ 13 = omega arith in
-      omega (arith, mul-le-mul h k)
+-- the numbers fit
+pub times-high : (b s n : ℕ) → n ≤ vectorLimit → Sized b s → n * s ≤ 2 ^ 26
+times-high b s n h z =
+    let k : s ≤ 2 ^ 13 = omega arith in
+    omega (arith, mul-le-mul h k)
 
-  pub product-high : (n * s + b / 2) * inverseOf b < 2 ^ 64
-  product-high =
-      let k : 2 ^ 40 / b ≤ 2 ^ 36 = div-le-of-le-mul b (omega arith) in
-      let l : inverseOf b ≤ 2 ^ 36 + 1 = omega arith in
-      omega (arith, mul-le-mul sum-high l)
+pub product-high : (b s x : ℕ) → Sized b s → x < 2 ^ 27 → x * inverseOf b < 2 ^ 64
+product-high b s x z h =
+    let k : 2 ^ 40 / b ≤ 2 ^ 36 = div-le-of-le-mul b (omega arith) in
+    let l : inverseOf b ≤ 2 ^ 36 + 1 = omega arith in
+    omega (arith, mul-le-mul h l)
 
-  pub size-is : (n * s + b / 2) * inverseOf b / 2 ^ 40 ≡ (n * s + b / 2) / b
-  size-is = inverse-is (2 ^ 40) b (n * s + b / 2) (omega arith) (omega (arith, mul-le-mul sum-high (z .base-high)))
+pub quotient-is : (b s x : ℕ) → Sized b s → x < 2 ^ 27 → x * inverseOf b / 2 ^ 40 ≡ x / b
+quotient-is b s x z h = inverse-is (2 ^ 40) b x (omega arith) (omega (arith, mul-le-mul h (z .base-high)))

@@ -1,6 +1,6 @@
 -- Laws that the proofs of the functions cite.
-mod Inverse
-mod Once
-pub mod Range
+mod Range
 mod Signs
+mod Inverse
 mod ByScales
+mod Once

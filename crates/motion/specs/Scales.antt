@@ -1,4 +1,4 @@
--- Step 4 of "Inheriting", by numbers that are computed once for an axis.
+-- Step 4 of "Inheriting" by an axis's scale: B, S, and a number that is computed once.
 use Prim.Native.Nat.{ℕ, _+_, _/_, _^_}
 use mathlib.Core.Path.{_≡_}
 use Rattle.definitions.specs.declared.Axis.{Axis}
@@ -9,7 +9,7 @@ use Rattle.definitions.specs.Geometry.{baseSize, scaledSize}
 use Rattle.definitions.specs.Inheriting.{scaledWord}
 use Rattle.motion.specs.declared.Scale.{Scale}
 
--- B, S, and what stands for a division by B
+-- A product with it, over 2^40, is a quotient by B (proofs/Inverse).
 abbrev pub inverseOf : ℕ → ℕ
 inverseOf b = 2 ^ 40 / b + 1
 
@@ -21,7 +21,7 @@ pub record AcceptedScale (s : Scale) : Type 0 where
   pub sized : Sized (s .base) (s .scaled)
   pub inverse : s .inverse ≡ inverseOf (s .base)
 
--- a prediction and a motion by the horizontal and the vertical scale
+-- scaledPrediction and scaledMotion, with B and S from the horizontal and the vertical scale
 abbrev pub predictionBy : Scale → Scale → Prediction → Prediction
 predictionBy h v p =
     record { reference = p .reference; x = scaledWord (h .base) (h .scaled) (p .x); y = scaledWord (v .base) (v .scaled) (p .y) }

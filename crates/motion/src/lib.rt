@@ -52,7 +52,7 @@ pub fn same_motion(m: Motion, n: Motion) -> bool
 // ---- Step 4. One rule for both axes: |v| is scaled to the nearest, halves up, and the sign put back.
 const POWER: u64 = 1099511627776; // 2^40
 
-// An axis's B and S, and 2^40 / B + 1: a product with it and a shift stand for a division by B, which is dear.
+// An axis's B and S, and 2^40 / B + 1: a product with it, shifted right by 40, stands for a division by B, which is dear.
 struct Scale {
     base: u32,
     scaled: u32,
@@ -80,6 +80,7 @@ fn scale_size(s: Scale, n: u32) -> u32
     (sum as u64 * s.inverse / POWER) as u32
 }
 
+// The sign is taken off and put back by itself: no branch stands round the product.
 fn magnitude(v: i16) -> u32
     requires { ⌜ natAbs v ≤ vectorLimit ⌝ }
     ensures { λ r. ⌜ r ≡ natAbs v ⌝ }
@@ -130,7 +131,7 @@ pub fn scale_motion(g: Axes, m: Motion) -> Motion
     scale_with(scale_of(g.horizontal), scale_of(g.vertical), m)
 }
 
-// Blocks of one piece have one motion: it is scaled once a piece.
+// Blocks of one piece have one motion: it is scaled once a piece. A quadrant by its shape:
 fn scale_quadrant(h: Scale, v: Scale, s: SubSplit, m: [Motion; 4]) -> [Motion; 4]
     requires { ⌜ AcceptedScale h × AcceptedScale v × ((k : ℕ) → k < 4 → InRange (getD m k zeroMotion .list0) × InRange (getD m k zeroMotion .list1)) × (s ≡ quadrantShape m) ⌝ }
     ensures { λ r. ⌜ r ≡ four (λ k. motionBy h v (getD m k zeroMotion)) ⌝ }
@@ -155,7 +156,7 @@ fn scale_quadrant(h: Scale, v: Scale, s: SubSplit, m: [Motion; 4]) -> [Motion; 4
     }
 }
 
-// The sixteen blocks, as four quadrants of four, by their split.
+// and the sixteen blocks, as four quadrants of four, by the split that is chosen of them.
 pub fn scale_by(g: Axes, s: Split, m: [[Motion; 4]; 4]) -> [[Motion; 4]; 4]
     requires { ⌜ AcceptedAxis (g .horizontal) × AcceptedAxis (g .vertical) × ((q k : ℕ) → q < 4 → k < 4 → InRange (at m q k .list0) × InRange (at m q k .list1)) × (s ≡ chosen m) ⌝ }
     ensures { λ r. ⌜ r ≡ four (λ q. four (λ k. scaledMotion g (at m q k))) ⌝ }

@@ -14,13 +14,13 @@ scale-word-requires : tie.Need-scale-word-requires
 scale-word-requires c κs =
     let s = c .before in
     let f : SFits w16 (s .args .p .x) = search needs in
-    rw (toZ-ofZ f) (size-of (s .args .p .x) (s .pre .2 .x), s .pre .0)
+    rw (toZ-ofZ f) (size-of (s .args .p .x) (s .pre .2 .x), search needs)
 
 scale-word-requires-2 : tie.Need-scale-word-requires-2
 scale-word-requires-2 c κs =
     let s = c .before .before .before in
     let f : SFits w16 (s .args .p .y) = search needs in
-    rw (toZ-ofZ f) (size-of (s .args .p .y) (s .pre .2 .y), s .pre .1)
+    rw (toZ-ofZ f) (size-of (s .args .p .y) (s .pre .2 .y), search needs)
 
 returns : tie.Need-returns
 returns c =

@@ -1,5 +1,4 @@
 -- `motion::with_sign_of` meets its contract. Assumes nothing.
-use lib.IntN.{natAbs}
 use mathlib.Core.Path.{sym, _∙_}
 use mir.Facts.{toZ-ofZ}
 use Rattle.motion.proofs.Signs.{signed-below, signed-above, natural, opposite, opposite-fits}
