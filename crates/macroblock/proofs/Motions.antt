@@ -1,5 +1,5 @@
 -- The motions that the blocks read, their range, and what steps 1 to 4 make of them by quadrants. Assumes nothing.
-use Prim.Native.Nat.{ℕ, _+_, _*_, _<_}
+use Prim.Native.Nat.{ℕ, _+_, _-_, _*_, _<_}
 use mathlib.Core.Path.{_≡_, refl, sym, ap, subst, _∙_}
 use mathlib.Core.Bool.{Bool, true, false, _||_}
 use mathlib.Core.List.{List, [], _∷_}
@@ -10,11 +10,11 @@ use Rattle.definitions.specs.declared.Axes.{Axes}
 use Rattle.definitions.specs.declared.Prediction.{Prediction}
 use Rattle.definitions.specs.declared.Motion.{Motion}
 use Rattle.definitions.specs.declared.Split.{Split}
-use Rattle.definitions.specs.Tests.{eqZ, four}
+use Rattle.definitions.specs.Tests.{minus, between, eqZ, four}
 use Rattle.definitions.specs.Geometry.{baseSize, macroblocks}
 use Rattle.definitions.specs.BlockMap.{blockIn}
 use Rattle.definitions.specs.Splits.{rasterOf}
-use Rattle.definitions.specs.Record.{used, motionOf, vectorWord}
+use Rattle.definitions.specs.Record.{vectorLimit, used, motionOf, vectorWord}
 use Rattle.definitions.specs.Inheriting.{zeroMotion, at, unused, clearOf, filled, merged, liveOf, copied, resolved, chosen}
 use Rattle.definitions.proofs.Choices.{and-true, eqZ-true, each, four-at, four-same}
 use Rattle.definitions.proofs.Formed.{Vectors, vectors-of}
@@ -35,9 +35,11 @@ zero-word false z f e = eqZ-true z (pos 0) e
 
 empty : (p : Prediction) → vectorWord (used (p .reference)) (p .x) ≡ true → vectorWord (used (p .reference)) (p .y) ≡ true → Empty p
 empty p a b u =
+    let word : (z : ℤ) → vectorWord (used (p .reference)) z ≡ true → z ≡ pos 0 =
+    λ z e. zero-word (used (p .reference)) z u (and-true (between (minus vectorLimit) (pos (vectorLimit - 1)) z) (used (p .reference) || eqZ z (pos 0)) e .1) in
     let r = not-used (p .reference) u in
-    let x = zero-word (used (p .reference)) (p .x) u (and-true _ _ a .1) in
-    let y = zero-word (used (p .reference)) (p .y) u (and-true _ _ b .1) in
+    let x = word (p .x) a in
+    let y = word (p .y) b in
     λ i. record { reference = r i; x = x i; y = y i }
 
 module _ (width : ℕ) (base : List ℤ) (x y : ℕ) (r : ReadableAt width base x y) where

@@ -58,7 +58,7 @@ module _ (g : Axes) (column row : ℕ) (base : List ℤ) where
       ∙ sym ((λ i. placedBy g (x i) (y i) base) ∙ yes _ _ refl)
   by-window true false p q =
       let y : down ≡ nowhere = no _ _ q in
-      made-outside g base column row (rw (p, q)) ∙ sym ((λ i. placedBy g across (y i) base) ∙ no _ _ (and-no _))
+      made-outside g base column row (rw (p, q)) ∙ sym ((λ i. placedBy g across (y i) base) ∙ no (madeBy g across nowhere base) _ (and-no (across .inside)))
   by-window false b p q =
       let x : across ≡ nowhere = no _ _ p in
       made-outside g base column row (rw p) ∙ sym ((λ i. placedBy g (x i) down base) ∙ no _ _ refl)

@@ -25,16 +25,13 @@ module _ (a : Axis) (x : ℕ) where
   read-outside e p = p ∙ sym (no _ _ e)
 
   -- columns and coordinates lie inside the base, which has 256 columns at the most
-  pub step-small : {step : AxisStep} → AcceptedAxis a → insideAxis a (sampleOf x) ≡ true → step ≡ stepOf a (sampleOf x) → Small step
-  step-small {step} acc e s = subst Small (sym s) small
-    where
-      at-c : Inside (baseSize a) (scaledSize a) (cOf a (sampleOf x))
-      at-c = inside-axis a (sampleOf x) acc e
+  small : AcceptedAxis a → Inside (baseSize a) (scaledSize a) (cOf a (sampleOf x)) → Small (stepOf a (sampleOf x))
+  unfolding stepOf
+  small accepted at-c = record {
+    reads = λ i h. subst (λ (n : ℕ). n < 65536) (sym (four-at (coordinateOf (baseSize a) (scaledSize a) (cOf a (sampleOf x))) 0 i h))
+        (omega (arith, accepted .sized .base-high, coordinate-below (baseSize a) (scaledSize a) (cOf a (sampleOf x)) at-c i h));
+    first = omega (arith, accepted .sized .base-high, f-below (baseSize a) (scaledSize a) (cOf a (sampleOf x)) at-c);
+  }
 
-      small : Small (stepOf a (sampleOf x))
-      unfolding stepOf
-      small = record {
-        reads = λ i h. subst (λ (n : ℕ). n < 65536) (sym (four-at (coordinateOf (baseSize a) (scaledSize a) (cOf a (sampleOf x))) 0 i h))
-            (omega (arith, acc .sized .base-high, coordinate-below (baseSize a) (scaledSize a) (cOf a (sampleOf x)) at-c i h));
-        first = omega (arith, acc .sized .base-high, f-below (baseSize a) (scaledSize a) (cOf a (sampleOf x)) at-c);
-      }
+  pub step-small : {step : AxisStep} → AcceptedAxis a → insideAxis a (sampleOf x) ≡ true → step ≡ stepOf a (sampleOf x) → Small step
+  step-small accepted e s = subst Small (sym s) (small accepted (inside-axis a (sampleOf x) accepted e))

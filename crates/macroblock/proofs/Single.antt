@@ -45,6 +45,17 @@ unfolding setOf pick
 all-or-none true = refl
 all-or-none false = refl
 
+-- in the empty set no block is marked
+none-marked : (q : ℕ) → q < 4 → (k : ℕ) → k < 4 → getD (clearOf 0 q) k false ≡ true
+unfolding clearOf
+none-marked =
+    each (λ q. (k : ℕ) → k < 4 → getD (clearOf 0 q) k false ≡ true) (each _ refl refl refl refl) (each _ refl refl refl refl) (each _ refl refl refl refl) (each _ refl refl refl refl)
+
+-- sixteen blocks of one motion are one piece
+uniform : (m : Motion) → splitOf (four (λ q. four (λ k. m))) ≡ S16x16
+unfolding splitOf shapesOf quadrantShape shapeOf samePairs allWhole pick
+uniform m = rw (motion-same m m refl)
+
 module _ (g : Axes) (h v : AxisRead) (base : List ℤ) (ready : Ready g h v base) (one : (oneColumn (h .reads) && oneColumn (v .reads)) ≡ true) where
   abbrev width : ℕ
   width = macroblocks (baseSize (g .horizontal))
@@ -130,11 +141,7 @@ module _ (g : Axes) (h v : AxisRead) (base : List ℤ) (ready : Ready g h v base
         })
 
     unchanged : (q : ℕ) → q < 4 → merged (filled (clearOf 0 q) quadrant) ≡ quadrant
-    unchanged q l = ap merged (filled-leaves (clearOf 0 q) quadrant (clear q l)) ∙ settled
-      where
-        clear : (q : ℕ) → q < 4 → (k : ℕ) → k < 4 → getD (clearOf 0 q) k false ≡ true
-        unfolding clearOf
-        clear = each (λ q. (k : ℕ) → k < 4 → getD (clearOf 0 q) k false ≡ true) (each _ refl refl refl refl) (each _ refl refl refl refl) (each _ refl refl refl refl) (each _ refl refl refl refl)
+    unchanged q l = ap merged (filled-leaves (clearOf 0 q) quadrant (none-marked q l)) ∙ settled
 
     resolved-is : resolvedBy g h v base ≡ four (λ q. quadrant)
     unfolding resolvedBy resolved copied copiedFrom liveOf someOf clearOf pick
@@ -149,7 +156,3 @@ module _ (g : Axes) (h v : AxisRead) (base : List ℤ) (ready : Ready g h v base
 
     pub whole-split : S16x16 ≡ chosen (motionsBy g h v base)
     whole-split = sym (ap chosen whole-motions ∙ (chosen-is (four (λ q. four (λ k. scaledMotion g n))) ∙ uniform (scaledMotion g n)))
-      where
-        uniform : (m : Motion) → splitOf (four (λ q. four (λ k. m))) ≡ S16x16
-        unfolding splitOf shapesOf quadrantShape shapeOf samePairs allWhole pick
-        uniform m = rw (motion-same m m refl)
