@@ -14,8 +14,9 @@ use Rattle.definitions.specs.Tests.{minus, between, eqZ, four}
 use Rattle.definitions.specs.Geometry.{baseSize, macroblocks}
 use Rattle.definitions.specs.BlockMap.{blockIn}
 use Rattle.definitions.specs.Splits.{rasterOf}
-use Rattle.definitions.specs.Record.{vectorLimit, used, motionOf, vectorWord}
-use Rattle.definitions.specs.Inheriting.{zeroMotion, at, unused, clearOf, filled, merged, liveOf, copied, resolved, chosen}
+use Rattle.definitions.specs.Record.{vectorLimit, used, motionOf, vectorWord, typeNumber, laidOut}
+use Rattle.definitions.specs.Inheriting.{zeroMotion, at, unused, clearOf, filled, merged, liveOf, copied, resolved, scaledMotion, motionAt, chosen}
+use Rattle.definitions.specs.Answer.{subTypes}
 use Rattle.definitions.proofs.Choices.{and-true, eqZ-true, each, four-at, four-same}
 use Rattle.definitions.proofs.Formed.{Vectors, vectors-of}
 use Rattle.definitions.proofs.Records.{raster-below}
@@ -26,7 +27,7 @@ use Rattle.quadrant.specs.Merging.{Empty, AllEmpty}
 use Rattle.gather.specs.Reads.{Readable, ReadableAt, recordRead, motionRead, motionBy, setBy, gatheredBy}
 use Rattle.gather.proofs.Reading.{readable-at}
 use Rattle.macroblock.specs.declared.AxisRead.{AxisRead}
-use Rattle.macroblock.specs.Made.{Ready, resolvedBy, motionsBy}
+use Rattle.macroblock.specs.Made.{Ready, resolvedBy, motionsBy, inheritedBy}
 
 -- ---- a motion that is read
 zero-word : (t : Bool) (z : ℤ) → t ≡ false → (t || eqZ z (pos 0)) ≡ true → z ≡ pos 0
@@ -105,3 +106,11 @@ module _ (g : Axes) (h v : AxisRead) (base : List ℤ) (ready : Ready g h v base
   pub scaled-split : {s : Split} {m : List (List Motion)} → m ≡ resolvedBy g h v base → s ≡ chosen m → s ≡ chosen (motionsBy g h v base)
   unfolding motionsBy
   scaled-split e f = f ∙ (ap chosen e ∙ sym (chosen-scaled g (ready .horizontal .sized) (ready .vertical .sized) (resolvedBy g h v base)))
+
+  pub inherited-written : {s : Split} {m scaled : List (List Motion)} → m ≡ resolvedBy g h v base → s ≡ chosen m → scaled ≡ four (λ q. four (λ k. scaledMotion g (at m q k)))
+      → laidOut (typeNumber s) (λ q. getD (subTypes s) q 0) (motionAt scaled) ≡ inheritedBy g h v base
+  unfolding inheritedBy motionsBy
+  inherited-written e f es =
+      let p = scaled-split e f in
+      let q = es ∙ ap (λ (l : List (List Motion)). four (λ j. four (λ k. scaledMotion g (at l j k)))) e in
+      λ i. laidOut (typeNumber (p i)) (λ j. getD (subTypes (p i)) j 0) (motionAt (q i))

@@ -5,8 +5,9 @@ use mathlib.Core.Bool.{Bool, true, false, _&&_, _||_}
 use mathlib.Core.List.{List, [], _∷_}
 use native.Mathlib.Omega.{arith}
 use lib.IntN.{ℤ, pos}
-use lib.ListN.{getD}
-use borrow.Author.Tests.{eqb-true}
+use lib.ListN.{getD, replicate}
+use lib.Count.{ones, onesIn, ones-step}
+use borrow.Author.Tests.{eqb-true, le-leb}
 use Rattle.definitions.specs.declared.Axes.{Axes}
 use Rattle.definitions.specs.declared.Motion.{Motion}
 use Rattle.definitions.specs.declared.Split.{Split}
@@ -15,8 +16,9 @@ use Rattle.definitions.specs.Tests.{pick, eqZ, four}
 use Rattle.definitions.specs.Geometry.{baseSize, macroblocks}
 use Rattle.definitions.specs.BlockMap.{columnOf, blockIn}
 use Rattle.definitions.specs.Splits.{sameMotion, oneEach}
-use Rattle.definitions.specs.Record.{recordAt, isIntra, typeOf, motionOf, splitSaid, rule6}
-use Rattle.definitions.specs.Inheriting.{zeroMotion, setOf, mostlyIntra, clearOf, filled, merged, copied, copiedFrom, liveOf, someOf, resolved, scaledMotion, chosen}
+use Rattle.definitions.specs.Record.{recordAt, isIntra, typeOf, motionOf, splitSaid, rule6, typeNumber, laidOut}
+use Rattle.definitions.specs.Inheriting.{zeroMotion, setOf, mostlyIntra, clearOf, filled, merged, copied, copiedFrom, liveOf, someOf, resolved, scaledMotion, motionAt, chosen}
+use Rattle.definitions.specs.Answer.{subTypes}
 use Rattle.definitions.proofs.Choices.{and-true, or-true, eqZ-true, each, four-same, yes, no}
 use Rattle.definitions.proofs.Formed.{rules-of}
 use Rattle.definitions.proofs.Fewest.{one-each, chosen-is}
@@ -29,7 +31,7 @@ use Rattle.quadrant.specs.Merging.{Empty}
 use Rattle.gather.specs.Reads.{ReadableAt, Readable, addressRead, recordRead, motionRead, addressBy, readBy, blockBy, motionBy, setBy, gatheredBy}
 use Rattle.gather.proofs.Reading.{readable-at}
 use Rattle.macroblock.specs.declared.AxisRead.{AxisRead}
-use Rattle.macroblock.specs.Made.{Ready, oneColumn, resolvedBy, motionsBy}
+use Rattle.macroblock.specs.Made.{Ready, oneColumn, resolvedBy, motionsBy, inheritedBy}
 use Rattle.macroblock.proofs.Motions.{read-empty}
 
 one-column : (reads : List ℕ) → oneColumn reads ≡ true → (i : ℕ) → i < 4 → columnOf (getD reads i 0) ≡ columnOf (getD reads 0 0)
@@ -55,6 +57,16 @@ none-marked =
 uniform : (m : Motion) → splitOf (four (λ q. four (λ k. m))) ≡ S16x16
 unfolding splitOf shapesOf quadrantShape shapeOf samePairs allWhole pick
 uniform m = rw (motion-same m m refl)
+
+pub mostly-all : mostlyIntra 65535 ≡ true
+mostly-all =
+    le-leb 9 (ones 65535) (omega (
+      arith, ones-step 65535, ones-step 32767, ones-step 16383, ones-step 8191, ones-step 4095, ones-step 2047, ones-step 1023, ones-step 511, ones-step 255,
+    ))
+
+pub mostly-none : mostlyIntra 0 ≡ false
+unfolding ones onesIn
+mostly-none = refl
 
 module _ (g : Axes) (h v : AxisRead) (base : List ℤ) (ready : Ready g h v base) (one : (oneColumn (h .reads) && oneColumn (v .reads)) ≡ true) where
   abbrev width : ℕ
@@ -156,3 +168,10 @@ module _ (g : Axes) (h v : AxisRead) (base : List ℤ) (ready : Ready g h v base
 
     pub whole-split : S16x16 ≡ chosen (motionsBy g h v base)
     whole-split = sym (ap chosen whole-motions ∙ (chosen-is (four (λ q. four (λ k. scaledMotion g n))) ∙ uniform (scaledMotion g n)))
+
+    pub whole-written : {m : Motion} → m ≡ scaledMotion g n → laidOut (typeNumber S16x16) (λ q. getD (subTypes S16x16) q 0) (motionAt (replicate 4 (replicate 4 m))) ≡ inheritedBy g h v base
+    unfolding inheritedBy
+    whole-written e =
+        let p = whole-split in
+        let q = ap (λ (m : Motion). four (λ j. four (λ k. m))) e ∙ sym whole-motions in
+        λ i. laidOut (typeNumber (p i)) (λ j. getD (subTypes (p i)) j 0) (motionAt (q i))

@@ -1,36 +1,42 @@
+-- `macroblock::make_inherited` meets its contract. Assumes nothing.
+use Prim.Native.Nat.{ℕ, _<_}
+use mathlib.Core.List.{List}
+use mathlib.Core.Path.{sym, subst, _∙_}
+use Rattle.definitions.specs.declared.Motion.{Motion}
+use Rattle.definitions.specs.Inheriting.{at}
+use Rattle.definitions.proofs.Steps.{Both}
+use Rattle.motion.specs.Range.{InRange}
+use Rattle.macroblock.proofs.Motions.{resolved-range, scaled-split, inherited-written}
 use borrow.Author.Needs.{needs}
 use Rattle.macroblock.proofs.make_inherited.Statement.{statement}
 use Rattle.macroblock.proofs.make_inherited.Tie as tie
-use Rattle.macroblock.proofs.make_inherited.Reads as reads
-use Rattle.macroblock.proofs.make_inherited.Lts as lts
-use Rattle.macroblock.proofs.motions_made.Reads as motions-made-reads
-use Rattle.macroblock.proofs.write_split.Reads as write-split-reads
-use Rattle.motion.proofs.scale_by.Reads as scale-by-reads
-use Rattle.split.proofs.choose.Reads as choose-reads
 
--- src/lib.rt:219:9
 motions-made-requires : tie.Need-motions-made-requires
 motions-made-requires c κs = search needs
 
--- src/lib.rt:220:9
 choose-requires : tie.Need-choose-requires
 choose-requires c κs = search needs
 
--- src/lib.rt:221:25
 scale-by-requires : tie.Need-scale-by-requires
-scale-by-requires c κs = ?
+scale-by-requires c κs =
+    let s = c .before .before .before in
+    let Right : List (List Motion) → Type 0 = λ m. (q k : ℕ) → q < 4 → k < 4 → Both InRange (at m q k) in
+    (s .pre .0 .horizontal, s .pre .0 .vertical, subst Right (sym (c .before .before .motions-made .ensures)) (resolved-range (s .args .g) (s .args .h) (s .args .v) (s .args .base .now) (s .pre .0)), c .before .choose .ensures)
 
--- src/lib.rt:221:5
 write-split-requires : tie.Need-write-split-requires
 write-split-requires c κs = search needs
 
--- src/lib.rt:207:1
 same-length : tie.Need-same-length
 same-length c = search needs
 
--- src/lib.rt:207:1
 returns : tie.Need-returns
-returns c = ?
+returns c =
+    let s = c .before .before .before .before .before .before in
+    let m = c .before .before .before .before .before .motions-made .ensures in
+    let k = c .before .before .before .before .choose .ensures in (
+      scaled-split (s .args .g) (s .args .h) (s .args .v) (s .args .base .now) (s .pre .0) m k,
+      c .before .write-split .ensures ∙ inherited-written (s .args .g) (s .args .h) (s .args .v) (s .args .base .now) (s .pre .0) m k (c .before .before .scale-by .ensures),
+    )
 
 pub make-inherited-spec : {M : Type 1} → statement M
 make-inherited-spec =

@@ -1,84 +1,82 @@
+-- `macroblock::make_of_one` meets its contract. Assumes nothing.
+use mathlib.Core.Path.{ap, sym, subst, _∙_}
+use native.Mathlib.Omega.{arith}
+use Rattle.definitions.specs.declared.Answer.the-variants.{Intra, Inherited}
+use Rattle.definitions.specs.Inheriting.{scaledMotion}
+use Rattle.definitions.proofs.Steps.{Both}
+use Rattle.motion.specs.Range.{InRange}
+use Rattle.macroblock.proofs.Making.{made-intra, made-inherited}
+use Rattle.macroblock.proofs.Motions.{read-range}
+use Rattle.macroblock.proofs.Single.{mostly-all, mostly-none, first-readable, set-all, set-none, whole-split, whole-written}
 use borrow.Author.Needs.{needs}
 use Rattle.macroblock.proofs.make_of_one.Statement.{statement}
 use Rattle.macroblock.proofs.make_of_one.Tie as tie
-use Rattle.macroblock.proofs.make_of_one.Reads as reads
-use Rattle.macroblock.proofs.make_of_one.Lts as lts
-use Rattle.gather.proofs.motion_read.Reads as motion-read-reads
-use Rattle.gather.proofs.reads_intra.Reads as reads-intra-reads
-use Rattle.gather.proofs.reads_whole.Reads as reads-whole-reads
-use Rattle.macroblock.proofs.make_inherited.Reads as make-inherited-reads
-use Rattle.macroblock.proofs.named_of.Reads as named-of-reads
-use Rattle.macroblock.proofs.write_split.Reads as write-split-reads
-use Rattle.macroblock.proofs.write_unused.Reads as write-unused-reads
-use Rattle.motion.proofs.scale_motion.Reads as scale-motion-reads
 
--- src/lib.rt:239:17
 cast-width : tie.Need-cast-width
 cast-width c = search needs
 
--- src/lib.rt:240:13
 element-copy-out-x : tie.Need-element-copy-out-x
 element-copy-out-x c = search needs
 
--- src/lib.rt:241:13
 element-copy-out-y : tie.Need-element-copy-out-y
 element-copy-out-y c = search needs
 
--- src/lib.rt:242:9
 named-of-requires : tie.Need-named-of-requires
 named-of-requires c κs = search needs
 
--- src/lib.rt:243:8
 reads-intra-requires : tie.Need-reads-intra-requires
-reads-intra-requires c κs = ?
+reads-intra-requires c κs = (first-readable (c .before .before .before .before .args .g) (c .before .before .before .before .args .t3) (c .before .before .before .before .args .t4) (c .before .before .before .before .args .base .now) (c .before .before .before .before .pre .0) (c .before .before .before .before .pre .1), omega (arith, c .before .before .before .before .pre .0 .horizontal .sized .base-high))
 
--- src/lib.rt:244:9
 write-unused-requires : tie.Need-write-unused-requires
 write-unused-requires c κs = search needs
 
--- src/lib.rt:245:9
 same-length : tie.Need-same-length
 same-length c = search needs
 
--- src/lib.rt:245:9
 returns : tie.Need-returns
-returns c = ?
+returns c =
+    let r = made-intra (c .before .before .before .before .before .before .before .before .before .args .g) (c .before .before .before .before .before .before .before .before .before .args .t3) (c .before .before .before .before .before .before .before .before .before .args .t4) (c .before .before .before .before .before .before .before .before .before .args .base .now) (set-all (c .before .before .before .before .before .before .before .before .before .args .g) (c .before .before .before .before .before .before .before .before .before .args .t3) (c .before .before .before .before .before .before .before .before .before .args .t4) (c .before .before .before .before .before .before .before .before .before .args .base .now) (c .before .before .before .before .before .before .before .before .before .pre .0) (c .before .before .before .before .before .before .before .before .before .pre .1) (sym (c .before .before .before .before .reads-intra .ensures) ∙ c .before .before .before .if1 .taken)) mostly-all (ap Intra (c .before .before .before .before .before .named-of .ensures)) (c .before .write-unused .ensures) in
+    (r .answered, r .written)
 
--- src/lib.rt:247:8
 reads-whole-requires : tie.Need-reads-whole-requires
-reads-whole-requires c κs = ?
+reads-whole-requires c κs = (first-readable (c .before .before .before .before .before .before .args .g) (c .before .before .before .before .before .before .args .t3) (c .before .before .before .before .before .before .args .t4) (c .before .before .before .before .before .before .args .base .now) (c .before .before .before .before .before .before .pre .0) (c .before .before .before .before .before .before .pre .1), omega (arith, c .before .before .before .before .before .before .pre .0 .horizontal .sized .base-high))
 
--- src/lib.rt:248:33
 motion-read-requires : tie.Need-motion-read-requires
-motion-read-requires c κs = ?
+motion-read-requires c κs = (first-readable (c .before .before .before .before .before .before .before .before .args .g) (c .before .before .before .before .before .before .before .before .args .t3) (c .before .before .before .before .before .before .before .before .args .t4) (c .before .before .before .before .before .before .before .before .args .base .now) (c .before .before .before .before .before .before .before .before .pre .0) (c .before .before .before .before .before .before .before .before .pre .1), omega (arith, c .before .before .before .before .before .before .before .before .pre .0 .horizontal .sized .base-high))
 
--- src/lib.rt:248:13
 scale-motion-requires : tie.Need-scale-motion-requires
-scale-motion-requires c κs = ?
+scale-motion-requires c κs =
+    let s = c .before .before .before .before .before .before .before .before .before in
+    (s .pre .0 .horizontal, s .pre .0 .vertical, subst (Both InRange) (sym (c .motion-read .ensures)) (read-range _ _ _ _ (first-readable (c .before .before .before .before .before .before .before .before .before .args .g) (c .before .before .before .before .before .before .before .before .before .args .t3) (c .before .before .before .before .before .before .before .before .before .args .t4) (c .before .before .before .before .before .before .before .before .before .args .base .now) (c .before .before .before .before .before .before .before .before .before .pre .0) (c .before .before .before .before .before .before .before .before .before .pre .1))))
 
--- src/lib.rt:249:9
 write-split-requires : tie.Need-write-split-requires
 write-split-requires c κs = search needs
 
--- src/lib.rt:250:9
 same-length-2 : tie.Need-same-length-2
 same-length-2 c = search needs
 
--- src/lib.rt:250:9
 returns-2 : tie.Need-returns-2
-returns-2 c = ?
+returns-2 c =
+    let not-intra = sym (c .before .before .before .before .before .before .before .before .reads-intra .ensures) ∙ c .before .before .before .before .before .before .before .if1 .left in
+    let whole = sym (c .before .before .before .before .before .before .reads-whole .ensures) ∙ c .before .before .before .before .before .if2 .taken in
+    let n = c .before .before .before .before .before .before .before .before .before .named-of .ensures in
+    let k = whole-split (c .before .before .before .before .before .before .before .before .before .before .before .before .before .args .g) (c .before .before .before .before .before .before .before .before .before .before .before .before .before .args .t3) (c .before .before .before .before .before .before .before .before .before .before .before .before .before .args .t4) (c .before .before .before .before .before .before .before .before .before .before .before .before .before .args .base .now) (c .before .before .before .before .before .before .before .before .before .before .before .before .before .pre .0) (c .before .before .before .before .before .before .before .before .before .before .before .before .before .pre .1) not-intra whole in
+    let m = c .before .before .before .scale-motion .ensures ∙ ap (scaledMotion (c .before .before .before .before .before .before .before .before .before .before .before .before .before .args .g)) (c .before .before .before .before .motion-read .ensures) in
+    let r = made-inherited (c .before .before .before .before .before .before .before .before .before .before .before .before .before .args .g) (c .before .before .before .before .before .before .before .before .before .before .before .before .before .args .t3) (c .before .before .before .before .before .before .before .before .before .before .before .before .before .args .t4) (c .before .before .before .before .before .before .before .before .before .before .before .before .before .args .base .now) (set-none (c .before .before .before .before .before .before .before .before .before .before .before .before .before .args .g) (c .before .before .before .before .before .before .before .before .before .before .before .before .before .args .t3) (c .before .before .before .before .before .before .before .before .before .before .before .before .before .args .t4) (c .before .before .before .before .before .before .before .before .before .before .before .before .before .args .base .now) (c .before .before .before .before .before .before .before .before .before .before .before .before .before .pre .0) (c .before .before .before .before .before .before .before .before .before .before .before .before .before .pre .1) not-intra) mostly-none (λ i. Inherited (n i) (k i)) (c .before .write-split .ensures ∙ whole-written (c .before .before .before .before .before .before .before .before .before .before .before .before .before .args .g) (c .before .before .before .before .before .before .before .before .before .before .before .before .before .args .t3) (c .before .before .before .before .before .before .before .before .before .before .before .before .before .args .t4) (c .before .before .before .before .before .before .before .before .before .before .before .before .before .args .base .now) (c .before .before .before .before .before .before .before .before .before .before .before .before .before .pre .0) (c .before .before .before .before .before .before .before .before .before .before .before .before .before .pre .1) not-intra whole m) in
+    (r .answered, r .written)
 
--- src/lib.rt:252:9
 make-inherited-requires : tie.Need-make-inherited-requires
-make-inherited-requires c κs = ?
+make-inherited-requires c κs = (c .before .before .before .before .before .before .before .before .before .pre .0, set-none (c .before .before .before .before .before .before .before .before .before .args .g) (c .before .before .before .before .before .before .before .before .before .args .t3) (c .before .before .before .before .before .before .before .before .before .args .t4) (c .before .before .before .before .before .before .before .before .before .args .base .now) (c .before .before .before .before .before .before .before .before .before .pre .0) (c .before .before .before .before .before .before .before .before .before .pre .1) (sym (c .before .before .before .before .reads-intra .ensures) ∙ c .before .before .before .if1 .left), c .before .before .before .before .before .before .before .before .before .pre .2)
 
--- src/lib.rt:234:1
 same-length-3 : tie.Need-same-length-3
 same-length-3 c = search needs
 
--- src/lib.rt:234:1
 returns-3 : tie.Need-returns-3
-returns-3 c = ?
+returns-3 c =
+    let n = c .before .before .before .before .before .before .before .named-of .ensures in
+    let k = c .before .make-inherited .ensures .0 in
+    let r = made-inherited (c .before .before .before .before .before .before .before .before .before .before .before .args .g) (c .before .before .before .before .before .before .before .before .before .before .before .args .t3) (c .before .before .before .before .before .before .before .before .before .before .before .args .t4) (c .before .before .before .before .before .before .before .before .before .before .before .args .base .now) (set-none (c .before .before .before .before .before .before .before .before .before .before .before .args .g) (c .before .before .before .before .before .before .before .before .before .before .before .args .t3) (c .before .before .before .before .before .before .before .before .before .before .before .args .t4) (c .before .before .before .before .before .before .before .before .before .before .before .args .base .now) (c .before .before .before .before .before .before .before .before .before .before .before .pre .0) (c .before .before .before .before .before .before .before .before .before .before .before .pre .1) (sym (c .before .before .before .before .before .before .reads-intra .ensures) ∙ c .before .before .before .before .before .if1 .left)) mostly-none (λ i. Inherited (n i) (k i)) (c .before .make-inherited .ensures .1) in
+    (r .answered, r .written)
 
 pub make-of-one-spec : {M : Type 1} → statement M
 make-of-one-spec =

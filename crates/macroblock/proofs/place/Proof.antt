@@ -1,56 +1,53 @@
+-- `macroblock::place` meets its contract. Assumes nothing.
+use mathlib.Core.Bool.{_&&_}
+use mathlib.Core.Path.{sym, _∙_}
+use Rattle.macroblock.proofs.Making.{placed-in, placed-out}
 use borrow.Author.Needs.{needs}
 use Rattle.macroblock.proofs.place.Statement.{statement}
 use Rattle.macroblock.proofs.place.Tie as tie
-use Rattle.macroblock.proofs.place.Reads as reads
-use Rattle.macroblock.proofs.place.Lts as lts
-use Rattle.macroblock.proofs.is_one.Reads as is-one-reads
-use Rattle.macroblock.proofs.make_of_more.Reads as make-of-more-reads
-use Rattle.macroblock.proofs.make_of_one.Reads as make-of-one-reads
-use Rattle.macroblock.proofs.write_unused.Reads as write-unused-reads
 
--- src/lib.rt:283:12
 is-one-requires : tie.Need-is-one-requires
 is-one-requires c κs = search needs
 
--- src/lib.rt:283:29
 is-one-requires-2 : tie.Need-is-one-requires-2
 is-one-requires-2 c κs = search needs
 
--- src/lib.rt:284:13
 make-of-one-requires : tie.Need-make-of-one-requires
-make-of-one-requires c κs = ?
+make-of-one-requires c κs =
+    let s = c .before .before .before .before .before .before .before .before .before in
+    let a = c .before .before .before .is-one .ensures in
+    let b = c .before .before .is-one2 .ensures in
+    (s .pre .0 (c .before .before .before .before .before .before .if1 .taken), (λ i. sym a i && sym b i) ∙ c .before .if2 .taken, s .pre .1)
 
--- src/lib.rt:284:13
 same-length : tie.Need-same-length
 same-length c = search needs
 
--- src/lib.rt:284:13
 returns : tie.Need-returns
-returns c = ?
+returns c =
+    let r = placed-in (c .before .before .before .before .before .before .before .before .before .before .before .args .g) (c .before .before .before .before .before .before .before .before .before .before .before .args .h) (c .before .before .before .before .before .before .before .before .before .before .before .args .v) (c .before .before .before .before .before .before .before .before .before .before .before .args .base .now) (c .before .before .before .before .before .before .before .before .if1 .taken) (record { answered = c .before .make-of-one .ensures .0; written = c .before .make-of-one .ensures .1 }) in
+    (r .answered, r .written)
 
--- src/lib.rt:286:9
 make-of-more-requires : tie.Need-make-of-more-requires
-make-of-more-requires c κs = ?
+make-of-more-requires c κs = (c .before .before .before .before .before .before .before .before .before .pre .0 (c .before .before .before .before .before .before .if1 .taken), c .before .before .before .before .before .before .before .before .before .pre .1)
 
--- src/lib.rt:286:9
 same-length-2 : tie.Need-same-length-2
 same-length-2 c = search needs
 
--- src/lib.rt:286:9
 returns-2 : tie.Need-returns-2
-returns-2 c = ?
+returns-2 c =
+    let r = placed-in (c .before .before .before .before .before .before .before .before .before .before .before .args .g) (c .before .before .before .before .before .before .before .before .before .before .before .args .h) (c .before .before .before .before .before .before .before .before .before .before .before .args .v) (c .before .before .before .before .before .before .before .before .before .before .before .args .base .now) (c .before .before .before .before .before .before .before .before .if1 .taken) (record { answered = c .before .make-of-more .ensures .0; written = c .before .make-of-more .ensures .1 }) in
+    (r .answered, r .written)
 
--- src/lib.rt:288:5
 write-unused-requires : tie.Need-write-unused-requires
 write-unused-requires c κs = search needs
 
--- src/lib.rt:275:1
 same-length-3 : tie.Need-same-length-3
 same-length-3 c = search needs
 
--- src/lib.rt:275:1
 returns-3 : tie.Need-returns-3
-returns-3 c = ?
+returns-3 c =
+    let r = placed-out (c .before .before .before .before .before .before .args .g) (c .before .before .before .before .before .before .args .h) (c .before .before .before .before .before .before .args .v) (c .before .before .before .before .before .before .args .base .now) (c .before .before .before .if1 .left) (c .before .write-unused .ensures) in
+    (r .answered, r .written)
 
 pub place-spec : {M : Type 1} → statement M
 place-spec =
