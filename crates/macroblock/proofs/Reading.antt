@@ -1,12 +1,13 @@
 -- An axis at a macroblock, inside and outside. Assumes nothing.
 use Prim.Native.Nat.{ℕ, _<_}
-use mathlib.Core.Path.{_≡_, sym, ap, subst, _∙_}
-use mathlib.Core.Bool.{true, false}
+use mathlib.Core.Path.{_≡_, refl, sym, ap, subst, _∙_}
+use mathlib.Core.Bool.{Bool, true, false}
 use native.Mathlib.Omega.{arith}
 use lib.ListN.{getD}
 use Rattle.definitions.specs.declared.Axis.{Axis}
 use Rattle.definitions.specs.declared.AxisStep.{AxisStep}
 use Rattle.macroblock.specs.declared.AxisRead.{AxisRead}
+use Rattle.definitions.specs.Tests.{pick}
 use Rattle.definitions.specs.Geometry.{baseSize, scaledSize, insideAxis, sampleOf, cOf}
 use Rattle.definitions.specs.BlockMap.{stepOf, coordinateOf}
 use Rattle.definitions.specs.Accepted.{AcceptedAxis, Inside}
@@ -23,6 +24,15 @@ module _ (a : Axis) (x : ℕ) where
   pub read-outside : {r : AxisRead} → insideAxis a (sampleOf x) ≡ false → r ≡ nowhere → r ≡ readOf a x
   unfolding readOf
   read-outside e p = p ∙ sym (no _ _ e)
+
+  -- whether it is inside is read off
+  pub read-says : readOf a x .inside ≡ insideAxis a (sampleOf x)
+  unfolding readOf
+  read-says = says (insideAxis a (sampleOf x))
+    where
+      says : (t : Bool) → pick t (readIn (stepOf a (sampleOf x))) nowhere .inside ≡ t
+      says true = ap (λ (r : AxisRead). r .inside) (yes (readIn (stepOf a (sampleOf x))) nowhere refl)
+      says false = ap (λ (r : AxisRead). r .inside) (no (readIn (stepOf a (sampleOf x))) nowhere refl)
 
   -- columns and coordinates lie inside the base, which has 256 columns at the most
   small : AcceptedAxis a → Inside (baseSize a) (scaledSize a) (cOf a (sampleOf x)) → Small (stepOf a (sampleOf x))

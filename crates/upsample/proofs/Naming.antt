@@ -8,7 +8,7 @@ use native.Mathlib.Omega.{arith}
 use lib.IntN.{ℤ}
 use lib.ListN.{length}
 use Rattle.definitions.specs.declared.Axes.{Axes}
-use Rattle.definitions.specs.declared.AxisStep.{AxisStep}
+use Rattle.macroblock.specs.declared.AxisRead.{AxisRead}
 use Rattle.definitions.specs.declared.Refusal.{Refusal}
 use Rattle.definitions.specs.declared.Verdict.{Verdict}
 use Rattle.definitions.specs.declared.Verdict.the-variants.{Accepted, Refused}
@@ -67,7 +67,7 @@ unfolding recordTests
 tests-join base [] ys = refl
 tests-join base (x ∷ xs) ys = ap (λ (l : List Test). recordTest base x ∷ l) (tests-join base xs ys)
 
-module _ (g : Axes) (h v : AxisStep) where
+module _ (g : Axes) (h v : AxisRead) where
   abbrev rowOf : ℕ → List ℕ
   rowOf row = rowAddresses g (h .first) (h .two) row
 

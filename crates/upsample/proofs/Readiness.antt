@@ -8,7 +8,6 @@ use native.Mathlib.Omega.{arith}
 use lib.IntN.{ℤ}
 use lib.ListN.{length}
 use Rattle.definitions.specs.declared.Axes.{Axes}
-use Rattle.definitions.specs.declared.AxisStep.{AxisStep}
 use Rattle.definitions.specs.Accepted.{Inside}
 use Rattle.definitions.specs.Geometry.{baseSize, scaledSize, cOf, insideAxis, inside, sampleOf}
 use Rattle.definitions.specs.BlockMap.{stepOf, addressRead}
@@ -20,16 +19,17 @@ use Rattle.definitions.proofs.Accepted.{inside-axis}
 use Rattle.definitions.proofs.Addresses.{address-named, address-below}
 use Rattle.definitions.proofs.Map.{f-below}
 use Rattle.macroblock.specs.declared.AxisRead.{AxisRead}
-use Rattle.macroblock.specs.Made.{namedBy, readOf, Ready}
+use Rattle.macroblock.specs.Made.{namedBy, readIn, readOf, Ready}
+use Rattle.macroblock.proofs.Reading.{read-says}
 use Rattle.upsample.specs.Staged.{InBase, Placed}
 use Rattle.upsample.proofs.Sizes.{base-small}
 
 module _ (g : Axes) (base : List ℤ) (placed : Placed g base) (column row : ℕ) where
-  abbrev hor : AxisStep
-  hor = stepOf (g .horizontal) (sampleOf column)
+  abbrev hor : AxisRead
+  hor = readIn (stepOf (g .horizontal) (sampleOf column))
 
-  abbrev ver : AxisStep
-  ver = stepOf (g .vertical) (sampleOf row)
+  abbrev ver : AxisRead
+  ver = readIn (stepOf (g .vertical) (sampleOf row))
 
   -- an address of the base
   in-base : (a : ℕ) → a < baseCount g → ((a + 1) * recordWords ≤ length base) × (a < 65536)
@@ -68,24 +68,29 @@ module _ (g : Axes) (base : List ℤ) (placed : Placed g base) (column row : ℕ
   -- what is known of the axes' readings at a macroblock
   pub record Known (h v : AxisRead) : Type 0 where
     pub within : (h .inside && v .inside) ≡ true → inside g column row ≡ true
-    pub first-row : (h .inside && v .inside) ≡ true → v .step .first < 65536
-    pub named-below : (h .inside && v .inside) ≡ true → InBase base (addressesOf g (namedBy (h .step) (v .step)))
-    pub named : (h .inside && v .inside) ≡ true → addressesRead g column row ≡ addressesOf g (namedBy (h .step) (v .step))
+    pub first-row : (h .inside && v .inside) ≡ true → v .first < 65536
+    pub named-below : (h .inside && v .inside) ≡ true → InBase base (addressesOf g (namedBy h v))
+    pub named : (h .inside && v .inside) ≡ true → addressesRead g column row ≡ addressesOf g (namedBy h v)
     pub unnamed : (h .inside && v .inside) ≡ false → addressesRead g column row ≡ []
-    pub made-ready : (h .inside && v .inside) ≡ true → ((a : ℕ) → List·Memᴰ a (addressesRead g column row) → wellFormed (recordAt base a) ≡ true) → Ready g (h .step) (v .step) base
+    pub made-ready : (h .inside && v .inside) ≡ true → ((a : ℕ) → List·Memᴰ a (addressesRead g column row) → wellFormed (recordAt base a) ≡ true) → Ready g h v base
 
   known : Known (readOf (g .horizontal) column) (readOf (g .vertical) row)
   unfolding readOf addressesRead namedAt
   known =
-      let x : (e : inside g column row ≡ true) → readOf (g .horizontal) column .step ≡ hor = λ e. yes _ _ (and-true (insideAxis (g .horizontal) (sampleOf column)) (insideAxis (g .vertical) (sampleOf row)) e .0) in
-      let y : (e : inside g column row ≡ true) → readOf (g .vertical) row .step ≡ ver = λ e. yes _ _ (and-true (insideAxis (g .horizontal) (sampleOf column)) (insideAxis (g .vertical) (sampleOf row)) e .1) in
+      let across = readOf (g .horizontal) column in
+      let down = readOf (g .vertical) row in
+      let says : (across .inside && down .inside) ≡ inside g column row = let p = read-says (g .horizontal) column in let q = read-says (g .vertical) row in λ i. p i && q i in
+      let x : inside g column row ≡ true → across ≡ hor = λ e. yes _ _ (and-true (insideAxis (g .horizontal) (sampleOf column)) (insideAxis (g .vertical) (sampleOf row)) e .0) in
+      let y : inside g column row ≡ true → down ≡ ver = λ e. yes _ _ (and-true (insideAxis (g .horizontal) (sampleOf column)) (insideAxis (g .vertical) (sampleOf row)) e .1) in
+      let to : (P : AxisRead → AxisRead → Type 0) → inside g column row ≡ true → P hor ver → P across down =
+      λ P e p. subst (λ (s : AxisRead). P s down) (sym (x e)) (subst (P hor) (sym (y e)) p) in
       record {
-        within = λ e. e;
-        first-row = λ e. subst (λ (s : AxisStep). s .first < 65536) (sym (y e)) (first-low e);
-        named-below = λ e. subst (λ (s : AxisStep). InBase base (addressesOf g (namedBy s (readOf (g .vertical) row .step)))) (sym (x e)) (subst (λ (s : AxisStep). InBase base (addressesOf g (namedBy hor s))) (sym (y e)) (named-in e));
-        named = λ e. yes _ _ e ∙ (λ i. addressesOf g (namedBy (sym (x e) i) (sym (y e) i)));
-        unnamed = λ e. no _ _ e;
-        made-ready = λ e f. subst (λ (s : AxisStep). Ready g s (readOf (g .vertical) row .step) base) (sym (x e)) (subst (λ (s : AxisStep). Ready g hor s base) (sym (y e)) (ready e (λ a m. f a (subst (List·Memᴰ a) (sym (yes _ _ e)) m))));
+        within = λ t. sym says ∙ t;
+        first-row = λ t. to (λ h v. v .first < 65536) (sym says ∙ t) (first-low (sym says ∙ t));
+        named-below = λ t. to (λ h v. InBase base (addressesOf g (namedBy h v))) (sym says ∙ t) (named-in (sym says ∙ t));
+        named = λ t. let e = sym says ∙ t in yes _ _ e ∙ (λ i. addressesOf g (namedBy (sym (x e) i) (sym (y e) i)));
+        unnamed = λ t. no _ _ (sym says ∙ t);
+        made-ready = λ t f. let e = sym says ∙ t in to (λ h v. Ready g h v base) e (ready e (λ a m. f a (subst (List·Memᴰ a) (sym (yes _ _ e)) m)));
       }
 
   pub known-of : (h v : AxisRead) → h ≡ readOf (g .horizontal) column → v ≡ readOf (g .vertical) row → Known h v

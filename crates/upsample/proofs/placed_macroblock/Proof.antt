@@ -24,16 +24,16 @@ known a =
     known-of (s .args .g) (s .args .base .now) (s .pre .0) (s .args .column) (s .args .row) (a .before .axis-read .result) (a .axis-read2 .result) (a .before .axis-read .ensures) (a .axis-read2 .ensures)
 
 -- the verdict on the records that are read
-checked-is : (r : tie.After-check-read) → verdictOf (recordTests (r .before .before .before .before .before .before .before .before .args .base .now) (addressesRead (r .before .before .before .before .before .before .before .before .args .g) (r .before .before .before .before .before .before .before .before .args .column) (r .before .before .before .before .before .before .before .before .args .row))) ≡ r .check-read .result
+checked-is : (r : tie.After-check-read) → verdictOf (recordTests (r .before .before .before .before .before .before .args .base .now) (addressesRead (r .before .before .before .before .before .before .args .g) (r .before .before .before .before .before .before .args .column) (r .before .before .before .before .before .before .args .row))) ≡ r .check-read .result
 checked-is r =
-    let s = r .before .before .before .before .before .before .before .before in
-    ap (λ (l : List ℕ). verdictOf (recordTests (s .args .base .now) l)) (known (r .before .before .before .before .before .before) .named (r .before .before .before .if1 .taken)) ∙ sym (r .check-read .ensures)
+    let s = r .before .before .before .before .before .before in
+    ap (λ (l : List ℕ). verdictOf (recordTests (s .args .base .now) l)) (known (r .before .before .before .before) .named (r .before .if1 .taken)) ∙ sym (r .check-read .ensures)
 
 check-read-requires : tie.Need-check-read-requires
 check-read-requires c κs =
-    let s = c .before .before .before .before .before .before .before in
-    let t = c .before .before .if1 .taken in
-    let k = known (c .before .before .before .before .before) in
+    let s = c .before .before .before .before .before in
+    let t = c .if1 .taken in
+    let k = known (c .before .before .before) in
     (s .pre .0 .axes .horizontal .sized .base-high, k .first-row t, k .named-below t)
 
 enum-told : tie.Need-enum-told
@@ -41,8 +41,8 @@ enum-told c = search needs
 
 place-requires : tie.Need-place-requires
 place-requires c κs =
-    let s = c .before .before .before .before .before .before .before .before .before .before .before in
-    let k = known (c .before .before .before .before .before .before .before .before .before) in
+    let s = c .before .before .before .before .before .before .before .before .before in
+    let k = known (c .before .before .before .before .before .before .before) in
     let e = checked-is (c .before .before .before) ∙ c .before .enum-told .given .1 in
     (λ t. k .made-ready t (all-formed (s .args .base .now) (addressesRead (s .args .g) (s .args .column) (s .args .row)) e), s .pre .1)
 
@@ -54,14 +54,14 @@ same-length c = search needs
 
 returns : tie.Need-returns
 returns c =
-    let a = c .before .before .before .before .before .before .before .before .before .before .before in
+    let a = c .before .before .before .before .before .before .before .before .before in
     let s = a .before .before in
     let e = checked-is (c .before .before .before .before .before) ∙ c .before .before .before .enum-told .given .1 in
     placed-answered (s .args .g) (s .args .base .now) (s .args .column) (s .args .row) (s .args .out .now) e (a .before .axis-read .result) (a .axis-read2 .result) (a .before .axis-read .ensures) (a .axis-read2 .ensures) _ _ (c .before .place .ensures .0) (c .before .place .ensures .1)
 
 returns-2 : tie.Need-returns-2
 returns-2 c =
-    let s = c .before .before .before .before .before .before .before .before .before .before .before in
+    let s = c .before .before .before .before .before .before .before .before .before in
     placed-refused (s .args .g) (s .args .base .now) (s .args .column) (s .args .row) (s .args .out .now) (c .before .r .given .0 .0) (checked-is (c .before .before .before) ∙ c .before .r .given .1)
 
 place-requires-2 : tie.Need-place-requires-2
