@@ -17,7 +17,21 @@ pub rows-set : (on : ℕ → Bool)
 unfolding rowSet setOf
 rows-set on =
     omega (
-      arith, weighted (on 0) 1, weighted (on 1) 2, weighted (on 2) 4, weighted (on 3) 8, weighted (on 4) 16, weighted (on 5) 32, weighted (on 6) 64,
-      weighted (on 7) 128, weighted (on 8) 256, weighted (on 9) 512, weighted (on 10) 1024, weighted (on 11) 2048, weighted (on 12) 4096,
-      weighted (on 13) 8192, weighted (on 14) 16384, weighted (on 15) 32768,
+      arith,
+      weighted (on 0) 1,
+      weighted (on 1) 2,
+      weighted (on 2) 4,
+      weighted (on 3) 8,
+      weighted (on 4) 16,
+      weighted (on 5) 32,
+      weighted (on 6) 64,
+      weighted (on 7) 128,
+      weighted (on 8) 256,
+      weighted (on 9) 512,
+      weighted (on 10) 1024,
+      weighted (on 11) 2048,
+      weighted (on 12) 4096,
+      weighted (on 13) 8192,
+      weighted (on 14) 16384,
+      weighted (on 15) 32768,
     )

@@ -30,14 +30,7 @@ pub fn motion_read(base: &[i16], width: usize, x: u16, y: u16) -> Motion
 }
 
 // The blocks of a quadrant: its columns read x0 and x1, its rows y0 and y1.
-pub fn quadrant_read(
-    base: &[i16],
-    width: usize,
-    x0: u16,
-    x1: u16,
-    y0: u16,
-    y1: u16,
-) -> [Motion; 4]
+pub fn quadrant_read(base: &[i16], width: usize, x0: u16, x1: u16, y0: u16, y1: u16) -> [Motion; 4]
     requires { ⌜ ReadableAt width (now base) x0 y0 × ReadableAt width (now base) x1 y0 × ReadableAt width (now base) x0 y1 × ReadableAt width (now base) x1 y1 × (width ≤ 256) ⌝ }
     ensures { λ r. ⌜ r ≡ motionRead width (now (base .entry)) x0 y0 ∷ motionRead width (now (base .entry)) x1 y0 ∷ motionRead width (now (base .entry)) x0 y1 ∷ motionRead width (now (base .entry)) x1 y1 ∷ [] ⌝ }
 {

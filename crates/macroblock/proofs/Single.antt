@@ -61,7 +61,16 @@ uniform m = rw (motion-same m m refl)
 pub mostly-all : mostlyIntra 65535 ≡ true
 mostly-all =
     le-leb 9 (ones 65535) (omega (
-      arith, ones-step 65535, ones-step 32767, ones-step 16383, ones-step 8191, ones-step 4095, ones-step 2047, ones-step 1023, ones-step 511, ones-step 255,
+      arith,
+      ones-step 65535,
+      ones-step 32767,
+      ones-step 16383,
+      ones-step 8191,
+      ones-step 4095,
+      ones-step 2047,
+      ones-step 1023,
+      ones-step 511,
+      ones-step 255,
     ))
 
 pub mostly-none : mostlyIntra 0 ≡ false

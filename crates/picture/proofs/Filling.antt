@@ -1,9 +1,9 @@
 -- One column, and one macroblock, more. Assumes nothing.
-use Prim.Native.Nat.{ℕ, zero, suc, _+_, _/_, _%_, _<_, _≤_}
+use Prim.Native.Nat.{ℕ, zero, suc, _+_, _*_, _/_, _%_, _<_, _≤_}
 use mathlib.Core.Path.{_≡_, refl, sym, ap, subst, _∙_}
 use mathlib.Core.List.{List, [], _∷_, _++_, append-nil, List·Memᴰ}
 use mathlib.Core.Logic.{_⊎_, ⊎-elim}
-use native.Mathlib.Nat.{eq-or-lt-of-le, mod-lt, div-lt-iff-lt-mul}
+use native.Mathlib.Nat.{eq-or-lt-of-le, div-eq-of-lt-le, div-lt-iff-lt-mul, mod-eq-of-lt, mul-add-mod-self-right}
 use native.Mathlib.Numerals.{add-one}
 use native.Mathlib.Omega.{arith}
 use lib.IntN.{ℤ}
@@ -15,7 +15,7 @@ use Rattle.definitions.specs.declared.Answer.{Answer}
 use Rattle.definitions.specs.declared.Counts.{Counts}
 use Rattle.definitions.specs.Tests.{upTo, forEach}
 use Rattle.definitions.specs.Geometry.{fullSize, macroblocks}
-use Rattle.definitions.specs.Answer.{Made}
+use Rattle.definitions.specs.Answer.{Made, madeOf}
 use Rattle.definitions.specs.Calls.{counted, countsOf, fullCount, madeAt}
 use Rattle.definitions.proofs.Counting.{sumOf, counts-more, counts-sum}
 use Rattle.definitions.proofs.Parts.{parts, parts-more}
@@ -39,29 +39,25 @@ read-more a x reads r h so-far e = record {
       (below-last k x l);
 }
 
--- ---- the macroblock at an address
-pub record Located (g : Axes) (address : ℕ) : Type 0 where
-  pub some : 0 < macroblocks (fullSize (g .horizontal))
-  pub column : address % macroblocks (fullSize (g .horizontal)) < 256
-  pub row : address / macroblocks (fullSize (g .horizontal)) < 256
+-- ---- the macroblock at an address, by its column and row
+module _ (g : Axes) (address column row : ℕ) (c : column < macroblocks (fullSize (g .horizontal))) (is : row * macroblocks (fullSize (g .horizontal)) + column ≡ address) where
+  abbrev width : ℕ
+  width = macroblocks (fullSize (g .horizontal))
 
-pub located : (g : Axes) → AcceptedAxes g → (address total : ℕ) → total ≡ fullCount g → address < total → Located g address
-located g a address total e h =
-    let w = macroblocks (fullSize (g .horizontal)) in
-    let wide : w ≤ 256 = omega (arith, a .horizontal .full-high) in
-    let some : 0 < w = omega (arith, a .horizontal .full-low) in
-    let high : macroblocks (fullSize (g .vertical)) ≤ 256 = omega (arith, a .vertical .full-high) in
-    let row : address / w < macroblocks (fullSize (g .vertical)) = div-lt-iff-lt-mul some .1 (omega arith) in
-    record { some = some; column = omega (arith, mod-lt address some); row = omega arith }
+  its-column : address % width ≡ column
+  its-column = ap (λ (n : ℕ). n % width) (sym is) ∙ (mul-add-mod-self-right row width column ∙ mod-eq-of-lt c)
 
-module _ (g : Axes) (base : List ℤ) (f : Formed g base) (address : ℕ) where
-  abbrev column : ℕ
-  column = address % macroblocks (fullSize (g .horizontal))
+  its-row : address / width ≡ row
+  its-row = div-eq-of-lt-le width (omega arith) (omega arith)
 
-  abbrev row : ℕ
-  row = address / macroblocks (fullSize (g .horizontal))
+  pub row-below : AcceptedAxes g → (total : ℕ) → total ≡ fullCount g → address < total → row < 256
+  row-below a total e h =
+      let some : 0 < width = omega arith in
+      let high : macroblocks (fullSize (g .vertical)) ≤ 256 = omega (arith, a .vertical .full-high) in
+      let low : address / width < macroblocks (fullSize (g .vertical)) = div-lt-iff-lt-mul some .1 (omega arith) in
+      omega (arith, its-row)
 
-  module _ (h v : AxisRead) (p : h ≡ readOf (g .horizontal) column) (q : v ≡ readOf (g .vertical) row) where
+  module _ (base : List ℤ) (f : Formed g base) (h v : AxisRead) (p : h ≡ readOf (g .horizontal) column) (q : v ≡ readOf (g .vertical) row) where
     known : Known g base (f .placed) column row h v
     known = known-of g base (f .placed) column row h v p q
 
@@ -71,7 +67,7 @@ module _ (g : Axes) (base : List ℤ) (f : Formed g base) (address : ℕ) where
 
     pub made-there : placedBy g h v base ≡ madeAt g base address
     unfolding madeAt
-    made-there = (λ i. placedBy g (p i) (q i) base) ∙ sym (placed-by g column row base)
+    made-there = (λ i. placedBy g (p i) (q i) base) ∙ (sym (placed-by g column row base) ∙ (λ i. madeOf g base (sym its-column i) (sym its-row i)))
 
 -- ---- counts and words so far
 module _ (f : ℕ → Made) where

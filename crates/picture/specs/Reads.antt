@@ -3,7 +3,6 @@ use Prim.Native.Nat.{ℕ, _<_}
 use mathlib.Core.Path.{_≡_}
 use mathlib.Core.Bool.{false}
 use mathlib.Core.List.{List, []}
-use lib.IntN.{pos}
 use lib.ListN.{length, getD}
 use Rattle.definitions.specs.declared.Axis.{Axis}
 use Rattle.macroblock.specs.declared.AxisRead.{AxisRead}
@@ -11,7 +10,7 @@ use Rattle.macroblock.specs.Made.{readOf}
 
 -- what stands where there is none
 abbrev pub noRead : AxisRead
-noRead = record { inside = false; step = record { k = 0; border = record { 0 = pos 0 }; border8 = record { 0 = pos 0 }; first = 0; two = false; reads = [] } }
+noRead = record { reads = []; first = 0; two = false; inside = false }
 
 -- the first n
 pub record AxisReads (a : Axis) (n : ℕ) (reads : List AxisRead) : Type 0 where

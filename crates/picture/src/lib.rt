@@ -1,11 +1,13 @@
 // The picture call of document 01: all base records are checked, then every macroblock is made in raster order.
-ghost use Prim.Native.Nat.{_*_, _<_, _≤_};
+ghost use Prim.Native.Nat.{_*_, _+_, _<_, _≤_};
 ghost use Rattle.definitions.proofs.Counting.{sumOf};
 ghost use Rattle.definitions.specs.Accepted.{AcceptedAxis};
 ghost use Rattle.definitions.specs.Answer.{Made};
 ghost use Rattle.definitions.specs.Calls.{counted, countsOf, fullCount, madeAt, pictureCall};
 ghost use Rattle.definitions.specs.Record.{recordWords};
 ghost use Rattle.definitions.specs.Tests.{forEach, upTo};
+ghost use Rattle.definitions.specs.Geometry.{fullSize, macroblocks};
+ghost use Rattle.macroblock.specs.Made.{readOf};
 ghost use Rattle.picture.specs.Reads.{AxisReads};
 ghost use Rattle.upsample.specs.Promised.{PicturePromised};
 ghost use Rattle.upsample.specs.Staged.{AcceptedAxes, Formed, axesPicture};
@@ -22,8 +24,8 @@ use geometry::Checked;
 use geometry::Geometry;
 use macroblock::AxisRead;
 use macroblock::axis_read;
-use macroblock::read_nowhere;
 use macroblock::place;
+use macroblock::read_nowhere;
 use records::check;
 use upsample::base_count;
 use upsample::refused;
@@ -75,6 +77,40 @@ fn full_count(g: Axes) -> usize
     (g.horizontal.full.0 / 16) as usize * (g.vertical.full.0 / 16) as usize
 }
 
+// A macroblock's column and row.
+struct Position {
+    column: u32,
+    row: u32,
+}
+
+// The next in raster order.
+fn next(p: Position, width: u32) -> Position
+    requires { ⌜ (p .column < width) × (p .row < 256) ⌝ }
+    ensures address { λ r. ⌜ r .row * width + r .column ≡ p .row * width + p .column + 1 ⌝ }
+    ensures column { λ r. ⌜ r .column < width ⌝ }
+    ensures row { λ r. ⌜ (0 < r .column → r .row ≡ p .row) ⌝ }
+{
+    let column = p.column + 1;
+    if column == width {
+        return Position {
+            column: 0,
+            row: p.row + 1,
+        };
+    }
+    Position { column, row: p.row }
+}
+
+// The vertical axis at a row: read at its first column, and kept.
+fn row_read(a: Axis, p: Position, kept: AxisRead) -> AxisRead
+    requires { ⌜ AcceptedAxis a × (p .row < 256) × ((0 < p .column → kept ≡ readOf a (p .row))) ⌝ }
+    ensures { λ r. ⌜ r ≡ readOf a (p .row) ⌝ }
+{
+    if p.column == 0 {
+        return axis_read(a, p.row);
+    }
+    kept
+}
+
 // Every macroblock, in raster order.
 fn fill(g: Axes, base: &[i16], out: &mut [i16]) -> Counts
     requires { ⌜ Formed g (now base) × (length (now out) ≡ recordWords * fullCount g) ⌝ }
@@ -89,24 +125,18 @@ fn fill(g: Axes, base: &[i16], out: &mut [i16]) -> Counts
         intra: 0,
         outside: 0,
     };
+    let mut at = Position { column: 0, row: 0 };
     let mut v = read_nowhere();
-    let mut x: u32 = 0;
-    let mut y: u32 = 0;
     let mut a: usize = 0;
     while a < total {
-        if x == 0 {
-            v = axis_read(g.vertical, y);
-        }
         let from = RECORD_WORDS * a;
         let to = from + RECORD_WORDS;
-        let h = columns[x as usize];
+        let x = at.column as usize;
+        let h = columns[x];
+        v = row_read(g.vertical, at, v);
         let answer = place(g, base, h, v, &mut out[from..to]);
         counts = count(counts, answer);
-        x += 1;
-        if x == width {
-            x = 0;
-            y += 1;
-        }
+        at = next(at, width);
         a += 1;
     }
     counts

@@ -1,64 +1,53 @@
 -- `picture::fill` meets its contract. Assumes nothing.
+use Prim.Native.Nat.{ℕ, _+_, _-_, _*_, _<_, _≤_}
 use mathlib.Core.List.{_++_}
-use Rattle.definitions.specs.Answer.{Made}
-use Rattle.definitions.proofs.Demand.{made-length}
-use Rattle.macroblock.specs.Made.{readOf}
-use Rattle.picture.specs.Reads.{noRead}
-use Rattle.picture.proofs.Filling.{Located, located, placeable, made-there, counts-none, counts-next, counts-low, words-of}
-use Prim.Native.Nat.{ℕ, _+_, _-_, _*_, _/_, _%_, _≤_}
-use Rattle.definitions.specs.Geometry.{fullSize, macroblocks}
 use mathlib.Core.Path.{_≡_, sym, ap, _∙_}
 use native.Mathlib.Omega.{arith}
 use lib.ListN.{length, getD, drop, length-take, length-drop}
-use borrow.Author.Needs.{needs}
 use Rattle.definitions.specs.Tests.{upTo}
 use Rattle.definitions.specs.Record.{recordWords}
+use Rattle.definitions.specs.Answer.{Made}
 use Rattle.definitions.specs.Calls.{madeAt, countsOf, fullCount}
+use Rattle.definitions.proofs.Demand.{made-length}
 use Rattle.definitions.proofs.Parts.{parts, parts-none, parts-all, part-back}
+use Rattle.macroblock.specs.Made.{readOf}
+use Rattle.picture.specs.Reads.{noRead}
+use Rattle.picture.proofs.Filling.{row-below, placeable, made-there, counts-none, counts-next, counts-low, words-of}
+use borrow.Author.Needs.{needs}
 use Rattle.picture.proofs.fill.Statement.{statement}
 use Rattle.picture.proofs.fill.Tie as tie
 
 abbrev Inv-loop : tie.InvT-loop
-Inv-loop g base out₀ across down width total counts₀ a₀ out counts a =
+Inv-loop g base out₀ columns width total counts₀ at₀ v₀ a₀ out counts at v a =
     (a ≤ total) × (length out ≡ recordWords * total) × (out ≡ parts a (λ k. madeAt g base k .written) ++ drop (recordWords * a) out₀) × (counts ≡ countsOf (upTo a (madeAt g base)))
+    × (at .row * width + at .column ≡ a) × (at .column < width) × (0 < at .column → v ≡ readOf (g .vertical) (at .row))
 
 abbrev μ-loop : tie.MeasureT-loop
-μ-loop g base out₀ across down width total counts₀ a₀ out counts a = total - a
+μ-loop g base out₀ columns width total counts₀ at₀ v₀ a₀ out counts at v a = total - a
 
-axis-reads-requires : tie.Need-axis-reads-requires Inv-loop μ-loop
-axis-reads-requires c κs = c .pre .0 .placed .axes .horizontal
-
-axis-reads-requires-2 : tie.Need-axis-reads-requires-2 Inv-loop μ-loop
-axis-reads-requires-2 c κs = c .before .pre .0 .placed .axes .vertical
-
-cast-width : tie.Need-cast-width Inv-loop μ-loop
-cast-width c = search needs
+column-reads-requires : tie.Need-column-reads-requires Inv-loop μ-loop
+column-reads-requires c κs = c .pre .0 .placed .axes .horizontal
 
 full-count-requires : tie.Need-full-count-requires Inv-loop μ-loop
-full-count-requires c κs = c .before .before .before .pre .0 .placed .axes
+full-count-requires c κs = c .before .before .pre .0 .placed .axes
+
+read-nowhere-requires : tie.Need-read-nowhere-requires Inv-loop μ-loop
+read-nowhere-requires c κs = search needs
 
 loop-holds : tie.Need-loop-holds Inv-loop μ-loop
 loop-holds c =
     let s = c .before .before .before .before in
     let f = madeAt (s .args .g) (s .args .base .now) in
-    (omega arith, s .pre .1 ∙ ap (λ (n : ℕ). recordWords * n) (sym (c .full-count .ensures .0)), parts-none (λ k. f k .written) recordWords (s .args .out .now), counts-none f)
+    (omega arith, s .pre .1 ∙ ap (λ (n : ℕ). recordWords * n) (sym (c .before .full-count .ensures .0)), parts-none (λ k. f k .written) recordWords (s .args .out .now), counts-none f, omega arith, omega (arith, s .pre .0 .placed .axes .horizontal .full-low), λ h. absurd (omega arith))
 
--- where macroblock a stands
-there : (c : tie.In-loop Inv-loop μ-loop) → Located (c .before .before .before .before .before .before .args .g) (c .before .loop .a)
-there c =
+-- the macroblock's row, and the horizontal axis at its column
+row-low : (c : tie.In-loop Inv-loop μ-loop) → c .before .loop .at .row < 256
+row-low c =
     let s = c .before .before .before .before .before .before in
-    located (s .args .g) (s .pre .0 .placed .axes) (c .before .loop .a) (c .before .before .full-count .result) (c .before .before .full-count .ensures .0) (omega arith)
+    row-below (s .args .g) (c .before .loop .a) (c .before .loop .at .column) (c .before .loop .at .row) (c .before .loop .inv .5) (c .before .loop .inv .4) (s .pre .0 .placed .axes) (c .before .before .before .full-count .result) (c .before .before .before .full-count .ensures .0) (omega arith)
 
--- the axes' readings there
-across-read : (c : tie.In-loop Inv-loop μ-loop)
-    → getD (c .before .before .before .before .before .axis-reads .result) (c .before .loop .a % macroblocks (fullSize (c .before .before .before .before .before .before .args .g .horizontal))) noRead
-    ≡ readOf (c .before .before .before .before .before .before .args .g .horizontal) (c .before .loop .a % macroblocks (fullSize (c .before .before .before .before .before .before .args .g .horizontal)))
-across-read c = c .before .before .before .before .before .axis-reads .ensures .each _ (there c .column)
-
-down-read : (c : tie.In-loop Inv-loop μ-loop)
-    → getD (c .before .before .before .before .axis-reads2 .result) (c .before .loop .a / macroblocks (fullSize (c .before .before .before .before .before .before .args .g .horizontal))) noRead
-    ≡ readOf (c .before .before .before .before .before .before .args .g .vertical) (c .before .loop .a / macroblocks (fullSize (c .before .before .before .before .before .before .args .g .horizontal)))
-down-read c = c .before .before .before .before .axis-reads2 .ensures .each _ (there c .row)
+column-there : (c : tie.In-loop Inv-loop μ-loop) → getD (c .before .before .before .before .before .column-reads .result) (c .before .loop .at .column) noRead ≡ readOf (c .before .before .before .before .before .before .args .g .horizontal) (c .before .loop .at .column)
+column-there c = c .before .before .before .before .before .column-reads .ensures .each _ (c .before .loop .inv .5)
 
 mul-from : tie.Need-mul-from Inv-loop μ-loop
 mul-from c = search needs
@@ -66,23 +55,20 @@ mul-from c = search needs
 add-to : tie.Need-add-to Inv-loop μ-loop
 add-to c = search needs
 
-rem-h : tie.Need-rem-h Inv-loop μ-loop
-rem-h c = omega (arith, there (c))
+cast-x : tie.Need-cast-x Inv-loop μ-loop
+cast-x c = search needs
 
 mul-h : tie.Need-mul-h Inv-loop μ-loop
-mul-h c = omega (arith, there (c))
+mul-h c = search needs
 
 array-copy-out-h : tie.Need-array-copy-out-h Inv-loop μ-loop
-array-copy-out-h c = omega (arith, there (c))
+array-copy-out-h c =
+    let l = c .before .before in
+    let s = c .before .before .before .before .before .before .before in
+    omega (arith, s .pre .0 .placed .axes .horizontal .full-high, l .loop .inv .5)
 
-div-v : tie.Need-div-v Inv-loop μ-loop
-div-v c = omega (arith, there (c .before))
-
-mul-v : tie.Need-mul-v Inv-loop μ-loop
-mul-v c = omega (arith, there (c .before))
-
-array-copy-out-v : tie.Need-array-copy-out-v Inv-loop μ-loop
-array-copy-out-v c = omega (arith, there (c .before))
+row-read-requires : tie.Need-row-read-requires Inv-loop μ-loop
+row-read-requires c κs = (c .before .before .before .before .before .before .before .before .pre .0 .placed .axes .vertical, row-low (c .before .before), c .before .before .before .loop .inv .6)
 
 mul-place : tie.Need-mul-place Inv-loop μ-loop
 mul-place c = search needs
@@ -98,15 +84,18 @@ part-place-end c = search needs
 
 place-requires : tie.Need-place-requires Inv-loop μ-loop
 place-requires c κs =
-    let l = c .before .before .before in
-    let s = l .before .before .before .before .before .before in
-    (placeable (s .args .g) (s .args .base .now) (s .pre .0) (l .before .loop .a) _ _ (across-read l) (down-read l), simp (length-take, length-drop) (omega arith))
+    let l = c .before .before .before .before .before in
+    let s = c .before .before .before .before .before .before .before .before .before .before in
+    (placeable (s .args .g) (l .loop .a) (l .loop .at .column) (l .loop .at .row) (l .loop .inv .5) (l .loop .inv .4) (s .args .base .now) (s .pre .0) _ _ (column-there (c .before .before .before .before)) (c .before .row-read .ensures), simp (length-take, length-drop) (omega arith))
 
 count-requires : tie.Need-count-requires Inv-loop μ-loop
 count-requires c κs =
-    let l = c .before .before .before .before .before in
-    let s = l .before .before .before .before .before .before in
-    omega (arith, counts-low (madeAt (s .args .g) (s .args .base .now)) (l .before .loop .a) (l .before .loop .counts) (l .before .loop .inv .3), l .before .before .full-count .ensures .1)
+    let l = c .before .before .before .before .before .before .before in
+    let s = c .before .before .before .before .before .before .before .before .before .before .before .before in
+    omega (arith, counts-low (madeAt (s .args .g) (s .args .base .now)) (l .loop .a) (l .loop .counts) (l .loop .inv .3), c .before .before .before .before .before .before .before .before .before .full-count .ensures .1, c .before .before .before .before .before .before .loop-test)
+
+next-requires : tie.Need-next-requires Inv-loop μ-loop
+next-requires c κs = (c .before .before .before .before .before .before .before .before .loop .inv .5, row-low (c .before .before .before .before .before .before .before))
 
 add-a : tie.Need-add-a Inv-loop μ-loop
 add-a c = search needs
@@ -116,16 +105,19 @@ loop-less c = search needs
 
 loop-again : tie.Need-loop-again Inv-loop μ-loop
 loop-again c =
-    let l = c .before .before .before .before .before .before in
-    let s = l .before .before .before .before .before .before in
+    let l = c .before .before .before .before .before .before .before .before .before in
+    let s = c .before .before .before .before .before .before .before .before .before .before .before .before .before .before in
     let f = madeAt (s .args .g) (s .args .base .now) in
-    let n = l .before .loop .a in
-    let m = made-there (s .args .g) (s .args .base .now) (s .pre .0) n _ _ (across-read l) (down-read l) in
-    let p = c .before .before .place in (
-      omega arith,
-      c .before .out .given .1 ∙ l .before .loop .inv .1,
-      part-back (λ k. f k .written) recordWords (made-length (s .args .g) (s .args .base .now)) (s .args .out .now) (l .before .loop .out) (p .last .1 .1 .1 .1 .0) n (77 * n + 77 - 77 * n) (omega arith) (l .before .loop .inv .2) (p .ensures .1 ∙ ap (λ (k : Made). k .written) m),
-      counts-next f n (l .before .loop .counts) (c .count .result) (p .result) (l .before .loop .inv .3) (p .ensures .0 ∙ ap (λ (k : Made). k .answer) m) (c .count .ensures),
+    let n = l .loop .a in
+    let m = made-there (s .args .g) n (l .loop .at .column) (l .loop .at .row) (l .loop .inv .5) (l .loop .inv .4) (s .args .base .now) (s .pre .0) _ _ (column-there (c .before .before .before .before .before .before .before .before)) (c .before .before .before .before .before .row-read .ensures) in
+    let p = c .before .before .before .place in (
+      omega (arith, c .before .before .before .before .before .before .before .before .loop-test),
+      c .before .before .out .given .1 ∙ l .loop .inv .1,
+      part-back (λ k. f k .written) recordWords (made-length (s .args .g) (s .args .base .now)) (s .args .out .now) (l .loop .out) (p .last .1 .1 .1 .1 .0) n (77 * n + 77 - 77 * n) (omega arith) (l .loop .inv .2) (p .ensures .1 ∙ ap (λ (k : Made). k .written) m),
+      counts-next f n (l .loop .counts) (c .before .count .result) (p .result) (l .loop .inv .3) (p .ensures .0 ∙ ap (λ (k : Made). k .answer) m) (c .before .count .ensures),
+      c .next .ensures .0 ∙ ap (λ (k : ℕ). k + 1) (l .loop .inv .4),
+      c .next .ensures .1 .0,
+      λ h. c .before .before .before .before .before .row-read .ensures ∙ ap (readOf (s .args .g .vertical)) (sym (c .next .ensures .1 .1 h)),
     )
 
 same-length : tie.Need-same-length Inv-loop μ-loop
@@ -136,7 +128,7 @@ returns c =
     let l = c .before .loop in
     let s = c .before .before .before .before .before .before in
     let f = madeAt (s .args .g) (s .args .base .now) in
-    let t = c .before .before .full-count .ensures .0 in
+    let t = c .before .before .before .full-count .ensures .0 in
     let e : l .a ≡ fullCount (s .args .g) = omega (arith, t) in (
       l .inv .3 ∙ ap (λ (n : ℕ). countsOf (upTo n f)) e,
       l .inv .2 ∙ (parts-all (λ k. f k .written) recordWords (s .args .out .now) (fullCount (s .args .g)) (l .a) (s .pre .1) e ∙ words-of f (fullCount (s .args .g))),
@@ -148,25 +140,23 @@ fill-spec =
     (tie.spec
     Inv-loop
     μ-loop
-    axis-reads-requires
-    axis-reads-requires-2
-    cast-width
+    column-reads-requires
     full-count-requires
+    read-nowhere-requires
     loop-holds
     mul-from
     add-to
-    rem-h
+    cast-x
     mul-h
     array-copy-out-h
-    div-v
-    mul-v
-    array-copy-out-v
+    row-read-requires
     mul-place
     sub-place
     part-place-start
     part-place-end
     place-requires
     count-requires
+    next-requires
     add-a
     loop-less
     loop-again
