@@ -25,5 +25,8 @@ pub mod RecordLists
 pub mod Ratios
 pub mod Overlap
 pub mod Counting
+pub mod Sessions
+pub mod SessionPicture
+pub mod SessionExamples
 pub mod Formed
 pub mod Texts
