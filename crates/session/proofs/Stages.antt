@@ -1,5 +1,5 @@
 -- Where a session stands (specs/Stage): what the code finds, and what each stage says of the state. Assumes nothing.
-use Prim.Native.Nat.{ℕ, _/_, _%_, _≤_, _<_}
+use Prim.Native.Nat.{ℕ, _-_, _/_, _%_, _≤_, _<_}
 use mathlib.Core.Path.{_≡_, refl, sym, ap, _∙_}
 use mathlib.Core.Bool.{Bool, true, false, _&&_}
 use native.Mathlib.Omega.{arith}
@@ -107,11 +107,11 @@ module _ (g : Axes) (made total at : ℕ) (t : total ≡ fullCount g) (a : at �
   unfolding stageIn
   stage-many h = sym (yes _ _ (lt-ltb (fullCount g) made (omega arith)))
 
-  pub stage-last : at ≤ total → at ≡ total → Finished ≡ stageIn g made
+  pub stage-last : at ≤ total → total - at ≡ 0 → Finished ≡ stageIn g made
   unfolding stageIn
   stage-last h e = sym (no _ _ (le-ltb (fullCount g) made (omega arith)) ∙ yes _ _ (eq-eqb made (fullCount g) (omega arith)))
 
-  pub stage-on : at ≤ total → (at ≡ total → ⊥) → Unfinished (at % macroblocks (fullSize (g .horizontal))) (at / macroblocks (fullSize (g .horizontal))) ≡ stageIn g made
+  pub stage-on : at ≤ total → (total - at ≡ 0 → ⊥) → Unfinished (at % macroblocks (fullSize (g .horizontal))) (at / macroblocks (fullSize (g .horizontal))) ≡ stageIn g made
   unfolding stageIn
   stage-on h n =
       (λ i. Unfinished (a i % macroblocks (fullSize (g .horizontal))) (a i / macroblocks (fullSize (g .horizontal))))

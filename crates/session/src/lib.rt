@@ -79,7 +79,8 @@ fn stage_in(g: Axes, c: Counts) -> Stage
     if total < at {
         return Stage::Nothing;
     }
-    if at == total {
+    let left = total - at;
+    if left == 0 {
         return Stage::Finished;
     }
     let columns = g.horizontal.full.0 / 16;
@@ -107,12 +108,13 @@ fn begin_anew(s: Session, n: Numbers) -> Judged
     ensures verdict { λ r. ⌜ r .verdict ≡ beginVerdict (stateOf s) n ⌝ }
     ensures session { λ r. ⌜ HandsBack s (begin n) (r .session) ⌝ }
 {
+    let counts = no_counts();
     match Geometry::new(n) {
         Checked::Geometry(_) => Judged {
             session: Session {
                 begun: true,
                 numbers: n,
-                counts: no_counts(),
+                counts,
             },
             verdict: Verdict::Accepted,
         },
@@ -206,13 +208,14 @@ impl Session {
         ensures verdict { λ r. ⌜ r .verdict ≡ abandonVerdict (stateOf self) ⌝ }
         ensures session { λ r. ⌜ HandsBack self abandon (r .session) ⌝ }
     {
+        let anew = Session::fresh();
         match stage_of(self) {
             Stage::Nothing => Judged {
                 session: self,
                 verdict: Verdict::Refused(refused(20)),
             },
             Stage::Unfinished(_, _) => Judged {
-                session: Session::fresh(),
+                session: anew,
                 verdict: Verdict::Accepted,
             },
             Stage::Finished => Judged {
@@ -227,19 +230,20 @@ impl Session {
         ensures counts { λ r. ⌜ r .counts ≡ totalsOf (stateOf self) ⌝ }
         ensures session { λ r. ⌜ HandsBack self totals (r .session) ⌝ }
     {
-        let counts = self.counts;
+        let none = no_counts();
+        let made = self.counts;
         match stage_of(self) {
             Stage::Nothing => Totalled {
                 session: self,
-                counts: no_counts(),
+                counts: none,
             },
             Stage::Unfinished(_, _) => Totalled {
                 session: self,
-                counts,
+                counts: made,
             },
             Stage::Finished => Totalled {
                 session: self,
-                counts,
+                counts: made,
             },
         }
     }

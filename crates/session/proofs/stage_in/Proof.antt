@@ -20,11 +20,11 @@ returns-2 c = let s = c .before .before .before .before .args in stage-last (s .
 cast-address : tie.Need-cast-address
 cast-address c = search needs
 
-rem-t9 : tie.Need-rem-t9
-rem-t9 c = search needs
+rem-t10 : tie.Need-rem-t10
+rem-t10 c = search needs
 
-div-t10 : tie.Need-div-t10
-div-t10 c = search needs
+div-t11 : tie.Need-div-t11
+div-t11 c = search needs
 
 returns-3 : tie.Need-returns-3
 returns-3 c = let s = c .before .before .before .before .before .args in stage-on (s .g) (sumOf (s .c)) _ _ (c .before .before .before .before .full-count .ensures .0) (c .before .before .before .sum .ensures) (c .before .before .if1 .left) (c .before .if2 .left)
@@ -38,6 +38,6 @@ stage-in-spec =
     returns
     returns-2
     cast-address
-    rem-t9
-    div-t10
+    rem-t10
+    div-t11
     returns-3)

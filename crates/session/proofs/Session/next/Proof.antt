@@ -31,10 +31,10 @@ enum-known-column : tie.Need-enum-known-column
 enum-known-column c = search needs
 
 cast-upsample-macroblock : tie.Need-cast-upsample-macroblock
-cast-upsample-macroblock c = record { sfits = omega (arith, small c .1) }
+cast-upsample-macroblock c = record { sfits = omega (arith, small c .1, small c .2) }
 
 cast-upsample-macroblock-2 : tie.Need-cast-upsample-macroblock-2
-cast-upsample-macroblock-2 c = record { sfits = omega (arith, small c .2) }
+cast-upsample-macroblock-2 c = record { sfits = omega (arith, small c .1, small c .2) }
 
 upsample-macroblock-requires : tie.Need-upsample-macroblock-requires
 upsample-macroblock-requires c κs = search needs
