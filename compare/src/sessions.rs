@@ -97,9 +97,9 @@ fn small(random: &mut Random) -> Eight {
         let base = 16 * random.pick(&[1, 1, 2, 3]);
         let scaled = base + 2 * random.within(0, base / 2);
         let offset = match random.below(4) {
-            0 => 0,
-            1 => 16 * random.within(-1, 1),
-            _ => 2 * random.within(-12, 12),
+            0 => 16 * random.within(-1, 1),
+            1 => 2 * random.within(-12, 12),
+            _ => 0,
         };
         [base, scaled, offset, 16 * random.within(1, most)]
     };
@@ -206,7 +206,8 @@ impl Both {
         refusal[0]
     }
 
-    fn begin(&mut self, calls: &mut Calls, eight: &Eight) {
+    /// Whether it was accepted.
+    fn begin(&mut self, calls: &mut Calls, eight: &Eight) -> bool {
         let judged = self.library.begin(library(eight));
         let wrapped = self.wrapped.begin(library(eight));
         let second = self.second.clone().begin(Numbers::from_array(*eight));
@@ -218,6 +219,7 @@ impl Both {
             second,
         );
         calls.happened.begin[number as usize] += 1;
+        number == 0
     }
 
     fn abandon(&mut self, calls: &mut Calls) {
@@ -307,22 +309,28 @@ pub fn list(calls: &mut Calls, number: u64) {
     let films: Vec<Film> = (0..random.within(1, 3))
         .map(|_| Film::new(random))
         .collect();
-    let mut at = 0;
+    // The picture begun last, and whether the last call found none unfinished.
+    let (mut at, mut idle) = (0, true);
     let mut both = Both::fresh();
     both.totals(calls);
     for _ in 0..random.within(1, 40) {
-        match random.below(20) {
-            0..=2 => {
+        let call = if idle && random.one_in(2) {
+            0
+        } else {
+            random.below(20)
+        };
+        match call {
+            0 | 1 => {
                 let film = random.below(films.len());
-                let eight = films[film].eight;
+                let mut eight = films[film].eight;
                 if random.one_in(4) {
-                    both.begin(calls, &faulty(random, &eight));
-                } else {
-                    both.begin(calls, &eight);
-                    at = film;
+                    eight = faulty(random, &eight);
+                }
+                if both.begin(calls, &eight) {
+                    (at, idle) = (film, false);
                 }
             }
-            3 => both.abandon(calls),
+            2 => both.abandon(calls),
             _ => {
                 // Now and then another picture's base.
                 let film = if random.one_in(12) {
@@ -335,7 +343,8 @@ pub fn list(calls: &mut Calls, number: u64) {
                     0 => random.pick(&[0, 1, WORDS - 1, WORDS + 1, 2 * WORDS]),
                     _ => WORDS,
                 };
-                let _ = both.next(calls, &base, length);
+                let next = both.next(calls, &base, length);
+                idle = matches!(next, Err(20 | 21));
             }
         }
         both.totals(calls);
