@@ -107,7 +107,7 @@ fn small(random: &mut Random) -> Eight {
     [x[0], y[0], x[1], y[1], x[2], y[2], x[3], y[3]]
 }
 
-/// One number of the geometry wrong, if it can be seen.
+/// One number of the geometry changed, mostly to one that is refused.
 fn faulty(random: &mut Random, eight: &Eight) -> Eight {
     let mut eight = *eight;
     let at = random.below(8);
@@ -120,17 +120,17 @@ fn faulty(random: &mut Random, eight: &Eight) -> Eight {
 }
 
 /// A picture that is made in a session: its geometry and base.
-struct Film {
+struct Picture {
     eight: Eight,
     base: Vec<i16>,
 }
 
-impl Film {
-    fn new(random: &mut Random) -> Film {
+impl Picture {
+    fn new(random: &mut Random) -> Picture {
         let eight = small(random);
         let mood = Mood::new(random);
         let base = mood.base(random, base_macroblocks(&eight));
-        Film { eight, base }
+        Picture { eight, base }
     }
 
     /// The base as it is lent to one call: mostly as it is.
@@ -306,8 +306,8 @@ impl Both {
 /// totals are compared after each call.
 pub fn list(calls: &mut Calls, number: u64) {
     let random = &mut Random::new(number);
-    let films: Vec<Film> = (0..random.within(1, 3))
-        .map(|_| Film::new(random))
+    let choices: Vec<Picture> = (0..random.within(1, 3))
+        .map(|_| Picture::new(random))
         .collect();
     // The picture begun last, and whether the last call found none unfinished.
     let (mut at, mut idle) = (0, true);
@@ -321,24 +321,24 @@ pub fn list(calls: &mut Calls, number: u64) {
         };
         match call {
             0 | 1 => {
-                let film = random.below(films.len());
-                let mut eight = films[film].eight;
+                let picture = random.below(choices.len());
+                let mut eight = choices[picture].eight;
                 if random.one_in(4) {
                     eight = faulty(random, &eight);
                 }
                 if both.begin(calls, &eight) {
-                    (at, idle) = (film, false);
+                    (at, idle) = (picture, false);
                 }
             }
             2 => both.abandon(calls),
             _ => {
                 // Now and then another picture's base.
-                let film = if random.one_in(12) {
-                    random.below(films.len())
+                let picture = if random.one_in(12) {
+                    random.below(choices.len())
                 } else {
                     at
                 };
-                let base = films[film].lent(random);
+                let base = choices[picture].lent(random);
                 let length = match random.below(16) {
                     0 => random.pick(&[0, 1, WORDS - 1, WORDS + 1, 2 * WORDS]),
                     _ => WORDS,
@@ -358,26 +358,30 @@ pub fn pictures(calls: &mut Calls, pictures: u64) {
     for number in 0..pictures {
         calls.at = format!("picture {number} of a session");
         let random = &mut Random::new(number);
-        let film = Film::new(random);
-        let base = Lent::of(&film.base);
-        let total = full_macroblocks(&film.eight);
-        let whole = calls.picture(&film.eight, &base, total * WORDS);
+        let picture = Picture::new(random);
+        let base = Lent::of(&picture.base);
+        let total = full_macroblocks(&picture.eight);
+        let whole = calls.picture(&picture.eight, &base, total * WORDS);
         let mut words = Vec::new();
-        both.begin(calls, &film.eight);
+        both.begin(calls, &picture.eight);
         for _ in 0..total {
             // Unfinished until the last: a begin is refused and changes nothing.
-            both.begin(calls, &film.eight);
+            both.begin(calls, &picture.eight);
             match both.next(calls, &base, WORDS) {
                 Ok(record) => words.extend_from_slice(&record),
                 Err(number) => calls.differs(|| format!("next refused by {number}")),
             }
         }
-        let counted: u32 = both.totals(calls).iter().sum();
-        if whole.as_ref() != Ok(&words) || counted as usize != total {
-            calls.differs(|| format!("{:?}: not the picture call's words", film.eight));
+        if whole.as_ref() != Ok(&words) {
+            calls.differs(|| format!("{:?}: not the picture call's words", picture.eight));
+        }
+        let counts = numbers::picture(library(&picture.eight), base.words(), &mut words);
+        let counts = [counts.inherited, counts.intra, counts.outside];
+        if both.totals(calls) != counts || counts.iter().sum::<u32>() as usize != total {
+            calls.differs(|| format!("{:?}: not the picture call's counts", picture.eight));
         }
         if both.next(calls, &base, WORDS) != Err(21) {
-            calls.differs(|| format!("{:?}: not finished", film.eight));
+            calls.differs(|| format!("{:?}: not finished", picture.eight));
         }
         both.abandon(calls);
     }
@@ -388,12 +392,12 @@ pub fn pictures(calls: &mut Calls, pictures: u64) {
 /// are counted than there are.
 pub fn forged(calls: &mut Calls, number: u64) {
     let random = &mut Random::new(number);
-    let film = Film::new(random);
-    let total = full_macroblocks(&film.eight) as u32;
+    let picture = Picture::new(random);
+    let total = full_macroblocks(&picture.eight) as u32;
     let eight = if random.one_in(4) {
-        faulty(random, &film.eight)
+        faulty(random, &picture.eight)
     } else {
-        film.eight
+        picture.eight
     };
     let accepted = Geometry::new(Numbers::from_array(eight)).is_ok();
     let mut some = || match random.below(8) {
@@ -452,9 +456,9 @@ pub fn forged(calls: &mut Calls, number: u64) {
     }
 
     let wanted = if random.one_in(3) {
-        faulty(random, &film.eight)
+        faulty(random, &picture.eight)
     } else {
-        film.eight
+        picture.eight
     };
     let begun = session.begin(library(&wanted));
     let by_fresh = fresh.begin(library(&wanted));
@@ -467,7 +471,7 @@ pub fn forged(calls: &mut Calls, number: u64) {
         calls.differs(|| format!("begin {wanted:?} of {session:?}: {begun:?}"));
     }
 
-    let base = film.lent(random);
+    let base = picture.lent(random);
     let mut out = Lent::filled(WORDS, FILL);
     let advanced = session.next(base.words(), out.words_mut());
     let mut alone = Lent::filled(WORDS, FILL);
