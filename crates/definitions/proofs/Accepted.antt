@@ -140,7 +140,7 @@ whole =
       vertical = record { base = pos 16; scaled = pos 32; offset = pos 0; full = pos 32 };
     }
 
-pub whole-accepted : geometryVerdict whole ≡ Accepted
+whole-accepted : geometryVerdict whole ≡ Accepted
 unfolding whole geometryTests pick
 whole-accepted = refl
 

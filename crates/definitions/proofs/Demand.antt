@@ -181,6 +181,9 @@ pub made-length : (g : Axes) (base : List ℤ) (address : ℕ) → length (madeA
 unfolding madeAt madeOf
 made-length g base address = written-length _ _
 
+pub within : (size k : ℕ) → k < macroblocks size → withinAxis size (pos k) ≡ true
+within size k h = and-intro (le-leb 0 k (omega arith)) (lt-ltb k (macroblocks size) h)
+
 module _ (n : Numbers) (words base : List ℤ) where
   abbrev g : Axes
   g = axesOf n
@@ -233,9 +236,6 @@ module _ (n : Numbers) (words base : List ℤ) where
         by : (b : Bool) → inside g column row ≡ b → a < baseCount g
         by true e = address-below g column row (across-inside n column row k e) (down-inside n column row k e) (subst (List·Memᴰ a) (yes _ _ e) m)
         by false e = absurd (List·Memᴰ·not-nil (subst (List·Memᴰ a) (no _ _ e) m))
-
-    within : (size k : ℕ) → k < macroblocks size → withinAxis size (pos k) ≡ true
-    within size k h = and-intro (le-leb 0 k (omega arith)) (lt-ltb k (macroblocks size) h)
 
     -- so the one-macroblock call on the same base is accepted
     pub alone-accepted : Passed → (alone : List ℤ) → length alone ≡ recordWords → verdictOf (macroblockTests n base (pos column) (pos row) alone) ≡ Accepted

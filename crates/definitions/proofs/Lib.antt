@@ -27,6 +27,7 @@ pub mod Overlap
 pub mod Counting
 pub mod Sessions
 pub mod SessionPicture
+pub mod SessionRefusals
 pub mod SessionExamples
 pub mod Formed
 pub mod Texts

@@ -1,4 +1,4 @@
--- Sessions by computation: document 01's whole case meets the premises of PictureBySession, and each refusal from the state occurs. Assumes nothing.
+-- Sessions by computation: document 01's whole case meets the premises of PictureBySession, and each refusal of a session occurs. Assumes nothing.
 use Prim.Native.Nat.{ℕ, _*_}
 use mathlib.Core.Path.{_≡_, refl}
 use mathlib.Core.List.{List, [], _∷_, map}
@@ -71,9 +71,9 @@ on = next wholeRecord blank
 
 abbrev calls : List Call
 calls =
-    abandon ∷ on ∷ totals ∷ begin wrong ∷ begin whole ∷ begin wrong ∷ next [] blank ∷ next wholeRecord [] ∷ on ∷ abandon ∷ on ∷ begin whole
+    abandon ∷ on ∷ totals ∷ begin wrong ∷ begin whole ∷ begin wrong ∷ next [] blank ∷ next wholeRecord [] ∷ next (replicate recordWords (pos 9)) blank ∷ on ∷ abandon ∷ on ∷ begin whole
     ∷ on ∷ on ∷ on ∷ on ∷ on ∷ begin whole ∷ on ∷ on ∷ abandon ∷ totals ∷ begin whole ∷ abandon ∷ []
 
-pub refused-there : map numberOf (exchanges fresh calls) ≡ 20 ∷ 20 ∷ 0 ∷ 4 ∷ 0 ∷ 22 ∷ 5 ∷ 6 ∷ 0 ∷ 0 ∷ 20 ∷ 0 ∷ 0 ∷ 0 ∷ 0 ∷ 0 ∷ 0 ∷ 22 ∷ 0 ∷ 21 ∷ 21 ∷ 0 ∷ 0 ∷ 0 ∷ []
+pub refused-there : map numberOf (exchanges fresh calls) ≡ 20 ∷ 20 ∷ 0 ∷ 4 ∷ 0 ∷ 22 ∷ 5 ∷ 6 ∷ 8 ∷ 0 ∷ 0 ∷ 20 ∷ 0 ∷ 0 ∷ 0 ∷ 0 ∷ 0 ∷ 0 ∷ 22 ∷ 0 ∷ 21 ∷ 21 ∷ 0 ∷ 0 ∷ 0 ∷ []
 unfolding whole allOf allBelow pick upTo insideAxis mOf nOf fOf twoOf columnsRead digitsOf coordinateOf stepOf addressRead blockRead sameMotion samePrediction alike oneEach fewestIn recordAt motionOf splitSaid rule1 rule2 rule3 rule4 rule5 rule6 firstBroken laidOut setOf intraSet gathered source clearOf filled lower lowest having mergedList merged someOf liveOf copiedFrom copied resolved scaledPrediction scaledMotion inheritedMotions namedAt answerOf addressesOf writtenFor madeOf geometryTests recordTests addressesRead macroblockTests macroblockCall ones onesIn beginVerdict abandonVerdict nextCall exchange stateNext exchanges
 refused-there = refl

@@ -27,12 +27,12 @@ use Rattle.definitions.proofs.Demand.{Passed, passed, gives-made, count
 use Rattle.definitions.proofs.Sessions.{next-going}
 
 -- ---- calls after others
-pub exchanges-then : (s : State) (xs ys : List Call) → exchanges s (xs ++ ys) ≡ exchanges s xs ++ exchanges (stateAfter s xs) ys
+exchanges-then : (s : State) (xs ys : List Call) → exchanges s (xs ++ ys) ≡ exchanges s xs ++ exchanges (stateAfter s xs) ys
 unfolding exchanges stateAfter
 exchanges-then s [] ys = refl
 exchanges-then s (x ∷ xs) ys = ap (λ (l : List Exchange). exchange s x ∷ l) (exchanges-then (stateNext s x) xs ys)
 
-pub state-then : (s : State) (xs ys : List Call) → stateAfter s (xs ++ ys) ≡ stateAfter (stateAfter s xs) ys
+state-then : (s : State) (xs ys : List Call) → stateAfter s (xs ++ ys) ≡ stateAfter (stateAfter s xs) ys
 unfolding stateAfter
 state-then s [] ys = refl
 state-then s (x ∷ xs) ys = state-then (stateNext s x) xs ys
@@ -46,6 +46,17 @@ module _ (s : State) (n : Numbers) (free : unfinished s ≡ false) (accepted : g
   begins-state : stateNext s (begin n) ≡ begun n noCounts
   unfolding stateNext
   begins-state = ap (stateBy s) begins
+
+-- ---- the column and row of an address
+module _ (n : Numbers) (accepted : geometryVerdict n ≡ Accepted) where
+  some-columns : 0 < macroblocks (fullSize (axesOf n .horizontal))
+  some-columns = omega (arith, accepted-axes n accepted .0 .full-low)
+
+  pub column-within : (address : ℕ) → columnAt n address < macroblocks (fullSize (axesOf n .horizontal))
+  column-within address = mod-lt address some-columns
+
+  pub row-within : (address : ℕ) → address < fullCount (axesOf n) → rowAt n address < macroblocks (fullSize (axesOf n .vertical))
+  row-within address h = div-lt-iff-lt-mul some-columns .1 (omega arith)
 
 -- ---- next
 module _ (n : Numbers) (base words : List ℤ) (lent : ℕ → List ℤ) (p : Passed n words base) (l : (a : ℕ) → a < fullCount (axesOf n) → length (lent a) ≡ recordWords) where
@@ -65,19 +76,11 @@ module _ (n : Numbers) (base words : List ℤ) (lent : ℕ → List ℤ) (p : Pa
   abbrev at : ℕ → State
   at k = begun n (countsOf (upTo k made))
 
-  column-within : (k : ℕ) → columnAt n k < macroblocks (fullSize (g .horizontal))
-  column-within k = mod-lt k (omega (arith, accepted-axes n (p .geometry) .0 .full-low))
-
-  row-within : (k : ℕ) → k < fullCount g → rowAt n k < macroblocks (fullSize (g .vertical))
-  row-within k h =
-      let some : 0 < macroblocks (fullSize (g .horizontal)) = omega (arith, accepted-axes n (p .geometry) .0 .full-low) in
-      div-lt-iff-lt-mul some .1 (omega arith)
-
   answers-at : (k : ℕ) → k < fullCount g → callAtNext (at k) base (lent k) ≡ record { reply = Answered (made k .answer); words = made k .written }
   unfolding madeAt
   answers-at k h =
       ap (λ (a : ℕ). macroblockCall n base (pos (columnAt n a)) (pos (rowAt n a)) (lent k)) (counts-sum k made)
-      ∙ gives-made n (columnAt n k) (rowAt n k) (lent k) base (alone-accepted n words base (columnAt n k) (rowAt n k) (column-within k) (row-within k h) p (lent k) (l k h))
+      ∙ gives-made n (columnAt n k) (rowAt n k) (lent k) base (alone-accepted n words base (columnAt n k) (rowAt n k) (column-within n (p .geometry) k) (row-within n (p .geometry) k h) p (lent k) (l k h))
 
   going-on : (k : ℕ) → k < fullCount g → finished (at k) ≡ false
   going-on k h = ne-eqb (sumOf (countsOf (upTo k made))) (fullCount g) (λ e. omega (arith, counts-sum k made))

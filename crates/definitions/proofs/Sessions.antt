@@ -1,7 +1,7 @@
 -- Sessions over lists of calls: totals are right, and every state is sound (specs/Session). Assumes nothing.
 use Prim.Native.Nat.{ℕ}
 use mathlib.Core.Path.{_≡_, refl, sym, ap, _∙_}
-use mathlib.Core.Bool.{Bool, true, false, not, _&&_}
+use mathlib.Core.Bool.{Bool, true, false, not}
 use mathlib.Core.List.{List, [], _∷_, _++_, append-nil, append-assoc}
 use native.Mathlib.Omega.{arith}
 use lib.IntN.{ℤ}
@@ -19,56 +19,47 @@ use Rattle.definitions.specs.Answer.{Made}
 use Rattle.definitions.specs.Refusals.{refusal, verdictOf, geometryTests}
 use Rattle.definitions.specs.Calls.{Outcome, byVerdict, fullCount, counted, noCounts, countsOf, sumOf}
 use Rattle.definitions.specs.Session.{Call, begin, next, abandon, totals, State, fresh, begun, totalsOf, finished, onwardTests, beginTests, beginVerdict, abandonVerdict, callAtNext, nextCall, Exchange, totalsGave, exchange, ifAccepted, advanced, stateNext, exchanges, stateAfter, accepts, startsAnew, since, answeredWith, madeBy, madeSince, TotalsRight, Sound, OnlySound}
-use Rattle.definitions.proofs.Choices.{yes, no, and-true, and-intro}
+use Rattle.definitions.proofs.Choices.{yes, no, and-true, and-intro, and-no}
 use Rattle.definitions.proofs.Verdicts.{both-passed}
 use Rattle.definitions.proofs.Counting.{counted-last, counted-sum, counts-length}
 
 -- ---- totals
 -- an accepted begin or abandon begins the totals anew
+accepted-anew : (v : Verdict) (after s : State) → totalsOf after ≡ noCounts → accepts v ≡ true → totalsOf (ifAccepted v after s) ≡ noCounts
+accepted-anew Accepted after s z e = z
+accepted-anew (Refused r) after s z e = cc
+
 anew : (s : State) (c : Call) → startsAnew (exchange s c) ≡ true → totalsOf (stateNext s c) ≡ noCounts
 unfolding exchange stateNext
-anew s (begin n) e = by (beginVerdict s n) e
-  where
-    by : (v : Verdict) → accepts v ≡ true → totalsOf (ifAccepted v (begun n noCounts) s) ≡ noCounts
-    by Accepted p = refl
-    by (Refused r) p = cc
+anew s (begin n) e = accepted-anew (beginVerdict s n) (begun n noCounts) s refl e
 anew s (next base words) e = cc
-anew s abandon e = by (abandonVerdict s) e
-  where
-    by : (v : Verdict) → accepts v ≡ true → totalsOf (ifAccepted v fresh s) ≡ noCounts
-    by Accepted p = refl
-    by (Refused r) p = cc
+anew s abandon e = accepted-anew (abandonVerdict s) fresh s refl e
 anew s totals e = cc
 
--- with nothing begun, next is refused
+-- with nothing begun, next makes nothing
 next-fresh : (base words : List ℤ) → answeredWith (nextCall fresh base words .reply) (nextCall fresh base words .words) ≡ []
 unfolding nextCall pick
 next-fresh base words = refl
 
 -- any other call adds what it made
+nothing-added : {c : Counts} (known : List Made) → c ≡ countsOf known → c ≡ countsOf (known ++ [])
+nothing-added known k = k ∙ ap countsOf (sym (append-nil known))
+
+refused-added : (v : Verdict) (after s : State) (known : List Made) → accepts v ≡ false → totalsOf s ≡ countsOf known → totalsOf (ifAccepted v after s) ≡ countsOf (known ++ [])
+refused-added Accepted after s known e k = cc
+refused-added (Refused r) after s known e k = nothing-added known k
+
 added : (s : State) (c : Call) (known : List Made) → startsAnew (exchange s c) ≡ false → totalsOf s ≡ countsOf known → totalsOf (stateNext s c) ≡ countsOf (known ++ madeBy (exchange s c))
 unfolding exchange stateNext
-added s (begin n) known e k = by (beginVerdict s n) e
-  where
-    by : (v : Verdict) → accepts v ≡ false → totalsOf (ifAccepted v (begun n noCounts) s) ≡ countsOf (known ++ [])
-    by Accepted p = cc
-    by (Refused r) p = k ∙ ap countsOf (sym (append-nil known))
-added fresh (next base words) known e k = k ∙ ap countsOf (sym (append-nil known) ∙ ap (λ (l : List Made). known ++ l) (sym (next-fresh base words)))
+added s (begin n) known e k = refused-added (beginVerdict s n) (begun n noCounts) s known e k
+added fresh (next base words) known e k = nothing-added known k ∙ ap (λ (l : List Made). countsOf (known ++ l)) (sym (next-fresh base words))
 added (begun n c) (next base words) known e k = by (nextCall (begun n c) base words .reply)
   where
     by : (r : MacroblockReply) → totalsOf (advanced r (begun n c)) ≡ countsOf (known ++ answeredWith r (nextCall (begun n c) base words .words))
     by (Answered a) = ap (counted a) k ∙ sym (counted-last known (record { answer = a; written = nextCall (begun n c) base words .words }))
-    by (Declined r) = k ∙ ap countsOf (sym (append-nil known))
-added s abandon known e k = by (abandonVerdict s) e
-  where
-    by : (v : Verdict) → accepts v ≡ false → totalsOf (ifAccepted v fresh s) ≡ countsOf (known ++ [])
-    by Accepted p = cc
-    by (Refused r) p = k ∙ ap countsOf (sym (append-nil known))
-added s totals known e k = k ∙ ap countsOf (sym (append-nil known))
-
-and-no : (b : Bool) → (b && false) ≡ false
-and-no true = refl
-and-no false = refl
+    by (Declined r) = nothing-added known k
+added s abandon known e k = refused-added (abandonVerdict s) fresh s known e k
+added s totals known e k = nothing-added known k
 
 abbrev noneAnew : List Exchange → Bool
 noneAnew es = allOf (λ x. not (startsAnew x)) es
@@ -76,7 +67,7 @@ noneAnew es = allOf (λ x. not (startsAnew x)) es
 -- with no accepted begin or abandon, what is known of the totals at the start goes on
 kept : (s : State) (calls : List Call) (known : List Made) → noneAnew (exchanges s calls) ≡ true → totalsOf s ≡ countsOf known → totalsOf (stateAfter s calls) ≡ countsOf (known ++ forEach (exchanges s calls) madeBy)
 unfolding exchanges stateAfter allOf
-kept s [] known e k = k ∙ ap countsOf (sym (append-nil known))
+kept s [] known e k = nothing-added known k
 kept s (c ∷ cs) known e k =
     let both = and-true (not (startsAnew (exchange s c))) (noneAnew (exchanges (stateNext s c) cs)) e in
     kept (stateNext s c) cs (known ++ madeBy (exchange s c)) (both .1) (added s c known (not-true (startsAnew (exchange s c)) (both .0)) k)
@@ -113,7 +104,7 @@ since-last (x ∷ before) after e s n = no _ _ (some before) ∙ since-last befo
   where
     some : (xs : List Exchange) → noneAnew (xs ++ (e ∷ after)) ≡ false
     some [] = rw s
-    some (y ∷ ys) = rw (some ys) (and-no (not (startsAnew y)))
+    some (y ∷ ys) = and-no (not (startsAnew y)) (some ys)
 
 pub totals-right : TotalsRight
 unfolding exchange countsOf
@@ -142,7 +133,7 @@ module _ (n : Numbers) (c : Counts) (base words : List ℤ) where
   next-over e = by-tests (Refused (refusal 21)) (no {t = false} _ _ refl ∙ yes _ _ e)
 
   -- a next call that is answered is not after the last macroblock
-  pub next-room : (a : Answer) → nextCall (begun n c) base words .reply ≡ Answered a → finished (begun n c) ≡ false
+  next-room : (a : Answer) → nextCall (begun n c) base words .reply ≡ Answered a → finished (begun n c) ≡ false
   next-room a e = by (finished (begun n c)) refl
     where
       by : (b : Bool) → finished (begun n c) ≡ b → b ≡ false
@@ -155,7 +146,7 @@ module _ (n : Numbers) (c : Counts) (base words : List ℤ) where
       (s .0, omega (arith, counted-sum a c, s .1))
   sound-advanced (Declined r) e s = s
 
-sound-next : (s : State) (c : Call) → Sound s → Sound (stateNext s c)
+pub sound-next : (s : State) (c : Call) → Sound s → Sound (stateNext s c)
 unfolding exchange stateNext beginVerdict
 sound-next s (begin n) h = by (beginVerdict s n) refl
   where

@@ -8,6 +8,7 @@ use lib.IntN.{ℤ, pos}
 use lib.ListN.{length}
 use Rattle.definitions.specs.declared.Numbers.{Numbers}
 use Rattle.definitions.specs.declared.Counts.{Counts}
+use Rattle.definitions.specs.declared.Refusal.{Refusal}
 use Rattle.definitions.specs.declared.Verdict.{Verdict}
 use Rattle.definitions.specs.declared.Verdict.the-variants.{Accepted, Refused}
 use Rattle.definitions.specs.declared.MacroblockReply.{MacroblockReply}
@@ -67,19 +68,19 @@ beginVerdict s n = verdictOf (beginTests s ++ geometryTests n)
 unfoldable pub abandonVerdict : State → Verdict
 abandonVerdict s = verdictOf (onwardTests s)
 
--- The one-macroblock call for the next address in raster order: as many macroblocks are made as there are counted. (With nothing begun there is no
--- next address, and 20 is given.)
+-- the column and row of an address: raster order
 abbrev pub columnAt : Numbers → ℕ → ℕ
 columnAt n address = address % macroblocks (fullSize (axesOf n .horizontal))
 
 abbrev pub rowAt : Numbers → ℕ → ℕ
 rowAt n address = address / macroblocks (fullSize (axesOf n .horizontal))
 
+-- the one-macroblock call for the next address, which is the number of macroblocks made (with nothing begun there is none, and 20 comes first)
 abbrev pub callAtNext : State → List ℤ → List ℤ → Outcome MacroblockReply
 callAtNext fresh base words = record { reply = Declined (refusal 20); words = words }
 callAtNext (begun n c) base words = macroblockCall n base (pos (columnAt n (sumOf c))) (pos (rowAt n (sumOf c))) words
 
--- Next answers as the one-macroblock call does for the next address in raster order.
+-- Next answers as the one-macroblock call does for the next address in raster order, refusals 5, 6 and 8 included.
 unfoldable pub nextCall : State → List ℤ → List ℤ → Outcome MacroblockReply
 nextCall s base words = byVerdict (verdictOf (onwardTests s)) Declined words (callAtNext s base words)
 
@@ -200,10 +201,18 @@ PictureBySession =
     → ((a : ℕ) → a < fullCount (axesOf n) → length (lent a) ≡ recordWords)
     → AsPicture s n base words counts lent
 
--- ---- States that lists of calls make: the geometry is accepted, and no more macroblocks are made than there are
+-- ---- The states that lists of calls make: the geometry is accepted, and no more macroblocks are made than there are
 abbrev pub Sound : State → Type 0
 Sound fresh = Unit
 Sound (begun n c) = (geometryVerdict n ≡ Accepted) × (sumOf c ≤ fullCount (axesOf n))
 
 abbrev pub OnlySound : Type 0
 OnlySound = (calls : List Call) → Sound (stateAfter fresh calls)
+
+-- so next is refused by 20 and 21, and of the one-macroblock call's refusals by 5, 6 and 8 only
+abbrev pub refusesNext : ℕ → Bool
+refusesNext number = eqb number 20 || (eqb number 21 || (eqb number 5 || (eqb number 6 || eqb number 8)))
+
+abbrev pub NextRefusals : Type 0
+NextRefusals =
+    (calls : List Call) (base words : List ℤ) (r : Refusal) → nextCall (stateAfter fresh calls) base words .reply ≡ Declined r → refusesNext (r .number) ≡ true

@@ -14,17 +14,13 @@ use Rattle.definitions.specs.Geometry.{axesOf, fullSize, macroblocks}
 use Rattle.definitions.specs.Refusals.{geometryVerdict}
 use Rattle.definitions.specs.Calls.{fullCount, sumOf}
 use Rattle.definitions.specs.Session.{State, fresh, begun, finished, columnAt, rowAt, accepts}
-use Rattle.definitions.proofs.Choices.{yes, no, and-intro}
+use Rattle.definitions.proofs.Choices.{yes, no, and-intro, and-no}
 use Rattle.session.specs.declared.Session.{Session}
 use Rattle.session.specs.declared.Stage.the-variants.{Nothing, Unfinished, Finished}
 use Rattle.session.specs.Values.{sound, stateOf}
 use Rattle.session.specs.Stage.{stageOf, stageIn}
 
 -- ---- what the code finds
-and-no : (b : Bool) {a : Bool} → a ≡ false → (b && a) ≡ false
-and-no true e = e
-and-no false e = refl
-
 module _ (v : Session) where
   pub stands-fresh : (v .begun && sound (v .numbers) (v .counts)) ≡ false → stateOf v ≡ fresh
   unfolding stateOf

@@ -12,11 +12,11 @@ use Rattle.definitions.specs.Tests.{pick}
 use Rattle.definitions.specs.Geometry.{axesOf}
 use Rattle.definitions.specs.Refusals.{geometryVerdict}
 use Rattle.definitions.specs.Calls.{fullCount, noCounts, sumOf}
-use Rattle.definitions.specs.Session.{Call, State, fresh, begun, Exchange, beginGave, nextGave, abandonGave, totalsGave, exchange, ifAccepted, advanced, stateBy, stateNext, stateAfter, accepts, answers, Sound}
+use Rattle.definitions.specs.Session.{Call, State, fresh, begun, totalsOf, Exchange, beginGave, nextGave, abandonGave, totalsGave, exchange, ifAccepted, advanced, stateBy, stateNext, stateAfter, accepts, answers, Sound}
 use Rattle.definitions.proofs.Choices.{yes, no, pick-cases, and-true, and-intro}
-use Rattle.definitions.proofs.Sessions.{sound-after, only-sound}
+use Rattle.definitions.proofs.Sessions.{totals-right, sound-next, only-sound}
 use Rattle.session.specs.declared.Session.{Session}
-use Rattle.session.specs.Values.{valueOf, sound, stateOf, changes, handedBy, handedBack, HandsBack, valueAfter, OnlyValues}
+use Rattle.session.specs.Values.{freshSession, valueOf, sound, stateOf, changes, handedBy, handedBack, HandsBack, valueAfter, OnlyValues}
 
 accepted-true : (v : Verdict) → accepts v ≡ true → v ≡ Accepted
 accepted-true Accepted e = refl
@@ -37,10 +37,6 @@ pub state-of-value : (s : State) → Sound s → stateOf (valueOf s) ≡ s
 unfolding stateOf
 state-of-value fresh h = no {t = false} _ _ refl
 state-of-value (begun n c) h = yes _ _ (and-intro {a = accepts (geometryVerdict n)} {b = leb (sumOf c) (fullCount (axesOf n))} (ap accepts (h .0)) (le-leb (sumOf c) (fullCount (axesOf n)) (h .1)))
-
-sound-next : (s : State) (c : Call) → Sound s → Sound (stateNext s c)
-unfolding stateAfter
-sound-next s c h = sound-after s (c ∷ []) h
 
 not-accepted : (v : Verdict) (after s : State) → accepts v ≡ false → ifAccepted v after s ≡ s
 not-accepted Accepted after s e = cc
@@ -81,8 +77,13 @@ unfolding valueAfter stateAfter
 values-after s [] h = refl
 values-after s (c ∷ cs) h = ap (λ (v : Session). valueAfter v cs) (handed-value s c h) ∙ values-after (stateNext s c) cs (sound-next s c h)
 
+stands-after : (calls : List Call) → stateOf (valueAfter freshSession calls) ≡ stateAfter fresh calls
+stands-after calls = ap stateOf (values-after fresh calls tt) ∙ state-of-value (stateAfter fresh calls) (only-sound calls)
+
 pub only-values : OnlyValues
+unfolding exchange
 only-values = record {
   value = λ calls. values-after fresh calls tt;
-  state = λ calls. ap stateOf (values-after fresh calls tt) ∙ state-of-value (stateAfter fresh calls) (only-sound calls);
+  state = stands-after;
+  counts = λ calls. ap totalsOf (stands-after calls) ∙ cc (totals-right .counts calls);
 }

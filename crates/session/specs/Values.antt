@@ -12,8 +12,8 @@ use Rattle.definitions.specs.declared.MacroblockReply.the-variants.{Answered, R
 use Rattle.definitions.specs.Tests.{pick}
 use Rattle.definitions.specs.Geometry.{axesOf}
 use Rattle.definitions.specs.Refusals.{geometryVerdict}
-use Rattle.definitions.specs.Calls.{fullCount, counted, noCounts, sumOf}
-use Rattle.definitions.specs.Session.{Call, State, fresh, begun, Exchange, beginGave, nextGave, abandonGave, totalsGave, exchange, stateBy, stateNext, stateAfter, accepts, answers}
+use Rattle.definitions.specs.Calls.{fullCount, counted, noCounts, countsOf, sumOf}
+use Rattle.definitions.specs.Session.{Call, State, fresh, begun, totalsOf, Exchange, beginGave, nextGave, abandonGave, totalsGave, exchange, stateBy, stateNext, stateAfter, accepts, answers, madeSince}
 use Rattle.session.specs.declared.Session.{Session}
 
 -- the value of a state
@@ -58,10 +58,12 @@ unfoldable pub valueAfter : Session → List Call → Session
 valueAfter v [] = v
 valueAfter v (c ∷ cs) = valueAfter (handedBack v c) cs
 
--- From a fresh session no list of calls makes any value but those of states: after each it is the value of the state, and stands for it.
+-- From a fresh session no list of calls makes any value but those of states: after each it is the value of the state, and stands for it. So totals are
+-- the counts of the accepted next calls since the last accepted begin or abandon.
 pub record OnlyValues : Type 0 where
   pub value : (calls : List Call) → valueAfter freshSession calls ≡ valueOf (stateAfter fresh calls)
   pub state : (calls : List Call) → stateOf (valueAfter freshSession calls) ≡ stateAfter fresh calls
+  pub counts : (calls : List Call) → totalsOf (stateOf (valueAfter freshSession calls)) ≡ countsOf (madeSince calls)
 
 -- an answer counted, by value
 abbrev pub advancedBy : MacroblockReply → Session → Session
