@@ -6,7 +6,8 @@
  * its numbers, and judges what it is lent; the caller only has to lend
  * `base_len` words at `base` to read and, apart from them, `out_len` words at
  * `out` to write. A refused call leaves every lent word as it was. `base` is
- * never written. Calls keep nothing between them.
+ * never written. Calls keep nothing between them: a session is handed over and
+ * back by value.
  */
 #ifndef SPIEWOMIR_H
 #define SPIEWOMIR_H
@@ -22,7 +23,8 @@ extern "C" {
  * 64 vector words (13 + 4b + 2l and the next). */
 #define SPIEWOMIR_WORDS 77
 
-/* Refusals, judged in rising order. 0 means answered. */
+/* Refusals, judged in rising order, but 20 to 22 (sessions only) before the
+ * others. 0 means answered. */
 #define SPIEWOMIR_ANSWERED 0
 #define SPIEWOMIR_REFUSED_BASE_SIZE 1     /* base size no multiple of 16 in 16..4096 */
 #define SPIEWOMIR_REFUSED_FULL_SIZE 2     /* the same for the full picture's size */
@@ -34,6 +36,9 @@ extern "C" {
 #define SPIEWOMIR_REFUSED_RECORD 8        /* a malformed record: `place` is the lowest malformed
                                              address among the records checked, `rule` the first of
                                              document 01's rules 1 to 6 that it breaks */
+#define SPIEWOMIR_REFUSED_NOTHING_BEGUN 20 /* next or abandon with nothing begun */
+#define SPIEWOMIR_REFUSED_FINISHED 21      /* next or abandon after the last macroblock */
+#define SPIEWOMIR_REFUSED_UNFINISHED 22    /* begin while a picture is unfinished */
 
 /* Kinds of answer: word 0 of the written record. */
 #define SPIEWOMIR_INTRA 0
@@ -70,6 +75,30 @@ typedef struct {
     uint32_t inherited, intra, outside; /* macroblocks by the kind of their answers; 0 in a refusal */
 } SpiewomirPicture;
 
+/* A session over one picture. Any numbers can be handed over: a session that no
+ * list of calls makes (`begun` not 1, a geometry that is refused, more macroblocks
+ * counted than there are) is answered as a fresh one. */
+typedef struct {
+    uint32_t begun; /* 1 once a picture is begun */
+    SpiewomirGeometry geometry;
+    uint32_t inherited, intra, outside; /* answered next calls by the kind of their answers */
+} SpiewomirSession;
+
+typedef struct {
+    SpiewomirSession session;
+    uint32_t refusal, place, rule;
+} SpiewomirJudged;
+
+typedef struct {
+    SpiewomirSession session;
+    SpiewomirMacroblock macroblock;
+} SpiewomirAdvanced;
+
+typedef struct {
+    SpiewomirSession session;
+    uint32_t inherited, intra, outside;
+} SpiewomirTotals;
+
 /* One macroblock. `base` has the base picture's records in raster order, `out`
  * has 77 words. Refusals 1 to 8; only the records that the macroblock reads are
  * checked by 8, none of them outside the window. Answered, all 77 words at `out`
@@ -86,6 +115,26 @@ SpiewomirMacroblock spiewomir_macroblock(SpiewomirGeometry geometry, const int16
  * of each sort. */
 SpiewomirPicture spiewomir_picture(SpiewomirGeometry geometry, const int16_t *base, size_t base_len,
                                    int16_t *out, size_t out_len);
+
+/* A session makes one picture macroblock by macroblock. Each call hands the session
+ * back with its answer; a refused call, and totals, hand back the very numbers that
+ * they were handed. */
+SpiewomirSession spiewomir_session_fresh(void);
+
+/* Refusals 22, and 1 to 4. */
+SpiewomirJudged spiewomir_session_begin(SpiewomirSession session, SpiewomirGeometry geometry);
+
+/* Refusals 20 and 21; then answers, refuses (5, 6 and 8) and writes as
+ * spiewomir_macroblock does for the next macroblock in raster order. */
+SpiewomirAdvanced spiewomir_session_next(SpiewomirSession session, const int16_t *base, size_t base_len,
+                                         int16_t *out, size_t out_len);
+
+/* Makes the session fresh. Refusals 20 and 21. */
+SpiewomirJudged spiewomir_session_abandon(SpiewomirSession session);
+
+/* The answered next calls of each sort since the last begin or abandon that was not
+ * refused. */
+SpiewomirTotals spiewomir_session_totals(SpiewomirSession session);
 
 #ifdef __cplusplus
 }

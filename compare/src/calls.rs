@@ -2,6 +2,7 @@
 
 use crate::coverage::{map_row, Counts, Coverage, Inside};
 use crate::lent::Lent;
+use crate::sessions::Happened;
 use compare::generate::{library, Eight};
 use second::geometry::Geometry;
 use second::map::{reading, Reading};
@@ -11,24 +12,27 @@ use spiewomir::numbers;
 
 /// What the words to write hold before a call, different for the two
 /// implementations: a word that neither writes is a difference too.
-const FILL: i16 = 0x6b31;
-const FILL_SECOND: i16 = 0x5d17;
+pub const FILL: i16 = 0x6b31;
+pub const FILL_SECOND: i16 = 0x5d17;
 
 /// Differences that are printed in full.
 const SHOWN: u64 = 20;
 
 pub struct Calls {
     pub coverage: Coverage,
+    /// What happened in sessions.
+    pub happened: Happened,
     /// What is being tried, for messages.
     pub at: String,
     pub pictures: u64,
     pub singles: u64,
+    pub sessions: u64,
     pub words: u64,
     pub differences: u64,
 }
 
 /// The interface's numbers for what the second implementation answers.
-fn macroblock_numbers(result: Result<second::Answer, second::Refusal>) -> numbers::Macroblock {
+pub fn macroblock_numbers(result: Result<second::Answer, second::Refusal>) -> numbers::Macroblock {
     match result {
         Err(refusal) => numbers::Macroblock {
             refusal: refusal.number,
@@ -118,7 +122,7 @@ fn count(
 }
 
 /// The wrapper's answer says the same as the second implementation's.
-fn same_answer(library: &spiewomir::Answer, second: &second::Answer) -> bool {
+pub fn same_answer(library: &spiewomir::Answer, second: &second::Answer) -> bool {
     let kind = match (library.kind, second.kind) {
         (spiewomir::Kind::Intra, second::Kind::Intra) => true,
         (spiewomir::Kind::Outside, second::Kind::Outside) => true,
@@ -168,9 +172,11 @@ impl Calls {
     pub fn new() -> Calls {
         Calls {
             coverage: Coverage::new(),
+            happened: Happened::default(),
             at: String::new(),
             pictures: 0,
             singles: 0,
+            sessions: 0,
             words: 0,
             differences: 0,
         }
@@ -185,7 +191,7 @@ impl Calls {
 
     /// What both calls must have left of the words lent to them, and the words
     /// that they wrote.
-    fn words_agree(
+    pub fn words_agree(
         &mut self,
         call: impl Fn() -> String,
         refused: bool,

@@ -11,12 +11,19 @@ mod calls;
 mod coverage;
 mod lent;
 mod pictures;
+mod sessions;
 mod sweeps;
 
 use calls::Calls;
 
 /// Random pictures.
 const PICTURES: u64 = 25_000;
+
+/// Random lists of session calls, whole pictures made by a session, and session
+/// values that no list of calls makes.
+const LISTS: u64 = 40_000;
+const SESSION_PICTURES: u64 = 5_000;
+const FORGED: u64 = 100_000;
 
 /// Counts each test as passed or failed.
 struct Tests {
@@ -31,14 +38,16 @@ impl Tests {
         let before = (
             self.calls.pictures,
             self.calls.singles,
+            self.calls.sessions,
             self.calls.differences,
         );
         self.calls.at = name.to_string();
         test(&mut self.calls);
         let pictures = self.calls.pictures - before.0;
         let singles = self.calls.singles - before.1;
-        let differences = self.calls.differences - before.2;
-        println!("{name}: {pictures} picture calls, {singles} one-macroblock calls, {differences} differences");
+        let sessions = self.calls.sessions - before.2;
+        let differences = self.calls.differences - before.3;
+        println!("{name}: {pictures} picture calls, {singles} one-macroblock calls, {sessions} session calls, {differences} differences");
         self.verdict(name, differences == 0);
     }
 
@@ -102,16 +111,35 @@ fn everything(tests: &mut Tests) {
         }
         println!("{PICTURES} random pictures");
     });
+    tests.compare("random lists of session calls", |calls| {
+        for number in 0..LISTS {
+            calls.at = format!("list {number} of session calls");
+            sessions::list(calls, number);
+        }
+        println!("{LISTS} lists");
+    });
+    tests.compare("whole pictures made by a session", |calls| {
+        sessions::pictures(calls, SESSION_PICTURES);
+    });
+    tests.compare("sessions that no list of calls makes", |calls| {
+        for number in 0..FORGED {
+            calls.at = format!("forged session {number}");
+            sessions::forged(calls, number);
+        }
+    });
 
     println!();
     println!("Coverage, in calls that were compared:");
     for (name, good) in tests.calls.coverage.report() {
         tests.verdict(name, good);
     }
+    for (name, good) in tests.calls.happened.report() {
+        tests.verdict(name, good);
+    }
     println!();
     let calls = &tests.calls;
     println!(
-        "{} picture calls and {} one-macroblock calls, {} written words compared, {} differences",
-        calls.pictures, calls.singles, calls.words, calls.differences
+        "{} picture calls, {} one-macroblock calls and {} session calls, {} written words compared, {} differences",
+        calls.pictures, calls.singles, calls.sessions, calls.words, calls.differences
     );
 }

@@ -1,4 +1,5 @@
-//! Safe calls of the proved motion upsampler: one macroblock, and a picture.
+//! Safe calls of the proved motion upsampler: one macroblock, a picture, and a
+//! session over one picture.
 //!
 //! Records, refusals and answers are those of document 01. No call asks
 //! anything of its caller: it judges what it is lent, and a refused call leaves
@@ -14,7 +15,7 @@ pub const WORDS: usize = 77;
 /// Why a call was refused.
 #[derive(Clone, Copy, Debug, PartialEq, Eq)]
 pub struct Refusal {
-    /// 1 to 8.
+    /// 1 to 8, and of a session 20 to 22.
     pub number: u32,
     /// For 8 the lowest malformed address, otherwise 0.
     pub place: u32,
@@ -67,7 +68,7 @@ pub struct Answer {
     pub row: u32,
 }
 
-/// A picture's macroblocks by the kind of their answers.
+/// Macroblocks by the kind of their answers.
 #[derive(Clone, Copy, Debug, PartialEq, Eq)]
 pub struct Counts {
     pub inherited: u32,
@@ -90,6 +91,59 @@ pub fn macroblock(
 /// Makes the records of all macroblocks of the picture in raster order.
 pub fn picture(geometry: Geometry, base: &[i16], out: &mut [i16]) -> Result<Counts, Refusal> {
     numbers::picture(geometry, base, out).result()
+}
+
+/// A session: one picture made macroblock by macroblock. Each call hands it
+/// back with its answer.
+#[derive(Clone, Copy, Debug, PartialEq, Eq)]
+pub struct Session(numbers::Session);
+
+impl Session {
+    pub fn fresh() -> Session {
+        Session(numbers::Session::fresh())
+    }
+
+    /// Refusals 22, and 1 to 4.
+    pub fn begin(self, geometry: Geometry) -> (Session, Result<(), Refusal>) {
+        self.0.begin(geometry).result()
+    }
+
+    /// The next macroblock in raster order: refusals 20 and 21, and those of
+    /// `macroblock`.
+    pub fn next(self, base: &[i16], out: &mut [i16]) -> (Session, Result<Answer, Refusal>) {
+        let advanced = self.0.next(base, out);
+        (Session(advanced.session), advanced.macroblock.result())
+    }
+
+    /// Makes it fresh. Refusals 20 and 21.
+    pub fn abandon(self) -> (Session, Result<(), Refusal>) {
+        self.0.abandon().result()
+    }
+
+    /// Counts of accepted next calls since the last accepted begin or abandon.
+    pub fn totals(self) -> (Session, Counts) {
+        let totals = self.0.totals();
+        let counts = Counts {
+            inherited: totals.inherited,
+            intra: totals.intra,
+            outside: totals.outside,
+        };
+        (Session(totals.session), counts)
+    }
+}
+
+impl numbers::Judged {
+    fn result(self) -> (Session, Result<(), Refusal>) {
+        let verdict = match self.refusal {
+            0 => Ok(()),
+            number => Err(Refusal {
+                number,
+                place: self.place,
+                rule: self.rule,
+            }),
+        };
+        (Session(self.session), verdict)
+    }
 }
 
 impl numbers::Macroblock {

@@ -47,6 +47,46 @@ pub struct Picture {
     pub outside: u32,
 }
 
+/// A session. One that no list of calls makes is answered as a fresh one.
+#[repr(C)]
+#[derive(Clone, Copy, Debug, Default, PartialEq, Eq)]
+pub struct Session {
+    /// 1 once a picture is begun.
+    pub begun: u32,
+    pub geometry: Geometry,
+    pub inherited: u32,
+    pub intra: u32,
+    pub outside: u32,
+}
+
+/// What begin and abandon hand back; `refusal` 0 means accepted.
+#[repr(C)]
+#[derive(Clone, Copy, Debug, Default, PartialEq, Eq)]
+pub struct Judged {
+    pub session: Session,
+    pub refusal: u32,
+    pub place: u32,
+    pub rule: u32,
+}
+
+/// What next hands back.
+#[repr(C)]
+#[derive(Clone, Copy, Debug, Default, PartialEq, Eq)]
+pub struct Advanced {
+    pub session: Session,
+    pub macroblock: Macroblock,
+}
+
+/// What totals hands back.
+#[repr(C)]
+#[derive(Clone, Copy, Debug, Default, PartialEq, Eq)]
+pub struct Totals {
+    pub session: Session,
+    pub inherited: u32,
+    pub intra: u32,
+    pub outside: u32,
+}
+
 extern "C" {
     fn spiewomir_macroblock(
         geometry: Geometry,
@@ -65,6 +105,22 @@ extern "C" {
         out: *mut i16,
         out_len: usize,
     ) -> Picture;
+
+    fn spiewomir_session_fresh() -> Session;
+
+    fn spiewomir_session_begin(session: Session, geometry: Geometry) -> Judged;
+
+    fn spiewomir_session_next(
+        session: Session,
+        base: *const i16,
+        base_len: usize,
+        out: *mut i16,
+        out_len: usize,
+    ) -> Advanced;
+
+    fn spiewomir_session_abandon(session: Session) -> Judged;
+
+    fn spiewomir_session_totals(session: Session) -> Totals;
 }
 
 /// The one-macroblock call.
@@ -102,5 +158,34 @@ pub fn picture(geometry: Geometry, base: &[i16], out: &mut [i16]) -> Picture {
             out.as_mut_ptr(),
             out.len(),
         )
+    }
+}
+
+impl Session {
+    pub fn fresh() -> Session {
+        // SAFETY: the function asks nothing.
+        unsafe { spiewomir_session_fresh() }
+    }
+
+    pub fn begin(self, geometry: Geometry) -> Judged {
+        // SAFETY: the function asks nothing of its numbers.
+        unsafe { spiewomir_session_begin(self, geometry) }
+    }
+
+    pub fn next(self, base: &[i16], out: &mut [i16]) -> Advanced {
+        // SAFETY: as in `macroblock`.
+        unsafe {
+            spiewomir_session_next(self, base.as_ptr(), base.len(), out.as_mut_ptr(), out.len())
+        }
+    }
+
+    pub fn abandon(self) -> Judged {
+        // SAFETY: the function asks nothing of its numbers.
+        unsafe { spiewomir_session_abandon(self) }
+    }
+
+    pub fn totals(self) -> Totals {
+        // SAFETY: the function asks nothing of its numbers.
+        unsafe { spiewomir_session_totals(self) }
     }
 }

@@ -133,7 +133,7 @@ inside-axis a p accepted e =
     record { sized = accepted .sized; c-low = omega arith; c-high = fits (offsetOf a) p (scaledSize a) (both .0) (both .1) }
 
 -- ---- a geometry that meets all of this: document 01's whole case, its macroblock 1 0
-whole : Numbers
+unfoldable pub whole : Numbers
 whole =
     record {
       horizontal = record { base = pos 16; scaled = pos 32; offset = pos 0; full = pos 48 };

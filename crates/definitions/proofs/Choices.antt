@@ -39,6 +39,10 @@ pub and-false : (a b : Bool) → (a && b) ≡ false → (a ≡ false) ⊎ (b ≡
 and-false true b e = inr e
 and-false false b e = inl refl
 
+pub and-no : (a : Bool) {b : Bool} → b ≡ false → (a && b) ≡ false
+and-no true e = e
+and-no false e = refl
+
 pub or-true : (a b : Bool) → (a || b) ≡ true → (a ≡ true) ⊎ (b ≡ true)
 or-true true b e = inl refl
 or-true false b e = inr e

@@ -119,7 +119,7 @@ call-accepted n base column row words answer e =
     reply-accepted (verdictOf (macroblockTests n base column row words)) Declined words _ (Answered answer) (λ r q. answer-not-refusal q) e
 
 -- where a call is accepted, it gives what is made
-gives-made : (n : Numbers) (column row : ℕ) (words base : List ℤ) → verdictOf (macroblockTests n base (pos column) (pos row) words) ≡ Accepted
+pub gives-made : (n : Numbers) (column row : ℕ) (words base : List ℤ) → verdictOf (macroblockTests n base (pos column) (pos row) words) ≡ Accepted
     → SinglyGives n column row words base (madeOf (axesOf n) base column row .answer) (madeOf (axesOf n) base column row .written)
 unfolding macroblockCall
 gives-made n column row words base v =
@@ -181,6 +181,9 @@ pub made-length : (g : Axes) (base : List ℤ) (address : ℕ) → length (madeA
 unfolding madeAt madeOf
 made-length g base address = written-length _ _
 
+pub within : (size k : ℕ) → k < macroblocks size → withinAxis size (pos k) ≡ true
+within size k h = and-intro (le-leb 0 k (omega arith)) (lt-ltb k (macroblocks size) h)
+
 module _ (n : Numbers) (words base : List ℤ) where
   abbrev g : Axes
   g = axesOf n
@@ -189,13 +192,13 @@ module _ (n : Numbers) (words base : List ℤ) where
   whole = verdictOf (pictureTests n base words)
 
   -- what acceptance of a picture says
-  record Passed : Type 0 where
-    geometry : geometryVerdict n ≡ Accepted
-    base-length : baseTest g base .applies ≡ false
-    word-length : outputTest (fullCount g) words .applies ≡ false
-    formed : (a : ℕ) → a < baseCount g → wellFormed (recordAt base a) ≡ true
+  pub record Passed : Type 0 where
+    pub geometry : geometryVerdict n ≡ Accepted
+    pub base-length : baseTest g base .applies ≡ false
+    pub word-length : outputTest (fullCount g) words .applies ≡ false
+    pub formed : (a : ℕ) → a < baseCount g → wellFormed (recordAt base a) ≡ true
 
-  passed : whole ≡ Accepted → Passed
+  pub passed : whole ≡ Accepted → Passed
   unfolding pictureTests
   passed v =
       let p = both-passed (geometryTests n) (baseTest g base ∷ outputTest (fullCount g) words ∷ recordTests base (allAddresses g)) v in
@@ -209,16 +212,16 @@ module _ (n : Numbers) (words base : List ℤ) where
       then-verdict (geometryTests n) _ (p .geometry) ∙ (no _ _ (p .base-length) ∙ (no _ _ (p .word-length)
       ∙ formed-all base (allAddresses g) (λ a m. p .formed a (member-index (baseCount g) a m))))
 
-  counted-accepted : (counts : Counts) → pictureCall n base words .reply ≡ Counted counts → whole ≡ Accepted
+  pub counted-accepted : (counts : Counts) → pictureCall n base words .reply ≡ Counted counts → whole ≡ Accepted
   unfolding pictureCall
   counted-accepted counts e = reply-accepted whole NotMade words _ (Counted counts) (λ r q. counts-not-refusal q) e
 
-  counted-made : whole ≡ Accepted → pictureCall n base words .reply ≡ Counted (countsOf (upTo (fullCount g) (madeAt g base)))
+  pub counted-made : whole ≡ Accepted → pictureCall n base words .reply ≡ Counted (countsOf (upTo (fullCount g) (madeAt g base)))
   unfolding pictureCall
   counted-made v =
       ap (λ (w : Verdict). byVerdict w NotMade words (record { reply = Counted (countsOf (upTo (fullCount g) (madeAt g base))); words = forEach (upTo (fullCount g) (madeAt g base)) (λ m. m .written) }) .reply) v
 
-  picture-words : whole ≡ Accepted → pictureCall n base words .words ≡ forEach (upTo (fullCount g) (madeAt g base)) (λ m. m .written)
+  pub picture-words : whole ≡ Accepted → pictureCall n base words .words ≡ forEach (upTo (fullCount g) (madeAt g base)) (λ m. m .written)
   unfolding pictureCall
   picture-words v =
       ap (λ (w : Verdict). byVerdict w NotMade words (record { reply = Counted (countsOf (upTo (fullCount g) (madeAt g base))); words = forEach (upTo (fullCount g) (madeAt g base)) (λ m. m .written) }) .words) v
@@ -234,11 +237,8 @@ module _ (n : Numbers) (words base : List ℤ) where
         by true e = address-below g column row (across-inside n column row k e) (down-inside n column row k e) (subst (List·Memᴰ a) (yes _ _ e) m)
         by false e = absurd (List·Memᴰ·not-nil (subst (List·Memᴰ a) (no _ _ e) m))
 
-    within : (size k : ℕ) → k < macroblocks size → withinAxis size (pos k) ≡ true
-    within size k h = and-intro (le-leb 0 k (omega arith)) (lt-ltb k (macroblocks size) h)
-
     -- so the one-macroblock call on the same base is accepted
-    alone-accepted : Passed → (alone : List ℤ) → length alone ≡ recordWords → verdictOf (macroblockTests n base (pos column) (pos row) alone) ≡ Accepted
+    pub alone-accepted : Passed → (alone : List ℤ) → length alone ≡ recordWords → verdictOf (macroblockTests n base (pos column) (pos row) alone) ≡ Accepted
     unfolding macroblockTests
     alone-accepted p alone l =
         then-verdict (geometryTests n) _ (p .geometry) ∙ (no _ _ (p .base-length) ∙ (no _ _ (ap not (eq-eqb (length alone) recordWords l))

@@ -25,5 +25,9 @@ pub mod RecordLists
 pub mod Ratios
 pub mod Overlap
 pub mod Counting
+pub mod Sessions
+pub mod SessionPicture
+pub mod SessionRefusals
+pub mod SessionExamples
 pub mod Formed
 pub mod Texts

@@ -52,6 +52,13 @@ pub joined-each : {A B : Type 0} (f : A → List B) (xs ys : List A) → forEach
 joined-each f [] ys = refl
 joined-each f (x ∷ xs) ys = ap (λ (l : List _). f x ++ l) (joined-each f xs ys) ∙ sym (append-assoc (f x) (forEach xs f) (forEach ys f))
 
+-- the lists of members by an index, one after the other, from two such lists
+pub each-same : {A B C : Type 0} (f : ℕ → A) (g : ℕ → B) (p : A → List C) (q : B → List C) → ((k : ℕ) → p (f k) ≡ q (g k)) → (n : ℕ) → forEach (upTo n f) p ≡ forEach (upTo n g) q
+unfolding upTo
+each-same f g p q e zero = refl
+each-same f g p q e (suc n) =
+    joined-each p (upTo n f) (f n ∷ []) ∙ ((λ i. each-same f g p q e n i ++ (e n i ++ [])) ∙ sym (joined-each q (upTo n g) (g n ∷ [])))
+
 module _ {A : Type 0} (f : ℕ → A) (words : A → List ℤ) (whole : (k : ℕ) → length (words (f k)) ≡ recordWords) where
   abbrev first : ℕ → List ℤ
   first n = forEach (upTo n f) words

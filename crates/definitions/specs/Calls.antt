@@ -59,9 +59,16 @@ counted Outside c = record { inherited = c .inherited; intra = c .intra; outside
 counted (Intra n) c = record { inherited = c .inherited; intra = c .intra + 1; outside = c .outside }
 counted (Inherited n s) c = record { inherited = c .inherited + 1; intra = c .intra; outside = c .outside }
 
+abbrev pub noCounts : Counts
+noCounts = record { inherited = 0; intra = 0; outside = 0 }
+
 unfoldable pub countsOf : List Made → Counts
-countsOf [] = record { inherited = 0; intra = 0; outside = 0 }
+countsOf [] = noCounts
 countsOf (m ∷ ms) = counted (m .answer) (countsOf ms)
+
+-- the sum of counts
+abbrev pub sumOf : Counts → ℕ
+sumOf c = c .inherited + c .intra + c .outside
 
 unfoldable pub pictureCall : Numbers → List ℤ → List ℤ → Outcome PictureReply
 pictureCall n base words =

@@ -77,7 +77,7 @@ holds (merge p k) = allBelow 4 (λ j. samePrediction (getD (mergedList p) j zero
 abbrev intraRecord : List ℤ
 intraRecord = laidOut 0 (λ q. 0) (λ b. unusedMotion)
 
-abbrev wholeRecord : List ℤ
+abbrev pub wholeRecord : List ℤ
 wholeRecord = laidOut 1 (λ q. 0) (λ b. record { list0 = record { reference = pos 0; x = pos 4; y = minus 8 }; list1 = unused })
 
 abbrev onlyLast : List ℤ

@@ -10,6 +10,7 @@ pub mod Why
 pub mod Answer
 pub mod Refusals
 pub mod Calls
+pub mod Session
 pub mod Text
 pub mod Demand3
 pub mod Examples

@@ -1,17 +1,25 @@
 // The C interface: the calls on numbers and slices, with results by value. include/spiewomir.h declares it.
 ghost use Rattle.definitions.specs.Calls.{macroblockCall, pictureCall};
+ghost use Rattle.definitions.specs.Session.{abandon, abandonVerdict, begin, beginVerdict, next, nextCall, totalsOf};
 ghost use Rattle.interface.specs.Interface.{answerResult, answered, classNumber, macroblockResult, numbersOf, pictureResult};
+ghost use Rattle.interface.specs.Sessions.{advancedResult, flag, judgedResult, numbersFor, sessionFor, sessionOf, totalsResult};
+ghost use Rattle.session.specs.Values.{freshSession, handedBack, stateOf};
 ghost use mathlib.Core.Path.{_≡_};
 use definitions::Answer;
 use definitions::AxisNumbers;
 use definitions::Class;
+use definitions::Counts;
 use definitions::MacroblockReply;
 use definitions::Named;
 use definitions::Numbers;
 use definitions::PictureReply;
+use definitions::Verdict;
 use macroblock::sub_types;
 use macroblock::type_number;
 use picture::upsample_picture;
+use session::Advanced;
+use session::Judged;
+use session::Session;
 use upsample::upsample_macroblock;
 
 // Width and height of the base, the scaled base, the window's offset, and the full picture: any numbers.
@@ -48,6 +56,38 @@ pub struct PictureResult {
     pub refusal: u32,
     pub place: u32,
     pub rule: u32,
+    pub inherited: u32,
+    pub intra: u32,
+    pub outside: u32,
+}
+
+// A session: begun (1, any other number is nothing begun), its geometry, and the counts of its accepted next calls.
+#[repr(C)]
+pub struct SessionNumbers {
+    pub begun: u32,
+    pub geometry: GeometryNumbers,
+    pub inherited: u32,
+    pub intra: u32,
+    pub outside: u32,
+}
+
+#[repr(C)]
+pub struct JudgedResult {
+    pub session: SessionNumbers,
+    pub refusal: u32,
+    pub place: u32,
+    pub rule: u32,
+}
+
+#[repr(C)]
+pub struct AdvancedResult {
+    pub session: SessionNumbers,
+    pub macroblock: MacroblockResult,
+}
+
+#[repr(C)]
+pub struct TotalsResult {
+    pub session: SessionNumbers,
     pub inherited: u32,
     pub intra: u32,
     pub outside: u32,
@@ -126,18 +166,10 @@ fn answer_result(a: Answer) -> MacroblockResult
     }
 }
 
-#[no_mangle]
-pub extern "C" fn spiewomir_macroblock(
-    g: GeometryNumbers,
-    base: &[i16],
-    column: i32,
-    row: i32,
-    out: &mut [i16],
-) -> MacroblockResult
-    ensures result { λ r. ⌜ r ≡ macroblockResult (macroblockCall (numbersOf g) (now (base .entry)) column row (now (out .entry)) .reply) ⌝ }
-    ensures words { λ r. ⌜ now (out .exit) ≡ macroblockCall (numbersOf g) (now (base .entry)) column row (now (out .entry)) .words ⌝ }
+fn reply_result(r: MacroblockReply) -> MacroblockResult
+    ensures { λ o. ⌜ o ≡ macroblockResult r ⌝ }
 {
-    match upsample_macroblock(numbers_of(g), base, column, row, out) {
+    match r {
         MacroblockReply::Answered(a) => answer_result(a),
         MacroblockReply::Refused(r) => MacroblockResult {
             refusal: r.number,
@@ -153,6 +185,20 @@ pub extern "C" fn spiewomir_macroblock(
             row: 0,
         },
     }
+}
+
+#[no_mangle]
+pub extern "C" fn spiewomir_macroblock(
+    g: GeometryNumbers,
+    base: &[i16],
+    column: i32,
+    row: i32,
+    out: &mut [i16],
+) -> MacroblockResult
+    ensures result { λ r. ⌜ r ≡ macroblockResult (macroblockCall (numbersOf g) (now (base .entry)) column row (now (out .entry)) .reply) ⌝ }
+    ensures words { λ r. ⌜ now (out .exit) ≡ macroblockCall (numbersOf g) (now (base .entry)) column row (now (out .entry)) .words ⌝ }
+{
+    reply_result(upsample_macroblock(numbers_of(g), base, column, row, out))
 }
 
 #[no_mangle]
@@ -181,5 +227,144 @@ pub extern "C" fn spiewomir_picture(
             intra: 0,
             outside: 0,
         },
+    }
+}
+
+// ---- The session. A refused call hands back the very numbers that it was handed.
+fn geometry_for(n: Numbers) -> GeometryNumbers
+    ensures { λ r. ⌜ r ≡ numbersFor n ⌝ }
+{
+    GeometryNumbers {
+        bw: n.horizontal.base,
+        bh: n.vertical.base,
+        sw: n.horizontal.scaled,
+        sh: n.vertical.scaled,
+        x: n.horizontal.offset,
+        y: n.vertical.offset,
+        fw: n.horizontal.full,
+        fh: n.vertical.full,
+    }
+}
+
+fn flag_of(b: bool) -> u32
+    ensures { λ r. ⌜ r ≡ flag b ⌝ }
+{
+    if b { 1 } else { 0 }
+}
+
+fn session_of(s: SessionNumbers) -> Session
+    ensures { λ r. ⌜ r ≡ sessionOf s ⌝ }
+{
+    let geometry = s.geometry;
+    Session {
+        begun: s.begun == 1,
+        numbers: numbers_of(geometry),
+        counts: Counts {
+            inherited: s.inherited,
+            intra: s.intra,
+            outside: s.outside,
+        },
+    }
+}
+
+fn session_for(v: Session) -> SessionNumbers
+    ensures { λ r. ⌜ r ≡ sessionFor v ⌝ }
+{
+    let numbers = v.numbers;
+    SessionNumbers {
+        begun: flag_of(v.begun),
+        geometry: geometry_for(numbers),
+        inherited: v.counts.inherited,
+        intra: v.counts.intra,
+        outside: v.counts.outside,
+    }
+}
+
+fn judged_result(s: SessionNumbers, j: Judged) -> JudgedResult
+    ensures { λ r. ⌜ r ≡ judgedResult s (j .verdict) (j .session) ⌝ }
+{
+    let verdict = j.verdict;
+    let after = j.session;
+    match verdict {
+        Verdict::Accepted => JudgedResult {
+            session: session_for(after),
+            refusal: 0,
+            place: 0,
+            rule: 0,
+        },
+        Verdict::Refused(r) => JudgedResult {
+            session: s,
+            refusal: r.number,
+            place: r.place,
+            rule: r.rule,
+        },
+    }
+}
+
+fn advanced_result(s: SessionNumbers, a: Advanced) -> AdvancedResult
+    ensures { λ r. ⌜ r ≡ advancedResult s (a .reply) (a .session) ⌝ }
+{
+    let reply = a.reply;
+    let after = a.session;
+    let macroblock = reply_result(reply);
+    match reply {
+        MacroblockReply::Answered(_) => AdvancedResult {
+            session: session_for(after),
+            macroblock,
+        },
+        MacroblockReply::Refused(_) => AdvancedResult {
+            session: s,
+            macroblock,
+        },
+    }
+}
+
+#[no_mangle]
+pub extern "C" fn spiewomir_session_fresh() -> SessionNumbers
+    ensures { λ r. ⌜ r ≡ sessionFor freshSession ⌝ }
+{
+    session_for(Session::fresh())
+}
+
+#[no_mangle]
+pub extern "C" fn spiewomir_session_begin(s: SessionNumbers, g: GeometryNumbers) -> JudgedResult
+    ensures { λ r. ⌜ r ≡ judgedResult s (beginVerdict (stateOf (sessionOf s)) (numbersOf g)) (handedBack (sessionOf s) (begin (numbersOf g))) ⌝ }
+{
+    let v = session_of(s);
+    judged_result(s, v.begin(numbers_of(g)))
+}
+
+#[no_mangle]
+pub extern "C" fn spiewomir_session_next(
+    s: SessionNumbers,
+    base: &[i16],
+    out: &mut [i16],
+) -> AdvancedResult
+    ensures result { λ r. ⌜ r ≡ advancedResult s (nextCall (stateOf (sessionOf s)) (now (base .entry)) (now (out .entry)) .reply) (handedBack (sessionOf s) (next (now (base .entry)) (now (out .entry)))) ⌝ }
+    ensures words { λ r. ⌜ now (out .exit) ≡ nextCall (stateOf (sessionOf s)) (now (base .entry)) (now (out .entry)) .words ⌝ }
+{
+    let v = session_of(s);
+    advanced_result(s, v.next(base, out))
+}
+
+#[no_mangle]
+pub extern "C" fn spiewomir_session_abandon(s: SessionNumbers) -> JudgedResult
+    ensures { λ r. ⌜ r ≡ judgedResult s (abandonVerdict (stateOf (sessionOf s))) (handedBack (sessionOf s) abandon) ⌝ }
+{
+    let v = session_of(s);
+    judged_result(s, v.abandon())
+}
+
+#[no_mangle]
+pub extern "C" fn spiewomir_session_totals(s: SessionNumbers) -> TotalsResult
+    ensures { λ r. ⌜ r ≡ totalsResult s (totalsOf (stateOf (sessionOf s))) ⌝ }
+{
+    let v = session_of(s);
+    let t = v.totals();
+    TotalsResult {
+        session: s,
+        inherited: t.counts.inherited,
+        intra: t.counts.intra,
+        outside: t.counts.outside,
     }
 }

@@ -1,7 +1,7 @@
 -- One column, and one macroblock, more. Assumes nothing.
-use Prim.Native.Nat.{ℕ, zero, suc, _+_, _*_, _/_, _%_, _<_, _≤_}
+use Prim.Native.Nat.{ℕ, _+_, _*_, _/_, _%_, _<_, _≤_}
 use mathlib.Core.Path.{_≡_, refl, sym, ap, subst, _∙_}
-use mathlib.Core.List.{List, [], _∷_, _++_, append-nil, List·Memᴰ}
+use mathlib.Core.List.{List, List·Memᴰ}
 use mathlib.Core.Logic.{_⊎_, ⊎-elim}
 use native.Mathlib.Nat.{eq-or-lt-of-le, div-eq-of-lt-le, div-lt-iff-lt-mul, mod-eq-of-lt, mul-add-mod-self-right}
 use native.Mathlib.Numerals.{add-one}
@@ -16,10 +16,10 @@ use Rattle.definitions.specs.declared.Counts.{Counts}
 use Rattle.definitions.specs.Tests.{upTo, forEach}
 use Rattle.definitions.specs.Geometry.{fullSize, macroblocks}
 use Rattle.definitions.specs.Answer.{Made, madeOf}
-use Rattle.definitions.specs.Calls.{counted, countsOf, fullCount, madeAt}
-use Rattle.definitions.proofs.Counting.{sumOf, counts-more, counts-sum}
-use Rattle.definitions.proofs.Parts.{parts, parts-more}
-use Rattle.definitions.proofs.RecordLists.{joined-each}
+use Rattle.definitions.specs.Calls.{counted, countsOf, sumOf, fullCount, madeAt}
+use Rattle.definitions.proofs.Counting.{counts-more, counts-sum}
+use Rattle.definitions.proofs.Parts.{parts}
+use Rattle.definitions.proofs.RecordLists.{each-same}
 use Rattle.macroblock.specs.declared.AxisRead.{AxisRead}
 use Rattle.macroblock.specs.Made.{readOf, placedBy, Placeable}
 use Rattle.macroblock.proofs.Paper.{placed-by}
@@ -82,9 +82,4 @@ module _ (f : ℕ → Made) where
   counts-low n c e = ap sumOf e ∙ counts-sum n f
 
   pub words-of : (n : ℕ) → parts n (λ k. f k .written) ≡ forEach (upTo n f) (λ m. m .written)
-  unfolding upTo
-  words-of zero = refl
-  words-of (suc n) =
-      parts-more n (λ k. f k .written)
-      ∙ (ap (λ (l : List ℤ). l ++ f n .written) (words-of n)
-      ∙ (ap (λ (l : List ℤ). forEach (upTo n f) (λ m. m .written) ++ l) (sym (append-nil (f n .written))) ∙ sym (joined-each (λ m. m .written) (upTo n f) (f n ∷ []))))
+  words-of n = each-same (λ k. k) f (λ k. f k .written) (λ m. m .written) (λ k. refl) n

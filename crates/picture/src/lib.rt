@@ -1,9 +1,8 @@
 // The picture call of document 01: all base records are checked, then every macroblock is made in raster order.
 ghost use Prim.Native.Nat.{_*_, _+_, _<_, _≤_};
-ghost use Rattle.definitions.proofs.Counting.{sumOf};
 ghost use Rattle.definitions.specs.Accepted.{AcceptedAxis};
 ghost use Rattle.definitions.specs.Answer.{Made};
-ghost use Rattle.definitions.specs.Calls.{counted, countsOf, fullCount, madeAt, pictureCall};
+ghost use Rattle.definitions.specs.Calls.{counted, countsOf, fullCount, madeAt, pictureCall, sumOf};
 ghost use Rattle.definitions.specs.Record.{recordWords};
 ghost use Rattle.definitions.specs.Tests.{forEach, upTo};
 ghost use Rattle.definitions.specs.Geometry.{fullSize, macroblocks};
@@ -47,7 +46,8 @@ fn column_reads(a: Axis) -> [AxisRead; 256]
     reads
 }
 
-fn count(c: Counts, a: Answer) -> Counts
+// One more of an answer's sort.
+pub fn count(c: Counts, a: Answer) -> Counts
     requires { ⌜ sumOf c < 65536 ⌝ }
     ensures { λ r. ⌜ r ≡ counted a c ⌝ }
 {
@@ -70,7 +70,7 @@ fn count(c: Counts, a: Answer) -> Counts
     }
 }
 
-fn full_count(g: Axes) -> usize
+pub fn full_count(g: Axes) -> usize
     requires { ⌜ AcceptedAxes g ⌝ }
     ensures { λ r. ⌜ (r ≡ fullCount g) × (r ≤ 65536) ⌝ }
 {

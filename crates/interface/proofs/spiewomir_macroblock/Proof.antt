@@ -2,7 +2,7 @@
 use Rattle.interface.specs.Interface.{macroblockResult}
 use Rattle.definitions.specs.Calls.{macroblockCall}
 use mir.Facts.{toZ-ofZ}
-use mathlib.Core.Path.{sym, ap, _∙_}
+use mathlib.Core.Path.{ap, _∙_}
 use borrow.Author.Needs.{needs}
 use Rattle.interface.proofs.spiewomir_macroblock.Statement.{statement}
 use Rattle.interface.proofs.spiewomir_macroblock.Tie as tie
@@ -13,42 +13,20 @@ numbers-of-requires c κs = search needs
 upsample-macroblock-requires : tie.Need-upsample-macroblock-requires
 upsample-macroblock-requires c κs = search needs
 
-enum-known-a : tie.Need-enum-known-a
-enum-known-a c = search needs
-
-answer-result-requires : tie.Need-answer-result-requires
-answer-result-requires c κs = search needs
-
-enum-known-r : tie.Need-enum-known-r
-enum-known-r c = search needs
+reply-result-requires : tie.Need-reply-result-requires
+reply-result-requires c κs = search needs
 
 same-length : tie.Need-same-length
 same-length c = search needs
 
 returns : tie.Need-returns
 returns c =
-    let o = c .before .before .before .before in
-    let u = o .before .upsample-macroblock in
-    let s = o .before .before .before .before in
-    let n = o .before .before .before .numbers-of .ensures in
+    let s = c .before .before .before .before .before in
+    let u = c .before .before .upsample-macroblock in
+    let n = c .before .before .before .before .numbers-of .ensures in
     let p = toZ-ofZ (s .fits .column) in
     let q = toZ-ofZ (s .fits .row) in (
-      c .answer-result .ensures ∙ ap macroblockResult (sym (c .before .before .a .given .1) ∙ (u .ensures .0 ∙ (λ i. macroblockCall (n i) (s .args .base .now) (p i) (q i) (s .args .out .now) .reply))),
-      u .ensures .1 .0 ∙ (λ i. macroblockCall (n i) (s .args .base .now) (p i) (q i) (s .args .out .now) .words),
-    )
-
-same-length-2 : tie.Need-same-length-2
-same-length-2 c = search needs
-
-returns-2 : tie.Need-returns-2
-returns-2 c =
-    let o = c .before .before .before in
-    let u = o .before .upsample-macroblock in
-    let s = o .before .before .before .before in
-    let n = o .before .before .before .numbers-of .ensures in
-    let p = toZ-ofZ (s .fits .column) in
-    let q = toZ-ofZ (s .fits .row) in (
-      ap macroblockResult (sym (c .before .r .given .1) ∙ (u .ensures .0 ∙ (λ i. macroblockCall (n i) (s .args .base .now) (p i) (q i) (s .args .out .now) .reply))),
+      c .reply-result .ensures ∙ ap macroblockResult (u .ensures .0 ∙ (λ i. macroblockCall (n i) (s .args .base .now) (p i) (q i) (s .args .out .now) .reply)),
       u .ensures .1 .0 ∙ (λ i. macroblockCall (n i) (s .args .base .now) (p i) (q i) (s .args .out .now) .words),
     )
 
@@ -58,10 +36,6 @@ spiewomir-macroblock-spec =
     (tie.spec
     numbers-of-requires
     upsample-macroblock-requires
-    enum-known-a
-    answer-result-requires
-    enum-known-r
+    reply-result-requires
     same-length
-    returns
-    same-length-2
-    returns-2)
+    returns)

@@ -1,0 +1,83 @@
+-- Next is refused by 20, 21, 5, 6 and 8 only (NextRefusals of specs/Session). Assumes nothing.
+use Prim.Native.Nat.{ℕ, _<_}
+use mathlib.Core.Path.{_≡_, refl, sym, ap, _∙_}
+use mathlib.Core.Bool.{Bool, true, false, not}
+use mathlib.Core.List.{List, [], _∷_}
+use native.Mathlib.Omega.{arith}
+use lib.IntN.{ℤ, pos}
+use borrow.Author.Tests.{eqb-false}
+use Rattle.definitions.specs.declared.Numbers.{Numbers}
+use Rattle.definitions.specs.declared.Answer.{Answer}
+use Rattle.definitions.specs.declared.Refusal.{Refusal}
+use Rattle.definitions.specs.declared.Verdict.{Verdict}
+use Rattle.definitions.specs.declared.Verdict.the-variants.{Accepted, Refused}
+use Rattle.definitions.specs.declared.MacroblockReply.{MacroblockReply}
+use Rattle.definitions.specs.declared.MacroblockReply.the-variants.{Answered, Refused as Declined}
+use Rattle.definitions.specs.Tests.{pick}
+use Rattle.definitions.specs.Geometry.{axesOf, fullSize}
+use Rattle.definitions.specs.Refusals.{Test, refusal, verdictOf, geometryTests, geometryVerdict, baseTest, outputTest, positionTest, recordTests, addressesRead}
+use Rattle.definitions.specs.Calls.{Outcome, byVerdict, macroblockTests, macroblockCall, fullCount, sumOf}
+use Rattle.definitions.specs.Session.{State, fresh, begun, finished, columnAt, rowAt, nextCall, stateAfter, Sound, refusesNext, NextRefusals}
+use Rattle.definitions.proofs.Choices.{no, and-intro}
+use Rattle.definitions.proofs.Verdicts.{then-verdict}
+use Rattle.definitions.proofs.Demand.{within}
+use Rattle.definitions.proofs.Sessions.{next-going, next-over, only-sound}
+use Rattle.definitions.proofs.SessionPicture.{column-within, row-within}
+
+-- a verdict that refuses does so by one of these numbers
+abbrev ByThese : Verdict → Type 0
+ByThese v = (r : Refusal) → v ≡ Refused r → refusesNext (r .number) ≡ true
+
+accepted-these : ByThese Accepted
+accepted-these r e = absurd (let z : _≡_ {A = ℕ} 0 1 = cc in omega arith)
+
+-- a test that gives one of them, before others that do
+test-these : (t : Test) (ts : List Test) → refusesNext (t .gives .number) ≡ true → ByThese (verdictOf ts) → ByThese (verdictOf (t ∷ ts))
+unfolding pick
+test-these t ts h k = by (t .applies)
+  where
+    by : (b : Bool) → ByThese (pick b (Refused (t .gives)) (verdictOf ts))
+    by true r e = let p : t .gives ≡ r = cc in ap (λ (q : Refusal). refusesNext (q .number)) (sym p) ∙ h
+    by false r e = k r e
+
+records-these : (base : List ℤ) (addresses : List ℕ) → ByThese (verdictOf (recordTests base addresses))
+unfolding recordTests
+records-these base [] = accepted-these
+records-these base (a ∷ rest) = test-these _ (recordTests base rest) refl (records-these base rest)
+
+-- the one-macroblock call at an address of an accepted geometry
+call-these : (n : Numbers) (base words : List ℤ) (address : ℕ) → geometryVerdict n ≡ Accepted → address < fullCount (axesOf n)
+    → ByThese (verdictOf (macroblockTests n base (pos (columnAt n address)) (pos (rowAt n address)) words))
+unfolding macroblockTests
+call-these n base words address v h r e =
+    let g = axesOf n in
+    let column = columnAt n address in
+    let row = rowAt n address in
+    let records = recordTests base (addressesRead g column row) in
+    let place = positionTest g (pos column) (pos row) in
+    let inside : place .applies ≡ false = ap not (and-intro (within (fullSize (g .horizontal)) column (column-within n v address)) (within (fullSize (g .vertical)) row (row-within n v address h))) in
+    test-these (baseTest g base) (outputTest 1 words ∷ place ∷ records) refl
+    (test-these (outputTest 1 words) (place ∷ records) refl (λ q f. records-these base (addressesRead g column row) q (sym (no _ _ inside) ∙ f)))
+    r (sym (then-verdict (geometryTests n) _ v) ∙ e)
+
+declined : (v : Verdict) (words written : List ℤ) (a : Answer) (r : Refusal) → byVerdict v Declined words (record { reply = Answered a; words = written }) .reply ≡ Declined r → v ≡ Refused r
+declined Accepted words written a r e = absurd (let z : _≡_ {A = ℕ} 0 1 = cc in omega arith)
+declined (Refused q) words written a r e = cc
+
+state-these : (s : State) → Sound s → (base words : List ℤ) (r : Refusal) → nextCall s base words .reply ≡ Declined r → refusesNext (r .number) ≡ true
+unfolding nextCall pick macroblockCall
+state-these fresh h base words r e = let p : refusal 20 ≡ r = cc in ap (λ (q : Refusal). refusesNext (q .number)) (sym p)
+state-these (begun n c) h base words r e = by (finished (begun n c)) refl
+  where
+    by : (b : Bool) → finished (begun n c) ≡ b → refusesNext (r .number) ≡ true
+    by true f =
+        let p : refusal 21 ≡ r = cc (sym (ap (λ (o : Outcome MacroblockReply). o .reply) (next-over n c base words f)) ∙ e) in
+        ap (λ (q : Refusal). refusesNext (q .number)) (sym p)
+    by false f =
+        let other = eqb-false (sumOf c) (fullCount (axesOf n)) f in
+        let room : sumOf c < fullCount (axesOf n) = omega (arith, h .1) in
+        call-these n base words (sumOf c) (h .0) room r
+        (declined _ words _ _ r (sym (ap (λ (o : Outcome MacroblockReply). o .reply) (next-going n c base words f)) ∙ e))
+
+pub next-refusals : NextRefusals
+next-refusals calls base words r = state-these (stateAfter fresh calls) (only-sound calls) base words r

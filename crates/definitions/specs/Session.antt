@@ -1,0 +1,218 @@
+-- The session of document 01 ("Calls"), and the refusals that come of its state ("From the state").
+use Prim.Native.Nat.{ℕ, _%_, _/_, _<_, _≤_}
+use mathlib.Core.Path.{_≡_}
+use mathlib.Core.Bool.{Bool, true, false, not, _||_}
+use mathlib.Core.List.{List, [], _∷_, _++_}
+use lib.Dec.{eqb}
+use lib.IntN.{ℤ, pos}
+use lib.ListN.{length}
+use Rattle.definitions.specs.declared.Numbers.{Numbers}
+use Rattle.definitions.specs.declared.Counts.{Counts}
+use Rattle.definitions.specs.declared.Refusal.{Refusal}
+use Rattle.definitions.specs.declared.Verdict.{Verdict}
+use Rattle.definitions.specs.declared.Verdict.the-variants.{Accepted, Refused}
+use Rattle.definitions.specs.declared.MacroblockReply.{MacroblockReply}
+use Rattle.definitions.specs.declared.MacroblockReply.the-variants.{Answered, Refused as Declined}
+use Rattle.definitions.specs.declared.PictureReply.the-variants.{Counted}
+use Rattle.definitions.specs.Tests.{pick, allOf, upTo, forEach}
+use Rattle.definitions.specs.Geometry.{axesOf, fullSize, macroblocks}
+use Rattle.definitions.specs.Record.{recordWords}
+use Rattle.definitions.specs.Answer.{Made}
+use Rattle.definitions.specs.Refusals.{Test, test, refusal, verdictOf, geometryTests, geometryVerdict}
+use Rattle.definitions.specs.Calls.{Outcome, byVerdict, macroblockCall, fullCount, counted, noCounts, countsOf, sumOf, pictureCall}
+
+-- ---- Session, handed over and back by value
+-- The calls: begin(geometry); next(base, 77 words); abandon; totals.
+pub data Call : Type 0 where
+  begin : Numbers → Call
+  next : List ℤ → List ℤ → Call
+  abandon : Call
+  totals : Call
+
+-- The state: fresh, or begun with a geometry's numbers; the counts are those of its accepted next calls.
+pub data State : Type 0 where
+  fresh : State
+  begun : Numbers → Counts → State
+
+abbrev pub totalsOf : State → Counts
+totalsOf fresh = noCounts
+totalsOf (begun n c) = c
+
+-- ---- From the state
+abbrev pub nothingBegun : State → Bool
+nothingBegun fresh = true
+nothingBegun (begun n c) = false
+
+-- the last macroblock is made
+abbrev pub finished : State → Bool
+finished fresh = false
+finished (begun n c) = eqb (sumOf c) (fullCount (axesOf n))
+
+-- a picture is unfinished: begun, and its last macroblock is not made
+abbrev pub unfinished : State → Bool
+unfinished s = not (nothingBegun s || finished s)
+
+-- 20: next or abandon with nothing begun. 21: next or abandon after the last macroblock.
+abbrev pub onwardTests : State → List Test
+onwardTests s = test (nothingBegun s) (refusal 20) ∷ test (finished s) (refusal 21) ∷ []
+
+-- 22: begin while a picture is unfinished.
+abbrev pub beginTests : State → List Test
+beginTests s = test (unfinished s) (refusal 22) ∷ []
+
+-- ---- What each call gives; 20 to 22 precede 1 to 8
+-- Begin can be refused by 1 to 4.
+unfoldable pub beginVerdict : State → Numbers → Verdict
+beginVerdict s n = verdictOf (beginTests s ++ geometryTests n)
+
+unfoldable pub abandonVerdict : State → Verdict
+abandonVerdict s = verdictOf (onwardTests s)
+
+-- the column and row of an address: raster order
+abbrev pub columnAt : Numbers → ℕ → ℕ
+columnAt n address = address % macroblocks (fullSize (axesOf n .horizontal))
+
+abbrev pub rowAt : Numbers → ℕ → ℕ
+rowAt n address = address / macroblocks (fullSize (axesOf n .horizontal))
+
+-- the one-macroblock call for the next address, which is the number of macroblocks made (with nothing begun there is none, and 20 comes first)
+abbrev pub callAtNext : State → List ℤ → List ℤ → Outcome MacroblockReply
+callAtNext fresh base words = record { reply = Declined (refusal 20); words = words }
+callAtNext (begun n c) base words = macroblockCall n base (pos (columnAt n (sumOf c))) (pos (rowAt n (sumOf c))) words
+
+-- Next answers as the one-macroblock call does for the next address in raster order, refusals 5, 6 and 8 included.
+unfoldable pub nextCall : State → List ℤ → List ℤ → Outcome MacroblockReply
+nextCall s base words = byVerdict (verdictOf (onwardTests s)) Declined words (callAtNext s base words)
+
+-- ---- One call
+-- a call with what it gave: its verdict; the reply, and the lent words afterwards; the counts
+pub data Exchange : Type 0 where
+  beginGave : Numbers → Verdict → Exchange
+  nextGave : List ℤ → List ℤ → Outcome MacroblockReply → Exchange
+  abandonGave : Verdict → Exchange
+  totalsGave : Counts → Exchange
+
+unfoldable pub exchange : State → Call → Exchange
+exchange s (begin n) = beginGave n (beginVerdict s n)
+exchange s (next base words) = nextGave base words (nextCall s base words)
+exchange s abandon = abandonGave (abandonVerdict s)
+exchange s totals = totalsGave (totalsOf s)
+
+-- The state after a call. A refused call changes no state.
+abbrev pub ifAccepted : Verdict → State → State → State
+ifAccepted Accepted after s = after
+ifAccepted (Refused r) after s = s
+
+abbrev pub advanced : MacroblockReply → State → State
+advanced reply fresh = fresh
+advanced (Answered a) (begun n c) = begun n (counted a c)
+advanced (Declined r) (begun n c) = begun n c
+
+abbrev pub stateBy : State → Exchange → State
+stateBy s (beginGave n v) = ifAccepted v (begun n noCounts) s
+stateBy s (nextGave base words o) = advanced (o .reply) s
+stateBy s (abandonGave v) = ifAccepted v fresh s
+stateBy s (totalsGave c) = s
+
+unfoldable pub stateNext : State → Call → State
+stateNext s c = stateBy s (exchange s c)
+
+-- ---- Lists of calls, from a state on: what they gave, in their order, and the state after them
+unfoldable pub exchanges : State → List Call → List Exchange
+exchanges s [] = []
+exchanges s (c ∷ cs) = exchange s c ∷ exchanges (stateNext s c) cs
+
+unfoldable pub stateAfter : State → List Call → State
+stateAfter s [] = s
+stateAfter s (c ∷ cs) = stateAfter (stateNext s c) cs
+
+-- an accepted begin or abandon
+abbrev pub accepts : Verdict → Bool
+accepts Accepted = true
+accepts (Refused r) = false
+
+abbrev pub startsAnew : Exchange → Bool
+startsAnew (beginGave n v) = accepts v
+startsAnew (nextGave base words o) = false
+startsAnew (abandonGave v) = accepts v
+startsAnew (totalsGave c) = false
+
+-- what follows the last accepted begin or abandon (all, where there is none)
+unfoldable pub since : List Exchange → List Exchange
+since [] = []
+since (e ∷ es) = pick (allOf (λ x. not (startsAnew x)) es) (pick (startsAnew e) es (e ∷ es)) (since es)
+
+-- what accepted next calls made: answers, each with its words
+abbrev pub answeredWith : MacroblockReply → List ℤ → List Made
+answeredWith (Answered a) words = record { answer = a; written = words } ∷ []
+answeredWith (Declined r) words = []
+
+abbrev pub madeBy : Exchange → List Made
+madeBy (beginGave n v) = []
+madeBy (nextGave base words o) = answeredWith (o .reply) (o .words)
+madeBy (abandonGave v) = []
+madeBy (totalsGave c) = []
+
+-- the accepted next calls since the last accepted begin or abandon, after a list of calls from a fresh session
+abbrev pub madeSince : List Call → List Made
+madeSince calls = forEach (since (exchanges fresh calls)) madeBy
+
+-- For every list of these calls from a fresh one, totals are the counts of accepted next calls of each sort since the last accepted begin or
+-- abandon, and their sum is their number.
+pub record TotalsRight : Type 0 where
+  pub counts : (calls : List Call) → exchange (stateAfter fresh calls) totals ≡ totalsGave (countsOf (madeSince calls))
+  pub sum : (calls : List Call) → sumOf (countsOf (madeSince calls)) ≡ length (madeSince calls)
+
+-- ---- A whole picture: begin, and a next call for each macroblock on one base; lent a are the words lent to the one of address a
+abbrev pub pictureCalls : Numbers → List ℤ → (ℕ → List ℤ) → List Call
+pictureCalls n base lent = begin n ∷ upTo (fullCount (axesOf n)) (λ a. next base (lent a))
+
+abbrev pub answers : MacroblockReply → Bool
+answers (Answered a) = true
+answers (Declined r) = false
+
+abbrev pub acceptedIn : Exchange → Bool
+acceptedIn (beginGave n v) = accepts v
+acceptedIn (nextGave base words o) = answers (o .reply)
+acceptedIn (abandonGave v) = accepts v
+acceptedIn (totalsGave c) = true
+
+-- the words lent, afterwards
+abbrev pub wordsAfter : Exchange → List ℤ
+wordsAfter (beginGave n v) = []
+wordsAfter (nextGave base words o) = o .words
+wordsAfter (abandonGave v) = []
+wordsAfter (totalsGave c) = []
+
+-- Where the picture call accepts the base, and the session takes a begin, these calls do what it does: each is accepted, the words lent one after
+-- another are those that it writes, the totals are its counts, and the session is finished after the last of them and not before.
+pub record AsPicture (s : State) (n : Numbers) (base words : List ℤ) (counts : Counts) (lent : ℕ → List ℤ) : Type 0 where
+  pub accepted : allOf acceptedIn (exchanges s (pictureCalls n base lent)) ≡ true
+  pub words-same : forEach (exchanges s (pictureCalls n base lent)) wordsAfter ≡ pictureCall n base words .words
+  pub totals-same : exchange (stateAfter s (pictureCalls n base lent)) totals ≡ totalsGave counts
+  pub finished-then : finished (stateAfter s (pictureCalls n base lent)) ≡ true
+  pub unfinished-before : (k : ℕ) → k < fullCount (axesOf n) → unfinished (stateAfter s (begin n ∷ upTo k (λ a. next base (lent a)))) ≡ true
+
+abbrev pub PictureBySession : Type 0
+PictureBySession =
+    (s : State) (n : Numbers) (base words : List ℤ) (counts : Counts) (lent : ℕ → List ℤ)
+    → unfinished s ≡ false
+    → pictureCall n base words .reply ≡ Counted counts
+    → ((a : ℕ) → a < fullCount (axesOf n) → length (lent a) ≡ recordWords)
+    → AsPicture s n base words counts lent
+
+-- ---- The states that lists of calls make: the geometry is accepted, and no more macroblocks are made than there are
+abbrev pub Sound : State → Type 0
+Sound fresh = Unit
+Sound (begun n c) = (geometryVerdict n ≡ Accepted) × (sumOf c ≤ fullCount (axesOf n))
+
+abbrev pub OnlySound : Type 0
+OnlySound = (calls : List Call) → Sound (stateAfter fresh calls)
+
+-- so next is refused by 20 and 21, and of the one-macroblock call's refusals by 5, 6 and 8 only
+abbrev pub refusesNext : ℕ → Bool
+refusesNext number = eqb number 20 || (eqb number 21 || (eqb number 5 || (eqb number 6 || eqb number 8)))
+
+abbrev pub NextRefusals : Type 0
+NextRefusals =
+    (calls : List Call) (base words : List ℤ) (r : Refusal) → nextCall (stateAfter fresh calls) base words .reply ≡ Declined r → refusesNext (r .number) ≡ true

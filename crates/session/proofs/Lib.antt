@@ -1,0 +1,3 @@
+pub mod Values
+mod Stages
+mod Handing
