@@ -27,3 +27,5 @@ pub mod Overlap
 pub mod Counting
 pub mod Formed
 pub mod Texts
+pub mod Lines
+pub mod Findings

@@ -11,5 +11,6 @@ pub mod Answer
 pub mod Refusals
 pub mod Calls
 pub mod Text
+pub mod Log
 pub mod Demand3
 pub mod Examples
