@@ -30,7 +30,7 @@ use upsample::refused;
 const RECORD_WORDS: usize = 77;
 
 // The axis at each column (row): 256 is the most that a picture has.
-fn axis_reads(a: Axis) -> [AxisRead; 256]
+pub fn axis_reads(a: Axis) -> [AxisRead; 256]
     requires { ⌜ AcceptedAxis a ⌝ }
     ensures { λ r. ⌜ AxisReads a 256 r ⌝ }
 {
@@ -43,7 +43,7 @@ fn axis_reads(a: Axis) -> [AxisRead; 256]
     reads
 }
 
-fn count(c: Counts, a: Answer) -> Counts
+pub fn count(c: Counts, a: Answer) -> Counts
     requires { ⌜ sumOf c < 65536 ⌝ }
     ensures { λ r. ⌜ r ≡ counted a c ⌝ }
 {
@@ -66,7 +66,7 @@ fn count(c: Counts, a: Answer) -> Counts
     }
 }
 
-fn full_count(g: Axes) -> usize
+pub fn full_count(g: Axes) -> usize
     requires { ⌜ AcceptedAxes g ⌝ }
     ensures { λ r. ⌜ (r ≡ fullCount g) × (r ≤ 65536) ⌝ }
 {
