@@ -1,1 +1,2 @@
 -- Laws for the proofs of the functions.
+pub mod Growing
