@@ -6,7 +6,6 @@ use mathlib.Core.List.{List, [], _∷_, _++_, List·Memᴰ, List·Memᴰ·head, 
 use native.Mathlib.Omega.{arith}
 use lib.Dec.{eqb}
 use lib.IntN.{ℤ}
-use lib.ListN.{length}
 use borrow.Author.Tests.{eqb-true, eqb-false, eq-eqb, ne-eqb}
 use Rattle.definitions.specs.declared.Axes.{Axes}
 use Rattle.definitions.specs.declared.Numbers.{Numbers}
@@ -16,31 +15,30 @@ use Rattle.definitions.specs.declared.Verdict.the-variants.{Accepted, Re
 use Rattle.definitions.specs.Tests.{pick, upTo}
 use Rattle.definitions.specs.Geometry.{axesOf}
 use Rattle.definitions.specs.Refusals.{refusal, Test, test, verdictOf, sizeRight, scaledRight, offsetRight, geometryTests, geometryVerdict, baseCount, recordTest, recordTests, allAddresses}
-use Rattle.definitions.specs.Text.{Entry, textRecords}
-use Rattle.definitions.specs.Log.{programTests, linesTest, baseOf}
+use Rattle.definitions.specs.Log.{programTests}
 use Rattle.definitions.proofs.Choices.{yes, no}
 use Rattle.definitions.proofs.Verdicts.{first-passed, then-verdict, refused-first}
 use Rattle.definitions.proofs.RecordLists.{not-false, member-index}
 
 -- ---- The tests in their order
-module _ (n : Numbers) (entries : List Entry) where
-  pub numbers-wrong : (r : Refusal) → geometryVerdict n ≡ Refused r → verdictOf (programTests n entries) ≡ Refused r
+module _ (n : Numbers) (lines : ℕ) (base : List ℤ) where
+  pub numbers-wrong : (r : Refusal) → geometryVerdict n ≡ Refused r → verdictOf (programTests n lines base) ≡ Refused r
   unfolding programTests
   numbers-wrong r e = refused-first (geometryTests n) _ r e
 
   module _ (accepted : geometryVerdict n ≡ Accepted) where
-    pub count-wrong : (length entries ≡ baseCount (axesOf n) → ⊥) → verdictOf (programTests n entries) ≡ Refused (refusal 5)
+    pub count-wrong : (lines ≡ baseCount (axesOf n) → ⊥) → verdictOf (programTests n lines base) ≡ Refused (refusal 5)
     unfolding programTests
     count-wrong d = then-verdict (geometryTests n) _ accepted ∙ yes _ _ (ap not (ne-eqb _ _ d))
 
-    pub count-right : length entries ≡ baseCount (axesOf n) → verdictOf (programTests n entries) ≡ verdictOf (recordTests (baseOf entries) (allAddresses (axesOf n)))
+    pub count-right : lines ≡ baseCount (axesOf n) → verdictOf (programTests n lines base) ≡ verdictOf (recordTests base (allAddresses (axesOf n)))
     unfolding programTests
     count-right e = then-verdict (geometryTests n) _ accepted ∙ no _ _ (ap not (eq-eqb _ _ e))
 
 -- ---- What they give: 1 to 5 with place 0, or 8 with the address of a record
-pub data RefusedBy (entries : List Entry) : Refusal → Type 0 where
-  by-number : {k : ℕ} → List·Memᴰ k (1 ∷ 2 ∷ 3 ∷ 4 ∷ 5 ∷ []) → RefusedBy entries (refusal k)
-  by-record : {a rule : ℕ} → a < length entries → RefusedBy entries (record { number = 8; place = a; rule = rule })
+pub data RefusedBy (lines : ℕ) : Refusal → Type 0 where
+  by-number : {k : ℕ} → List·Memᴰ k (1 ∷ 2 ∷ 3 ∷ 4 ∷ 5 ∷ []) → RefusedBy lines (refusal k)
+  by-record : {a rule : ℕ} → a < lines → RefusedBy lines (record { number = 8; place = a; rule = rule })
 
 same-refusal : {r s : Refusal} → Refused r ≡ Refused s → r ≡ s
 same-refusal e = cc
@@ -58,46 +56,46 @@ module _ (P : Refusal → Type 0) where
 none-left : {A : Type 0} {r : Refusal} → Accepted ≡ Refused r → A
 none-left e = absurd (let z : _≡_ {A = ℕ} 0 1 = cc in omega arith)
 
-module _ (entries : List Entry) where
-  of-records : (base : List ℤ) (addresses : List ℕ) → ((a : ℕ) → List·Memᴰ a addresses → a < length entries) → (r : Refusal) → verdictOf (recordTests base addresses) ≡ Refused r → RefusedBy entries r
+module _ (lines : ℕ) where
+  of-records : (base : List ℤ) (addresses : List ℕ) → ((a : ℕ) → List·Memᴰ a addresses → a < lines) → (r : Refusal) → verdictOf (recordTests base addresses) ≡ Refused r → RefusedBy lines r
   unfolding recordTests
   of-records base [] low r e = none-left e
   of-records base (a ∷ rest) low r e =
-      first-or (RefusedBy entries) (recordTest base a) (recordTests base rest) r (by-record (low a (List·Memᴰ·head refl))) (of-records base rest (λ b m. low b (List·Memᴰ·tail m)) r) e
+      first-or (RefusedBy lines) (recordTest base a) (recordTests base rest) r (by-record (low a (List·Memᴰ·head refl))) (of-records base rest (λ b m. low b (List·Memᴰ·tail m)) r) e
 
-  of-four : (a b c d : Bool) (r : Refusal) → verdictOf (test a (refusal 1) ∷ test b (refusal 2) ∷ test c (refusal 3) ∷ test d (refusal 4) ∷ []) ≡ Refused r → RefusedBy entries r
+  of-four : (a b c d : Bool) (r : Refusal) → verdictOf (test a (refusal 1) ∷ test b (refusal 2) ∷ test c (refusal 3) ∷ test d (refusal 4) ∷ []) ≡ Refused r → RefusedBy lines r
   unfolding pick
-  of-four true b c d r e = subst (RefusedBy entries) (same-refusal e) (by-number (List·Memᴰ·head refl))
-  of-four false true c d r e = subst (RefusedBy entries) (same-refusal e) (by-number (List·Memᴰ·tail (List·Memᴰ·head refl)))
-  of-four false false true d r e = subst (RefusedBy entries) (same-refusal e) (by-number (List·Memᴰ·tail (List·Memᴰ·tail (List·Memᴰ·head refl))))
-  of-four false false false true r e = subst (RefusedBy entries) (same-refusal e) (by-number (List·Memᴰ·tail (List·Memᴰ·tail (List·Memᴰ·tail (List·Memᴰ·head refl)))))
+  of-four true b c d r e = subst (RefusedBy lines) (same-refusal e) (by-number (List·Memᴰ·head refl))
+  of-four false true c d r e = subst (RefusedBy lines) (same-refusal e) (by-number (List·Memᴰ·tail (List·Memᴰ·head refl)))
+  of-four false false true d r e = subst (RefusedBy lines) (same-refusal e) (by-number (List·Memᴰ·tail (List·Memᴰ·tail (List·Memᴰ·head refl))))
+  of-four false false false true r e = subst (RefusedBy lines) (same-refusal e) (by-number (List·Memᴰ·tail (List·Memᴰ·tail (List·Memᴰ·tail (List·Memᴰ·head refl)))))
   of-four false false false false r e = none-left e
 
-  of-numbers : (n : Numbers) (r : Refusal) → geometryVerdict n ≡ Refused r → RefusedBy entries r
+  of-numbers : (n : Numbers) (r : Refusal) → geometryVerdict n ≡ Refused r → RefusedBy lines r
   unfolding geometryTests
   of-numbers n r e =
       let h = n .horizontal in
       let v = n .vertical in
       of-four (not (sizeRight (h .base) && sizeRight (v .base))) (not (sizeRight (h .full) && sizeRight (v .full))) (not (scaledRight (h .base) (h .scaled) && scaledRight (v .base) (v .scaled))) (not (offsetRight (h .offset) && offsetRight (v .offset))) r e
 
-  module _ (n : Numbers) (r : Refusal) where
-    by-count : geometryVerdict n ≡ Accepted → (b : Bool) → eqb (length entries) (baseCount (axesOf n)) ≡ b → verdictOf (programTests n entries) ≡ Refused r → RefusedBy entries r
+  module _ (n : Numbers) (base : List ℤ) (r : Refusal) where
+    by-count : geometryVerdict n ≡ Accepted → (b : Bool) → eqb lines (baseCount (axesOf n)) ≡ b → verdictOf (programTests n lines base) ≡ Refused r → RefusedBy lines r
     by-count a true e v =
         let same = eqb-true _ _ e in
-        of-records (baseOf entries) (allAddresses (axesOf n)) (λ x m. let l = member-index (baseCount (axesOf n)) x m in omega arith) r (sym (count-right n entries a same) ∙ v)
+        of-records base (allAddresses (axesOf n)) (λ x m. let l = member-index (baseCount (axesOf n)) x m in omega arith) r (sym (count-right n lines base a same) ∙ v)
     by-count a false e v =
-        let five : Refused (refusal 5) ≡ Refused r = sym (count-wrong n entries a (eqb-false _ _ e)) ∙ v in
-        subst (RefusedBy entries) (same-refusal five) (by-number (List·Memᴰ·tail (List·Memᴰ·tail (List·Memᴰ·tail (List·Memᴰ·tail (List·Memᴰ·head refl))))))
+        let five : Refused (refusal 5) ≡ Refused r = sym (count-wrong n lines base a (eqb-false _ _ e)) ∙ v in
+        subst (RefusedBy lines) (same-refusal five) (by-number (List·Memᴰ·tail (List·Memᴰ·tail (List·Memᴰ·tail (List·Memᴰ·tail (List·Memᴰ·head refl))))))
 
-    by-geometry : (g : Verdict) → geometryVerdict n ≡ g → verdictOf (programTests n entries) ≡ Refused r → RefusedBy entries r
-    by-geometry Accepted e v = by-count e (eqb (length entries) (baseCount (axesOf n))) refl v
+    by-geometry : (g : Verdict) → geometryVerdict n ≡ g → verdictOf (programTests n lines base) ≡ Refused r → RefusedBy lines r
+    by-geometry Accepted e v = by-count e (eqb lines (baseCount (axesOf n))) refl v
     by-geometry (Refused s) e v =
-        subst (RefusedBy entries) (same-refusal (sym (numbers-wrong n entries s e) ∙ v)) (of-numbers n s e)
+        subst (RefusedBy lines) (same-refusal (sym (numbers-wrong n lines base s e) ∙ v)) (of-numbers n s e)
 
-    pub refused-by : verdictOf (programTests n entries) ≡ Refused r → RefusedBy entries r
+    pub refused-by : verdictOf (programTests n lines base) ≡ Refused r → RefusedBy lines r
     refused-by = by-geometry (geometryVerdict n) refl
 
 -- ---- The numbers of these refusals, and how large they are
-pub number-of : {entries : List Entry} {r : Refusal} → RefusedBy entries r → List·Memᴰ (r .number) (1 ∷ 2 ∷ 3 ∷ 4 ∷ 5 ∷ 8 ∷ [])
+pub number-of : {lines : ℕ} {r : Refusal} → RefusedBy lines r → List·Memᴰ (r .number) (1 ∷ 2 ∷ 3 ∷ 4 ∷ 5 ∷ 8 ∷ [])
 number-of (by-number m) = Memᴰ·append-left (8 ∷ []) m
 number-of (by-record l) = List·Memᴰ·tail (List·Memᴰ·tail (List·Memᴰ·tail (List·Memᴰ·tail (List·Memᴰ·tail (List·Memᴰ·head refl)))))

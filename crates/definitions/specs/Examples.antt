@@ -20,10 +20,10 @@ use Rattle.definitions.specs.Splits.{quadrantOf, placeOf, sameMotion, sa
 use Rattle.definitions.specs.Record.{recordWords, recordAt, motionOf, splitSaid, rule1, rule2, rule3, rule4, rule5, rule6, firstBroken, laidOut}
 use Rattle.definitions.specs.Inheriting.{setOf, intraSet, gathered, source, clearOf, filled, lower, lowest, having, unused, zeroPrediction, mergedList, merged, someOf, liveOf, copiedFrom, copied, resolved, scaledWord, scaledPrediction, scaledMotion, inheritedMotions}
 use Rattle.definitions.specs.Answer.{namedAt, answerOf, answerType, addressesOf, unusedMotion, writtenFor, madeOf}
-use Rattle.definitions.specs.Refusals.{verdictOf, geometryTests, recordTests, addressesRead}
+use Rattle.definitions.specs.Refusals.{geometryTests, recordTests, addressesRead}
 use Rattle.definitions.specs.Calls.{macroblockTests, macroblockCall, madeAt, countsOf}
 use Rattle.definitions.specs.Text.{Entry, whole}
-use Rattle.definitions.specs.Log.{digitsIn, decimal, lineOf, macroblockLine, syncLine, pictureLines, programTests, baseOf, makes, findingBy}
+use Rattle.definitions.specs.Log.{digitsIn, decimal, lineOf, macroblockLine, syncLine, pictureLines, programTests, judged, baseOf, makes}
 use Rattle.definitions.specs.Geometry.{columnsRead}
 
 -- what an axis gives for a macroblock: outside, or M, N, F and whether two columns are read
@@ -136,6 +136,6 @@ wholeLog =
     ++ ((40 ∷ 109 ∷ 98 ∷ 32 ∷ 50 ∷ 32 ∷ 49 ∷ 32 ∷ 53 ∷ 32 ∷ 48 ∷ 41 ∷ 10 ∷ [])
     ++ (40 ∷ 115 ∷ 121 ∷ 110 ∷ 99 ∷ 32 ∷ 54 ∷ 32 ∷ 52 ∷ 32 ∷ 48 ∷ 32 ∷ 50 ∷ 41 ∷ 10 ∷ []))))))
 
-pub whole-holds : findingBy (verdictOf (programTests wholeCase wholeEntries)) (pictureLines (axesOf wholeCase) (baseOf wholeEntries)) ≡ makes wholeLog
+pub whole-holds : judged wholeCase 1 (baseOf wholeEntries) ≡ makes wholeLog
 unfolding allOf allBelow pick upTo insideAxis mOf nOf fOf twoOf columnsRead digitsOf coordinateOf stepOf addressRead blockRead sameMotion samePrediction alike oneEach fewestIn recordAt motionOf splitSaid rule1 rule2 rule3 rule4 rule5 rule6 firstBroken laidOut setOf intraSet gathered source clearOf filled lower lowest having mergedList merged someOf liveOf copiedFrom copied resolved scaledPrediction scaledMotion inheritedMotions namedAt answerOf addressesOf writtenFor madeOf geometryTests recordTests ones onesIn madeAt countsOf digitsIn decimal lineOf macroblockLine syncLine pictureLines programTests
 whole-holds = refl

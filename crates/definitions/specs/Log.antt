@@ -75,19 +75,15 @@ unfoldable pub refusedLine : Refusal → List ℕ
 refusedLine r = lineOf refusedWord (r .number ∷ r .place ∷ [])
 
 -- ---- What the program finds of a text
--- the words of the record lines
-abbrev pub baseOf : List Entry → List ℤ
-baseOf entries = forEach entries wordsOf
-
 -- 5 (program: record lines too few or many)
-abbrev pub linesTest : Axes → List Entry → Test
-linesTest g entries = test (not (eqb (length entries) (baseCount g))) (refusal 5)
+abbrev pub linesTest : Axes → ℕ → Test
+linesTest g lines = test (not (eqb lines (baseCount g))) (refusal 5)
 
--- 1 to 5, then 8 on all records
-unfoldable pub programTests : Numbers → List Entry → List Test
-programTests n entries =
+-- 1 to 5, then 8 on all records: the geometry's numbers, the count of record lines, and their words
+unfoldable pub programTests : Numbers → ℕ → List ℤ → List Test
+programTests n lines base =
     let g = axesOf n in
-    geometryTests n ++ (linesTest g entries ∷ recordTests (baseOf entries) (allAddresses g))
+    geometryTests n ++ (linesTest g lines ∷ recordTests base (allAddresses g))
 
 -- a refusal, or the lines of the picture
 pub data Finding : Type 0 where
@@ -98,6 +94,13 @@ abbrev pub findingBy : Verdict → List ℕ → Finding
 findingBy Accepted lines = makes lines
 findingBy (Refused r) lines = refuses r
 
+abbrev pub judged : Numbers → ℕ → List ℤ → Finding
+judged n lines base = findingBy (verdictOf (programTests n lines base)) (pictureLines (axesOf n) base)
+
+-- the words of the record lines
+abbrev pub baseOf : List Entry → List ℤ
+baseOf entries = forEach entries wordsOf
+
 -- The program tests the length by 10, then 9, then the record lines by 10, then 1 to 5, then 8 on all records.
 pub data Finds (t : List ℕ) : Finding → Type 0 where
   tooLong : textBytes < length t → Finds t (refuses (refusal 10))
@@ -105,7 +108,7 @@ pub data Finds (t : List ℕ) : Finding → Type 0 where
   tooMany : {n : Numbers} {entries : List Entry} → length t ≤ textBytes → Text n entries t → textRecords < length entries → Finds t (refuses (refusal 10))
   read :
       {n : Numbers} {entries : List Entry} → length t ≤ textBytes → Text n entries t → length entries ≤ textRecords
-      → Finds t (findingBy (verdictOf (programTests n entries)) (pictureLines (axesOf n) (baseOf entries)))
+      → Finds t (judged n (length entries) (baseOf entries))
 
 -- ---- The log
 -- A refusal writes only (refused number place).
@@ -129,13 +132,13 @@ pub data LogAnswer (t out : List ℕ) : LogReply → List ℕ → Type 0 where
 
 -- ---- Demand 2: "it is then refused only for what refusals 1 to 5 and 8 say of its numbers and its count of record lines"
 -- Of a text that belongs to the grammar and keeps the limits: its log is a refusal exactly where one of these applies, and is then the first of them.
-pub record RefusedOnly (n : Numbers) (entries : List Entry) (log : List ℕ) : Type 0 where
-  pub refused : (r : Refusal) → verdictOf (programTests n entries) ≡ Refused r → log ≡ refusedLine r
-  pub numbers : (r : Refusal) → verdictOf (programTests n entries) ≡ Refused r → List·Memᴰ (r .number) (1 ∷ 2 ∷ 3 ∷ 4 ∷ 5 ∷ 8 ∷ [])
-  pub made : verdictOf (programTests n entries) ≡ Accepted → log ≡ pictureLines (axesOf n) (baseOf entries)
-  pub no-refusal : verdictOf (programTests n entries) ≡ Accepted → (r : Refusal) → log ≡ refusedLine r → ⊥
+pub record RefusedOnly (n : Numbers) (lines : ℕ) (base : List ℤ) (log : List ℕ) : Type 0 where
+  pub refused : (r : Refusal) → verdictOf (programTests n lines base) ≡ Refused r → log ≡ refusedLine r
+  pub numbers : (r : Refusal) → verdictOf (programTests n lines base) ≡ Refused r → List·Memᴰ (r .number) (1 ∷ 2 ∷ 3 ∷ 4 ∷ 5 ∷ 8 ∷ [])
+  pub made : verdictOf (programTests n lines base) ≡ Accepted → log ≡ pictureLines (axesOf n) base
+  pub no-refusal : verdictOf (programTests n lines base) ≡ Accepted → (r : Refusal) → log ≡ refusedLine r → ⊥
 
 abbrev pub Demand2Log : Type 0
 Demand2Log =
     (t : List ℕ) (n : Numbers) (entries : List Entry) → Text n entries t → length t ≤ textBytes → length entries ≤ textRecords
-    → (log : List ℕ) → LogOf t log → RefusedOnly n entries log
+    → (log : List ℕ) → LogOf t log → RefusedOnly n (length entries) (baseOf entries) log

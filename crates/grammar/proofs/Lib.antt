@@ -14,4 +14,5 @@ pub mod Whole
 pub mod Again
 pub mod Once
 pub mod OneLog
+pub mod Words
 pub mod Examples

@@ -9,16 +9,12 @@ use Rattle.definitions.specs.declared.Verdict.{Verdict}
 use Rattle.definitions.specs.Geometry.{axesOf}
 use Rattle.definitions.specs.Refusals.{verdictOf}
 use Rattle.definitions.specs.Text.{Entry, Text, textBytes, textRecords}
-use Rattle.definitions.specs.Log.{Finding, refuses, findingBy, Finds, tooLong, broken, tooMany, read, LogOf, logFor, programTests, pictureLines, baseOf, Demand2Log}
+use Rattle.definitions.specs.Log.{Finding, refuses, findingBy, judged, Finds, tooLong, broken, tooMany, read, LogOf, logFor, programTests, pictureLines, baseOf, Demand2Log}
 use Rattle.definitions.proofs.Texts.{one-place}
 use Rattle.definitions.proofs.Lines.{lines-differ}
 use Rattle.definitions.proofs.Findings.{refused-by, number-of}
 use Rattle.grammar.proofs.Runs.{one-reading}
 use Rattle.grammar.proofs.Once.{belongs}
-
--- what is found of a text that is read
-abbrev foundOf : Numbers → List Entry → Finding
-foundOf n entries = findingBy (verdictOf (programTests n entries)) (pictureLines (axesOf n) (baseOf entries))
 
 pub one-finding : {t : List ℕ} {f g : Finding} → Finds t f → Finds t g → f ≡ g
 one-finding (tooLong l) (tooLong m) = refl
@@ -40,7 +36,7 @@ one-finding (read l x k) (read m y i) =
     let s = one-reading x y in
     let a = s .0 in
     let b = s .1 in
-    λ (j : 𝕀). foundOf (a j) (b j)
+    λ (j : 𝕀). judged (a j) (length (b j)) (baseOf (b j))
 
 pub one-log : {t v w : List ℕ} → LogOf t v → LogOf t w → v ≡ w
 one-log x y = x .is ∙ (ap logFor (one-finding (x .finds) (y .finds)) ∙ sym (y .is))
@@ -48,11 +44,11 @@ one-log x y = x .is ∙ (ap logFor (one-finding (x .finds) (y .finds)) ∙ sym (
 -- demand 2
 pub demand2-log : Demand2Log
 demand2-log t n entries x l k log found =
-    let is : (v : Verdict) → verdictOf (programTests n entries) ≡ v → log ≡ logFor (findingBy v (pictureLines (axesOf n) (baseOf entries))) =
+    let is : (v : Verdict) → verdictOf (programTests n (length entries) (baseOf entries)) ≡ v → log ≡ logFor (findingBy v (pictureLines (axesOf n) (baseOf entries))) =
     λ v e. found .is ∙ (ap logFor (one-finding (found .finds) (read l x k)) ∙ ap (λ (u : Verdict). logFor (findingBy u (pictureLines (axesOf n) (baseOf entries)))) e) in
     record {
       refused = λ r e. is _ e;
-      numbers = λ r e. number-of (refused-by entries n r e);
+      numbers = λ r e. number-of (refused-by (length entries) n (baseOf entries) r e);
       made = λ e. is _ e;
       no-refusal = λ e r s. lines-differ (axesOf n) (baseOf entries) r (sym (is _ e) ∙ s);
     }
