@@ -1,24 +1,23 @@
 -- What the program refuses a text for that is read: its tests in their order, and what each gives (specs/Log). Assumes nothing.
-use Prim.Native.Nat.{ℕ, _≤_, _<_}
+use Prim.Native.Nat.{ℕ, _<_}
 use mathlib.Core.Path.{_≡_, refl, sym, ap, subst, _∙_}
 use mathlib.Core.Bool.{Bool, true, false, not, _&&_}
-use mathlib.Core.List.{List, [], _∷_, _++_, List·Memᴰ, List·Memᴰ·head, List·Memᴰ·tail, Memᴰ·append-left}
+use mathlib.Core.List.{List, [], _∷_, List·Memᴰ, List·Memᴰ·head, List·Memᴰ·tail, Memᴰ·append-left}
 use native.Mathlib.Omega.{arith}
 use lib.Dec.{eqb}
 use lib.IntN.{ℤ}
 use borrow.Author.Tests.{eqb-true, eqb-false, eq-eqb, ne-eqb}
-use Rattle.definitions.specs.declared.Axes.{Axes}
 use Rattle.definitions.specs.declared.Numbers.{Numbers}
 use Rattle.definitions.specs.declared.Refusal.{Refusal}
 use Rattle.definitions.specs.declared.Verdict.{Verdict}
 use Rattle.definitions.specs.declared.Verdict.the-variants.{Accepted, Refused}
-use Rattle.definitions.specs.Tests.{pick, upTo}
+use Rattle.definitions.specs.Tests.{pick}
 use Rattle.definitions.specs.Geometry.{axesOf}
 use Rattle.definitions.specs.Refusals.{refusal, Test, test, verdictOf, sizeRight, scaledRight, offsetRight, geometryTests, geometryVerdict, baseCount, recordTest, recordTests, allAddresses}
 use Rattle.definitions.specs.Log.{programTests}
 use Rattle.definitions.proofs.Choices.{yes, no}
-use Rattle.definitions.proofs.Verdicts.{first-passed, then-verdict, refused-first}
-use Rattle.definitions.proofs.RecordLists.{not-false, member-index}
+use Rattle.definitions.proofs.Verdicts.{then-verdict, refused-first}
+use Rattle.definitions.proofs.RecordLists.{member-index}
 
 -- ---- The tests in their order
 module _ (n : Numbers) (lines : ℕ) (base : List ℤ) where

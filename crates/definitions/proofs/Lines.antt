@@ -1,6 +1,6 @@
 -- Laws of the log's lines: numbers in decimal are as the grammar has them, and how long a line can be (specs/Log). Assumes nothing.
 use Prim.Native.Nat.{ℕ, zero, suc, _+_, _-_, _*_, _/_, _%_, _≤_, _<_}
-use mathlib.Core.Path.{_≡_, refl, sym, ap, subst, _∙_}
+use mathlib.Core.Path.{_≡_, refl, ap, subst, _∙_}
 use mathlib.Core.Bool.{Bool, true, false}
 use mathlib.Core.List.{List, [], _∷_, _++_}
 use native.Mathlib.Omega.{arith}
@@ -13,15 +13,14 @@ use Rattle.definitions.specs.declared.Answer.{Answer}
 use Rattle.definitions.specs.declared.Answer.the-variants.{Outside, Intra, Inherited}
 use Rattle.definitions.specs.declared.SubSplit.{SubSplit}
 use Rattle.definitions.specs.declared.SubSplit.the-variants.{S8x8, S8x4, S4x8, S4x4}
-use Rattle.definitions.specs.declared.Split.{Split}
 use Rattle.definitions.specs.declared.Split.the-variants.{S16x16, S16x8, S8x16, S8x8 as Quarters}
 use Rattle.definitions.specs.declared.Refusal.{Refusal}
 use Rattle.definitions.specs.Tests.{pick, upTo, forEach}
-use Rattle.definitions.specs.Splits.{count, subCount}
+use Rattle.definitions.specs.Splits.{subCount}
 use Rattle.definitions.specs.Answer.{answerType}
 use Rattle.definitions.specs.Calls.{fullCount}
 use Rattle.definitions.specs.Text.{Digit, All, none, each, valued, Plain, nought, digits}
-use Rattle.definitions.specs.Log.{digitsIn, decimal, lineOf, mbWord, syncWord, refusedWord, answerPieces, macroblockLine, syncLine, pictureLines, refusedLine}
+use Rattle.definitions.specs.Log.{digitsIn, decimal, lineOf, mbWord, syncWord, answerPieces, macroblockLine, syncLine, pictureLines, refusedLine}
 use Rattle.definitions.proofs.Choices.{yes, no}
 
 -- ---- Numbers in decimal

@@ -94,6 +94,7 @@ abbrev pub findingBy : Verdict → List ℕ → Finding
 findingBy Accepted lines = makes lines
 findingBy (Refused r) lines = refuses r
 
+-- what these tests leave of them
 abbrev pub judged : Numbers → ℕ → List ℤ → Finding
 judged n lines base = findingBy (verdictOf (programTests n lines base)) (pictureLines (axesOf n) base)
 
@@ -121,8 +122,8 @@ pub record LogOf (t log : List ℕ) : Type 0 where
   pub finds : Finds t finding
   pub is : log ≡ logFor finding
 
--- The log call is ours (document 01 has the program alone): the bytes of a text, and bytes to write the log into. They have to hold every log: at most 65,536
--- lines of at most 18 bytes, and a last one of at most 31. Fewer are refused by 6, tested first, and left as they are; of others, those after the log are.
+-- The log call is ours (document 01 has the program alone): the bytes of a text, and bytes to write its log into, as many as every log fits: 65,536 lines of at
+-- most 18 bytes, and a last one of at most 31. Fewer are refused by 6, tested first, and left as they are. Else the log stands first, the rest unchanged.
 abbrev pub logBytes : ℕ
 logBytes = 1179679
 

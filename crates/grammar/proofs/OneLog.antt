@@ -1,14 +1,12 @@
 -- A text has one log, and demand 2 of it: a text that is read is refused only for what 1 to 5 and 8 say (specs/Log). Assumes nothing.
-use Prim.Native.Nat.{ℕ, _≤_}
+use Prim.Native.Nat.{ℕ}
 use mathlib.Core.Path.{_≡_, refl, sym, ap, _∙_}
 use mathlib.Core.List.{List}
 use native.Mathlib.Omega.{arith}
 use lib.ListN.{length}
-use Rattle.definitions.specs.declared.Numbers.{Numbers}
 use Rattle.definitions.specs.declared.Verdict.{Verdict}
 use Rattle.definitions.specs.Geometry.{axesOf}
 use Rattle.definitions.specs.Refusals.{verdictOf}
-use Rattle.definitions.specs.Text.{Entry, Text, textBytes, textRecords}
 use Rattle.definitions.specs.Log.{Finding, refuses, findingBy, judged, Finds, tooLong, broken, tooMany, read, LogOf, logFor, programTests, pictureLines, baseOf, Demand2Log}
 use Rattle.definitions.proofs.Texts.{one-place}
 use Rattle.definitions.proofs.Lines.{lines-differ}

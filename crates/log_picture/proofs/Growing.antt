@@ -2,7 +2,6 @@
 use Prim.Native.Nat.{ℕ, zero, suc, _+_, _*_, _/_, _%_, _≤_, _<_}
 use mathlib.Core.Path.{_≡_, refl, sym, ap, subst, _∙_}
 use mathlib.Core.List.{List, [], _∷_, _++_}
-use native.Mathlib.Nat.{mul-le-mul-right}
 use native.Mathlib.Numerals.{add-one}
 use native.Mathlib.Omega.{arith}
 use lib.IntN.{ℤ}
@@ -15,7 +14,7 @@ use Rattle.definitions.specs.Geometry.{fullSize, macroblocks}
 use Rattle.definitions.specs.Answer.{answerType}
 use Rattle.definitions.specs.Calls.{fullCount, madeAt, countsOf}
 use Rattle.definitions.specs.Log.{lineOf, mbWord, syncWord, answerPieces, macroblockLine, syncLine, pictureLines, logBytes}
-use Rattle.definitions.proofs.Counting.{sumOf, counts-sum}
+use Rattle.definitions.proofs.Counting.{counts-sum}
 use Rattle.definitions.proofs.Lines.{mb-short, sync-short, type-low, pieces-low}
 use Rattle.definitions.proofs.Parts.{parts, parts-more}
 use Rattle.upsample.specs.Staged.{AcceptedAxes}

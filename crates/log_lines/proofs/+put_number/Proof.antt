@@ -26,7 +26,6 @@ abbrev put-number-below : ℕ → In 1 put-number-kinds.ps
 put-number-below t =
     and 1 put-number-kinds.ps (falls 1 put-number-kinds.ps _<_ μ-put-number t) put-number.Pre
 
--- src/lib.rt:29:34
 put-number-digit-requires : (t : ℕ) → put-number-lts.Need-digit-requires (
   digit-reads.Asked,
   digit-reads.Learnt,
@@ -37,7 +36,6 @@ put-number-digit-requires : (t : ℕ) → put-number-lts.Need-digit-requires (
 ) (put-number-at t) put-number.Post
 put-number-digit-requires t c κs = search needs
 
--- src/lib.rt:29:9
 put-number-put-byte-requires : (t : ℕ) → put-number-lts.Need-put-byte-requires (
   digit-reads.Asked,
   digit-reads.Learnt,
@@ -50,7 +48,6 @@ put-number-put-byte-requires t c κs =
     let s = c .before .before .before .before in
     digit-fits (s .args .out .now) (s .args .at) (s .args .n) (c .digit .result) (omega arith) (s .pre .1)
 
--- src/lib.rt:29:9
 put-number-same-length : (t : ℕ) → put-number-lts.Need-same-length (
   digit-reads.Asked,
   digit-reads.Learnt,
@@ -61,7 +58,6 @@ put-number-same-length : (t : ℕ) → put-number-lts.Need-same-length (
 ) (put-number-at t) put-number.Post
 put-number-same-length t c = search needs
 
--- src/lib.rt:29:9
 put-number-returns : (t : ℕ) → put-number-lts.Need-returns (
   digit-reads.Asked,
   digit-reads.Learnt,
@@ -74,7 +70,6 @@ put-number-returns t c =
     let s = c .before .before .before .before .before .before .before in
     put-digit {n = s .args .n} (omega arith) (c .before .before .before .digit .ensures) (c .before .before .put-byte .ensures)
 
--- src/lib.rt:31:9
 put-number-put-number-requires : (t : ℕ) → put-number-lts.Need-put-number-requires (
   digit-reads.Asked,
   digit-reads.Learnt,
@@ -88,7 +83,6 @@ put-number-put-number-requires t c κs =
     let e = s .pre .0 in
     (omega arith, fits-first (s .args .out .now) (s .args .at) (decimal (s .args .n / 10)) (0 ∷ []) (digits-fit (s .args .out .now) (s .args .at) (s .args .n) 0 (omega arith) (s .pre .1)))
 
--- src/lib.rt:32:25
 put-number-digit-requires-2 : (t : ℕ) → put-number-lts.Need-digit-requires-2 (
   digit-reads.Asked,
   digit-reads.Learnt,
@@ -99,7 +93,6 @@ put-number-digit-requires-2 : (t : ℕ) → put-number-lts.Need-digit-requires-2
 ) (put-number-at t) put-number.Post
 put-number-digit-requires-2 t c κs = search needs
 
--- src/lib.rt:32:5
 put-number-put-byte-requires-2 : (t : ℕ) → put-number-lts.Need-put-byte-requires-2 (
   digit-reads.Asked,
   digit-reads.Learnt,
@@ -112,7 +105,6 @@ put-number-put-byte-requires-2 t c κs =
     let s = c .before .before .before .before .before .before .before .before in
     fits-then (c .digit2 .result ∷ []) (digits-fit (s .args .out .now) (s .args .at) (s .args .n) (c .digit2 .result) (omega arith) (s .pre .1)) (c .before .before .before .before .put-number .ensures)
 
--- src/lib.rt:24:1
 put-number-same-length-2 : (t : ℕ) → put-number-lts.Need-same-length-2 (
   digit-reads.Asked,
   digit-reads.Learnt,
@@ -123,7 +115,6 @@ put-number-same-length-2 : (t : ℕ) → put-number-lts.Need-same-length-2 (
 ) (put-number-at t) put-number.Post
 put-number-same-length-2 t c = search needs
 
--- src/lib.rt:24:1
 put-number-returns-2 : (t : ℕ) → put-number-lts.Need-returns-2 (
   digit-reads.Asked,
   digit-reads.Learnt,

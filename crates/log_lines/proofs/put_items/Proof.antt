@@ -1,6 +1,6 @@
 -- `log_lines::put_items` meets its contract. Assumes nothing.
-use Prim.Native.Nat.{ℕ, _-_, _≤_}
-use mathlib.Core.List.{List, [], _∷_}
+use Prim.Native.Nat.{_-_, _≤_}
+use mathlib.Core.List.{[], _∷_}
 use native.Mathlib.Omega.{arith}
 use lib.ListN.{length, take, getD}
 use borrow.Author.Needs.{needs}
@@ -9,10 +9,6 @@ use Rattle.log_lines.specs.Put.{Put, itemsOf}
 use Rattle.log_lines.proofs.Putting.{put-none, put-length, put-then, fits-first, fits-then, each-fits, each-put, each-all}
 use Rattle.log_lines.proofs.put_items.Statement.{statement}
 use Rattle.log_lines.proofs.put_items.Tie as tie
-use Rattle.log_lines.proofs.put_items.Reads as reads
-use Rattle.log_lines.proofs.put_items.Lts as lts
-use Rattle.log_lines.proofs.put_byte.Reads as put-byte-reads
-use Rattle.log_lines.proofs.put_number.Reads as put-number-reads
 
 abbrev Inv-loop : tie.InvT-loop
 Inv-loop out₀ at numbers next₀ k₀ out next k = (k ≤ length numbers) × Put out₀ at (itemsOf (take k numbers)) out next
@@ -20,52 +16,42 @@ Inv-loop out₀ at numbers next₀ k₀ out next k = (k ≤ length numbers) × P
 abbrev μ-loop : tie.MeasureT-loop
 μ-loop out₀ at numbers next₀ k₀ out next k = length numbers - k
 
--- src/lib.rt:55:5
 loop-holds : tie.Need-loop-holds Inv-loop μ-loop
 loop-holds c = (omega arith, put-none _ _)
 
--- src/lib.rt:56:13
 put-byte-requires : tie.Need-put-byte-requires Inv-loop μ-loop
 put-byte-requires c κs =
     let l = c .before .before .loop in
     let s = c .before .before .before .before .before in
     fits-first (l .out) (l .next) (32 ∷ []) (decimal (getD (s .args .numbers .now) (l .k) 0)) (each-fits (λ n. 32 ∷ decimal n) (s .args .numbers .now) (l .k) (l .inv .1) (omega arith) (s .pre))
 
--- src/lib.rt:57:40
 mul-put-number : tie.Need-mul-put-number Inv-loop μ-loop
 mul-put-number c = search needs
 
--- src/lib.rt:57:40
 shared-slice-read-put-number : tie.Need-shared-slice-read-put-number Inv-loop μ-loop
 shared-slice-read-put-number c = search needs
 
--- src/lib.rt:57:9
 put-number-requires : tie.Need-put-number-requires Inv-loop μ-loop
 put-number-requires c κs =
     let l = c .before .before .before .before .before .before .before .loop in
     let s = c .before .before .before .before .before .before .before .before .before .before in
     fits-then (decimal (getD (s .args .numbers .now) (l .k) 0)) (each-fits (λ n. 32 ∷ decimal n) (s .args .numbers .now) (l .k) (l .inv .1) (omega arith) (s .pre)) (c .before .before .before .before .put-byte .ensures)
 
--- src/lib.rt:58:9
 add-k : tie.Need-add-k Inv-loop μ-loop
 add-k c = search needs
 
--- src/lib.rt:55:5
 loop-less : tie.Need-loop-less Inv-loop μ-loop
 loop-less c = search needs
 
--- src/lib.rt:55:5
 loop-again : tie.Need-loop-again Inv-loop μ-loop
 loop-again c =
     let l = c .before .before .before .before .before .before .before .before .before .before .loop in
     let s = c .before .before .before .before .before .before .before .before .before .before .before .before .before in
     (omega arith, each-put (λ n. 32 ∷ decimal n) (s .args .numbers .now) (l .k) (l .inv .1) (omega arith) (put-then (c .before .before .before .before .before .before .before .put-byte .ensures) (c .before .before .put-number .ensures)))
 
--- src/lib.rt:49:1
 same-length : tie.Need-same-length Inv-loop μ-loop
 same-length c = put-length (c .before .loop .inv .1)
 
--- src/lib.rt:49:1
 returns : tie.Need-returns Inv-loop μ-loop
 returns c =
     let l = c .before .loop in

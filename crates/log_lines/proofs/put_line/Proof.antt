@@ -3,47 +3,35 @@ use Rattle.log_lines.proofs.Putting.{bracket-fits, word-fits, items-fit
 use borrow.Author.Needs.{needs}
 use Rattle.log_lines.proofs.put_line.Statement.{statement}
 use Rattle.log_lines.proofs.put_line.Tie as tie
-use Rattle.log_lines.proofs.put_line.Reads as reads
-use Rattle.log_lines.proofs.put_line.Lts as lts
-use Rattle.log_lines.proofs.put_byte.Reads as put-byte-reads
-use Rattle.log_lines.proofs.put_items.Reads as put-items-reads
-use Rattle.log_lines.proofs.put_word.Reads as put-word-reads
 
--- src/lib.rt:68:9
 put-byte-requires : tie.Need-put-byte-requires
 put-byte-requires c κs =
     let s = c .before .before .before .before in
     bracket-fits (s .args .word .now) (s .args .numbers .now) (s .args .out .now) (s .args .at) (s .pre)
 
--- src/lib.rt:69:9
 put-word-requires : tie.Need-put-word-requires
 put-word-requires c κs =
     let s = c .before .before .before .before .before .before .before .before in
     word-fits (s .args .word .now) (s .args .numbers .now) (s .args .out .now) (s .args .at) (s .pre) (c .before .before .before .put-byte .ensures)
 
--- src/lib.rt:70:9
 put-items-requires : tie.Need-put-items-requires
 put-items-requires c κs =
     let s = c .before .before .before .before .before .before .before .before .before .before .before .before in
     items-fit (s .args .word .now) (s .args .numbers .now) (s .args .out .now) (s .args .at) (s .pre) (c .before .before .before .before .before .before .before .put-byte .ensures) (c .before .before .before .put-word .ensures)
 
--- src/lib.rt:71:9
 put-byte-requires-2 : tie.Need-put-byte-requires-2
 put-byte-requires-2 c κs =
     let s = c .before .before .before .before .before .before .before .before .before .before .before .before .before .before .before .before in
     close-fits (s .args .word .now) (s .args .numbers .now) (s .args .out .now) (s .args .at) (s .pre) (c .before .before .before .before .before .before .before .before .before .before .before .put-byte .ensures) (c .before .before .before .before .before .before .before .put-word .ensures) (c .before .before .before .put-items .ensures)
 
--- src/lib.rt:72:5
 put-byte-requires-3 : tie.Need-put-byte-requires-3
 put-byte-requires-3 c κs =
     let s = c .before .before .before .before .before .before .before .before .before .before .before .before .before .before .before .before .before .before .before .before in
     feed-fits (s .args .word .now) (s .args .numbers .now) (s .args .out .now) (s .args .at) (s .pre) (c .before .before .before .before .before .before .before .before .before .before .before .before .before .before .before .put-byte .ensures) (c .before .before .before .before .before .before .before .before .before .before .before .put-word .ensures) (c .before .before .before .before .before .before .before .put-items .ensures) (c .before .before .before .put-byte2 .ensures)
 
--- src/lib.rt:64:1
 same-length : tie.Need-same-length
 same-length c = search needs
 
--- src/lib.rt:64:1
 returns : tie.Need-returns
 returns c =
     let s = c .before .before .before .before .before .before .before .before .before .before .before .before .before .before .before .before .before .before .before .before .before .before .before in

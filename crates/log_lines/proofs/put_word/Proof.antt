@@ -10,9 +10,6 @@ use Rattle.definitions.specs.Tests.{forEach}
 use Rattle.log_lines.specs.Put.{Fits, Put}
 use Rattle.log_lines.proofs.put_word.Statement.{statement}
 use Rattle.log_lines.proofs.put_word.Tie as tie
-use Rattle.log_lines.proofs.put_word.Reads as reads
-use Rattle.log_lines.proofs.put_word.Lts as lts
-use Rattle.log_lines.proofs.put_byte.Reads as put-byte-reads
 
 abbrev Inv-loop : tie.InvT-loop
 Inv-loop out₀ at word next₀ k₀ out next k = (k ≤ length word) × Put out₀ at (forEach (take k word) (λ b. b ∷ [])) out next
@@ -20,15 +17,12 @@ Inv-loop out₀ at word next₀ k₀ out next k = (k ≤ length word) × Put out
 abbrev μ-loop : tie.MeasureT-loop
 μ-loop out₀ at word next₀ k₀ out next k = length word - k
 
--- src/lib.rt:41:5
 loop-holds : tie.Need-loop-holds Inv-loop μ-loop
 loop-holds c = (omega arith, put-none _ _)
 
--- src/lib.rt:42:36
 shared-slice-read-put-byte : tie.Need-shared-slice-read-put-byte Inv-loop μ-loop
 shared-slice-read-put-byte c = search needs
 
--- src/lib.rt:42:9
 put-byte-requires : tie.Need-put-byte-requires Inv-loop μ-loop
 put-byte-requires c κs =
     let l = c .before .before .before .loop in
@@ -36,26 +30,21 @@ put-byte-requires c κs =
     let room = subst (λ (w : List ℕ). Fits (s .args .out .now) (s .args .at) w) (sym (bytes-each (s .args .word .now))) (s .pre) in
     each-fits (λ b. b ∷ []) (s .args .word .now) (l .k) (l .inv .1) (omega arith) room
 
--- src/lib.rt:43:9
 add-k : tie.Need-add-k Inv-loop μ-loop
 add-k c = search needs
 
--- src/lib.rt:41:5
 loop-less : tie.Need-loop-less Inv-loop μ-loop
 loop-less c = search needs
 
--- src/lib.rt:41:5
 loop-again : tie.Need-loop-again Inv-loop μ-loop
 loop-again c =
     let l = c .before .before .before .before .before .before .loop in
     let s = c .before .before .before .before .before .before .before .before .before in
     (omega arith, each-put (λ b. b ∷ []) (s .args .word .now) (l .k) (l .inv .1) (omega arith) (c .before .before .put-byte .ensures))
 
--- src/lib.rt:35:1
 same-length : tie.Need-same-length Inv-loop μ-loop
 same-length c = put-length (c .before .loop .inv .1)
 
--- src/lib.rt:35:1
 returns : tie.Need-returns Inv-loop μ-loop
 returns c =
     let l = c .before .loop in

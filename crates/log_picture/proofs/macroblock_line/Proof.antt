@@ -5,40 +5,28 @@ use Rattle.log_picture.proofs.Growing.{line-short}
 use borrow.Author.Needs.{needs}
 use Rattle.log_picture.proofs.macroblock_line.Statement.{statement}
 use Rattle.log_picture.proofs.macroblock_line.Tie as tie
-use Rattle.log_picture.proofs.macroblock_line.Reads as reads
-use Rattle.log_picture.proofs.macroblock_line.Lts as lts
-use Rattle.log_lines.proofs.put_line.Reads as put-line-reads
-use Rattle.log_picture.proofs.pieces_of.Reads as pieces-of-reads
-use Rattle.log_picture.proofs.type_of.Reads as type-of-reads
 
--- src/lib.rt:85:33
 type-of-requires : tie.Need-type-of-requires
 type-of-requires c κs = search needs
 
--- src/lib.rt:85:45
 pieces-of-requires : tie.Need-pieces-of-requires
 pieces-of-requires c κs = search needs
 
--- src/lib.rt:86:23
 slice-aggregate-put-line : tie.Need-slice-aggregate-put-line
 slice-aggregate-put-line c = search needs
 
--- src/lib.rt:86:30
 slice-aggregate-put-line-2 : tie.Need-slice-aggregate-put-line-2
 slice-aggregate-put-line-2 c = search needs
 
--- src/lib.rt:86:5
 put-line-requires : tie.Need-put-line-requires
 put-line-requires c κs =
     let s = c .before .before .before .before .before .before in
     rw (c .before .before .before .before .type-of .ensures, c .before .before .before .pieces-of .ensures)
     (omega (arith, line-short (s .args .column) (s .args .row) (s .args .a) (s .pre .0) (s .pre .1)))
 
--- src/lib.rt:81:1
 same-length : tie.Need-same-length
 same-length c = search needs
 
--- src/lib.rt:81:1
 returns : tie.Need-returns
 returns c = rw (sym (c .before .before .before .before .before .before .before .type-of .ensures), sym (c .before .before .before .before .before .before .pieces-of .ensures)) (c .before .before .put-line .ensures)
 

@@ -1,13 +1,13 @@
 -- `log_picture::picture_lines` meets its contract. Assumes nothing.
-use Prim.Native.Nat.{ℕ, _-_, _*_, _/_, _%_, _≤_}
-use mathlib.Core.Path.{_≡_, refl, sym, ap, _∙_}
+use Prim.Native.Nat.{_-_, _*_, _/_, _%_, _≤_}
+use mathlib.Core.Path.{_≡_, refl, ap, _∙_}
 use native.Mathlib.Omega.{arith}
-use lib.ListN.{length, getD}
+use lib.ListN.{getD}
 use borrow.Author.Needs.{needs}
 use Rattle.definitions.specs.Tests.{upTo}
 use Rattle.definitions.specs.Geometry.{fullSize, macroblocks}
 use Rattle.definitions.specs.Answer.{Made}
-use Rattle.definitions.specs.Calls.{fullCount, madeAt, countsOf}
+use Rattle.definitions.specs.Calls.{madeAt, countsOf}
 use Rattle.macroblock.specs.Made.{readOf}
 use Rattle.picture.specs.Reads.{noRead}
 use Rattle.picture.proofs.Filling.{Located, located, placeable, made-there, counts-none, counts-next, counts-low}
@@ -16,14 +16,6 @@ use Rattle.log_lines.proofs.Putting.{put-length}
 use Rattle.log_picture.proofs.Growing.{firstLines, first-short, none-put, line-more, line-last}
 use Rattle.log_picture.proofs.picture_lines.Statement.{statement}
 use Rattle.log_picture.proofs.picture_lines.Tie as tie
-use Rattle.log_picture.proofs.picture_lines.Reads as reads
-use Rattle.log_picture.proofs.picture_lines.Lts as lts
-use Rattle.log_picture.proofs.answer_at.Reads as answer-at-reads
-use Rattle.log_picture.proofs.macroblock_line.Reads as macroblock-line-reads
-use Rattle.log_picture.proofs.sync_line.Reads as sync-line-reads
-use Rattle.picture.proofs.axis_reads.Reads as axis-reads-reads
-use Rattle.picture.proofs.count.Reads as count-reads
-use Rattle.picture.proofs.full_count.Reads as full-count-reads
 
 abbrev Inv-loop : tie.InvT-loop
 Inv-loop g base out₀ across down width total counts₀ at₀ a₀ out counts at a = (a ≤ total) × Put out₀ 0 (firstLines g base a) out at × (counts ≡ countsOf (upTo a (madeAt g base)))
@@ -31,23 +23,18 @@ Inv-loop g base out₀ across down width total counts₀ at₀ a₀ out counts a
 abbrev μ-loop : tie.MeasureT-loop
 μ-loop g base out₀ across down width total counts₀ at₀ a₀ out counts at a = total - a
 
--- src/lib.rt:113:18
 axis-reads-requires : tie.Need-axis-reads-requires Inv-loop μ-loop
 axis-reads-requires c κs = c .before .pre .0 .placed .axes .horizontal
 
--- src/lib.rt:114:16
 axis-reads-requires-2 : tie.Need-axis-reads-requires-2 Inv-loop μ-loop
 axis-reads-requires-2 c κs = c .before .before .pre .0 .placed .axes .vertical
 
--- src/lib.rt:115:17
 cast-width : tie.Need-cast-width Inv-loop μ-loop
 cast-width c = search needs
 
--- src/lib.rt:116:9
 full-count-requires : tie.Need-full-count-requires Inv-loop μ-loop
 full-count-requires c κs = c .before .before .before .before .pre .0 .placed .axes
 
--- src/lib.rt:124:5
 loop-holds : tie.Need-loop-holds Inv-loop μ-loop
 loop-holds c =
     let s = c .before .before .before .before .before in
@@ -78,53 +65,42 @@ at-low c =
     let p = c .before .loop .inv .1 .after in
     omega (arith, first-short (s .args .g) (s .args .base .now) (s .pre .0 .placed .axes) (c .before .loop .a) (omega arith))
 
--- src/lib.rt:125:22
 rem-column : tie.Need-rem-column Inv-loop μ-loop
 rem-column c = omega (arith, there c)
 
--- src/lib.rt:126:19
 div-row : tie.Need-div-row Inv-loop μ-loop
 div-row c = omega (arith, there c)
 
--- src/lib.rt:127:17
 mul-h : tie.Need-mul-h Inv-loop μ-loop
 mul-h c = omega (arith, there c)
 
--- src/lib.rt:127:17
 array-copy-out-h : tie.Need-array-copy-out-h Inv-loop μ-loop
 array-copy-out-h c = omega (arith, there c)
 
--- src/lib.rt:128:17
 mul-v : tie.Need-mul-v Inv-loop μ-loop
 mul-v c = omega (arith, there (c .before))
 
--- src/lib.rt:128:17
 array-copy-out-v : tie.Need-array-copy-out-v Inv-loop μ-loop
 array-copy-out-v c = omega (arith, there (c .before))
 
--- src/lib.rt:129:13
 answer-at-requires : tie.Need-answer-at-requires Inv-loop μ-loop
 answer-at-requires c κs =
     let l = c .before .before in
     let s = l .before .before .before .before .before .before .before in
     placeable (s .args .g) (s .args .base .now) (s .pre .0) (l .before .loop .a) _ _ (across-read l) (down-read l)
 
--- src/lib.rt:130:9
 count-requires : tie.Need-count-requires Inv-loop μ-loop
 count-requires c κs =
     let l = c .before .before .before in
     let s = l .before .before .before .before .before .before .before in
     omega (arith, counts-low (madeAt (s .args .g) (s .args .base .now)) (l .before .loop .a) (l .before .loop .counts) (l .before .loop .inv .2), l .before .before .full-count .ensures .1)
 
--- src/lib.rt:131:39
 cast-macroblock-line : tie.Need-cast-macroblock-line Inv-loop μ-loop
 cast-macroblock-line c = omega (arith, there (c .before .before .before .before .before))
 
--- src/lib.rt:131:54
 cast-macroblock-line-2 : tie.Need-cast-macroblock-line-2 Inv-loop μ-loop
 cast-macroblock-line-2 c = omega (arith, there (c .before .before .before .before .before))
 
--- src/lib.rt:131:9
 macroblock-line-requires : tie.Need-macroblock-line-requires Inv-loop μ-loop
 macroblock-line-requires c κs =
     let l = c .before .before .before .before .before in
@@ -132,15 +108,12 @@ macroblock-line-requires c κs =
     let e = put-length (l .before .loop .inv .1) in
     (there l .column, there l .row, omega (arith, at-low l, s .pre .1, l .before .before .full-count .ensures .1))
 
--- src/lib.rt:132:9
 add-a : tie.Need-add-a Inv-loop μ-loop
 add-a c = search needs
 
--- src/lib.rt:124:5
 loop-less : tie.Need-loop-less Inv-loop μ-loop
 loop-less c = search needs
 
--- src/lib.rt:124:5
 loop-again : tie.Need-loop-again Inv-loop μ-loop
 loop-again c =
     let l = c .before .before .before .before .before .before .before .before in
@@ -154,11 +127,9 @@ loop-again c =
       counts-next f n (l .before .loop .counts) (c .before .before .before .before .count .result) _ (l .before .loop .inv .2) answer (c .before .before .before .before .count .ensures),
     )
 
--- src/lib.rt:134:24
 cast-sync-line : tie.Need-cast-sync-line Inv-loop μ-loop
 cast-sync-line c = search needs
 
--- src/lib.rt:134:5
 sync-line-requires : tie.Need-sync-line-requires Inv-loop μ-loop
 sync-line-requires c κs =
     let l = c .before .before .loop in
@@ -171,11 +142,9 @@ sync-line-requires c κs =
     let f = first-short (s .args .g) (s .args .base .now) (s .pre .0 .placed .axes) (l .a) (omega arith) in
     (few, omega arith, omega arith, omega arith, omega (arith, s .pre .1))
 
--- src/lib.rt:109:1
 same-length : tie.Need-same-length Inv-loop μ-loop
 same-length c = put-length (c .before .before .sync-line .ensures) ∙ put-length (c .before .before .before .before .before .loop .inv .1)
 
--- src/lib.rt:109:1
 returns : tie.Need-returns Inv-loop μ-loop
 returns c =
     let l = c .before .before .before .before .before .loop in

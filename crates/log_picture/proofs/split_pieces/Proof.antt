@@ -3,67 +3,49 @@ use native.Mathlib.Omega.{arith}
 use borrow.Author.Needs.{needs}
 use Rattle.log_picture.proofs.split_pieces.Statement.{statement}
 use Rattle.log_picture.proofs.split_pieces.Tie as tie
-use Rattle.log_picture.proofs.split_pieces.Reads as reads
-use Rattle.log_picture.proofs.split_pieces.Lts as lts
-use Rattle.log_picture.proofs.sub_pieces.Reads as sub-pieces-reads
 
--- src/lib.rt:56:26
 enum-told : tie.Need-enum-told
 enum-told c = search needs
 
--- src/lib.rt:57:25
 enum-told-2 : tie.Need-enum-told-2
 enum-told-2 c = search needs
 
--- src/lib.rt:58:25
 enum-told-3 : tie.Need-enum-told-3
 enum-told-3 c = search needs
 
--- src/lib.rt:59:21
 enum-known-s : tie.Need-enum-known-s
 enum-known-s c = search needs
 
--- src/lib.rt:64:13
 sub-pieces-requires : tie.Need-sub-pieces-requires
 sub-pieces-requires c κs = search needs
 
--- src/lib.rt:64:29
 sub-pieces-requires-2 : tie.Need-sub-pieces-requires-2
 sub-pieces-requires-2 c κs = search needs
 
--- src/lib.rt:64:13
 add-result : tie.Need-add-result
 add-result c = search needs
 
--- src/lib.rt:64:45
 sub-pieces-requires-3 : tie.Need-sub-pieces-requires-3
 sub-pieces-requires-3 c κs = search needs
 
--- src/lib.rt:64:13
 add-result-2 : tie.Need-add-result-2
 add-result-2 c = search needs
 
--- src/lib.rt:64:61
 sub-pieces-requires-4 : tie.Need-sub-pieces-requires-4
 sub-pieces-requires-4 c κs = search needs
 
--- src/lib.rt:64:13
 add-result-3 : tie.Need-add-result-3
 add-result-3 c = search needs
 
--- src/lib.rt:52:1
 returns : tie.Need-returns
 returns c = search needs
 
--- src/lib.rt:52:1
 returns-2 : tie.Need-returns-2
 returns-2 c = search needs
 
--- src/lib.rt:52:1
 returns-3 : tie.Need-returns-3
 returns-3 c = search needs
 
--- src/lib.rt:52:1
 returns-4 : tie.Need-returns-4
 returns-4 c = rw (c .before .before .before .before .before .s .given .1) (omega (arith, c .before .before .before .sub-pieces .ensures .0, c .before .before .sub-pieces2 .ensures .0, c .before .sub-pieces3 .ensures .0, c .sub-pieces4 .ensures .0))
 

@@ -4,30 +4,22 @@ use Rattle.definitions.proofs.Lines.{sync-short}
 use borrow.Author.Needs.{needs}
 use Rattle.log_picture.proofs.sync_line.Statement.{statement}
 use Rattle.log_picture.proofs.sync_line.Tie as tie
-use Rattle.log_picture.proofs.sync_line.Reads as reads
-use Rattle.log_picture.proofs.sync_line.Lts as lts
-use Rattle.log_lines.proofs.put_line.Reads as put-line-reads
 
--- src/lib.rt:95:23
 slice-aggregate-put-line : tie.Need-slice-aggregate-put-line
 slice-aggregate-put-line c = search needs
 
--- src/lib.rt:95:32
 slice-aggregate-put-line-2 : tie.Need-slice-aggregate-put-line-2
 slice-aggregate-put-line-2 c = search needs
 
--- src/lib.rt:95:5
 put-line-requires : tie.Need-put-line-requires
 put-line-requires c κs =
     let s = c .before .before .before .before in
     let k = s .args .c in
     omega (arith, sync-short (s .args .total) (k .inherited) (k .intra) (k .outside) (s .pre .0) (s .pre .1) (s .pre .2) (s .pre .3))
 
--- src/lib.rt:90:1
 same-length : tie.Need-same-length
 same-length c = search needs
 
--- src/lib.rt:90:1
 returns : tie.Need-returns
 returns c = search needs
 

@@ -1,0 +1,63 @@
+// The log program: a sync text from standard input, its log to standard output.
+ghost use Rattle.sync_log.specs.Input.{Within};
+use definitions::LogReply;
+
+// One byte more than the longest text, which tells a longer one.
+const TEXT_ROOM: usize = 65537;
+
+// The bytes that every log fits.
+const LOG_ROOM: usize = 1179679;
+
+// The bytes that were read, up to the end of the input or of the room for them; or a read failed.
+enum Input {
+    Text(usize),
+    Failed,
+}
+
+// Standard input, however its bytes arrive.
+fn read_input(buf: &mut [u8]) -> Input
+    ensures { λ r. ⌜ Within r (now (buf .exit)) ⌝ }
+{
+    let mut done: usize = 0;
+    while done < buf.len() {
+        let got = libc::read(libc::STDIN_FILENO, &mut buf[done..]);
+        if got < 0 {
+            return Input::Failed;
+        }
+        let more = io::count(got, &buf[done..]);
+        if more == 0 {
+            return Input::Text(done);
+        }
+        done += more;
+    }
+    Input::Text(done)
+}
+
+fn write_log(text: &[u8]) {
+    let mut out = [0u8; LOG_ROOM];
+    match log::log(text, &mut out) {
+        LogReply::Written(n) => {
+            if !io::write_all(libc::STDOUT_FILENO, &out[..n]) {
+                io::write_all(
+                    libc::STDERR_FILENO,
+                    b"sync_log: a write to standard output failed\n",
+                );
+            }
+        }
+        // There is always room.
+        LogReply::Refused(_) => {}
+    }
+}
+
+fn main() {
+    let mut text = [0u8; TEXT_ROOM];
+    match read_input(&mut text) {
+        Input::Text(n) => write_log(&text[..n]),
+        Input::Failed => {
+            io::write_all(
+                libc::STDERR_FILENO,
+                b"sync_log: a read of standard input failed\n",
+            );
+        }
+    }
+}
