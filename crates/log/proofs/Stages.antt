@@ -24,7 +24,7 @@ use Rattle.definitions.specs.Geometry.{axesOf}
 use Rattle.definitions.specs.Record.{recordWords}
 use Rattle.definitions.specs.Refusals.{refusal, verdictOf, geometryTests, geometryVerdict, baseCount, recordTests, allAddresses}
 use Rattle.definitions.specs.Text.{textRecords, TextAnswer, wrongWords, tooLong, broken, tooMany, read}
-use Rattle.definitions.specs.Log.{Finding, refuses, makes, findingBy, programTests, judged, baseOf, pictureLines, Finds, tooLong as findsTooLong, broken as findsBroken, tooMany as findsTooMany, read as findsRead, LogOf, logFor, refusedLine, logBytes, LogAnswer, logged}
+use Rattle.definitions.specs.Log.{Finding, refuses, makes, findingBy, programTests, judged, baseOf, pictureLines, Finds, tooLong as findsTooLong, broken as findsBroken, tooMany as findsTooMany, read as findsRead, LogOf, logFor, refusedLine, logBytes, LogAnswer, tooFew, logged}
 use Rattle.definitions.proofs.Choices.{of-true}
 use Rattle.definitions.proofs.Verdicts.{both-passed}
 use Rattle.definitions.proofs.Accepted.{accepted-axes}
@@ -186,3 +186,10 @@ refusal-logged {t} {out} {mid} {new} {r} {n} room k p =
     let l = refused-short r (k .low .0) (k .low .1) in
     let h = put-first out (refusedLine r) new n (omega arith) (subst (λ (o : List ℕ). Put o 0 (refusedLine r) new n) (k .same) p) in
     rw (h .0, h .1) (logged room (record { finding = refuses r; finds = k .finds; is = refl }))
+
+-- what is written lies in the buffer
+pub log-within : {t out new : List ℕ} {reply : LogReply} {n : ℕ} → LogAnswer t out reply new → reply ≡ Written n → n ≤ length new
+log-within (tooFew l) e = absurd (let z : _≡_ {A = ℕ} 0 1 = cc in omega arith)
+log-within {out = out} {n = n} (logged {log = log} room h) e =
+    let z : length log ≡ n = cc in
+    omega (arith, length-append log (drop (length log) out))
