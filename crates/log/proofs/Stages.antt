@@ -187,9 +187,16 @@ refusal-logged {t} {out} {mid} {new} {r} {n} room k p =
     let h = put-first out (refusedLine r) new n (omega arith) (subst (λ (o : List ℕ). Put o 0 (refusedLine r) new n) (k .same) p) in
     rw (h .0, h .1) (logged room (record { finding = refuses r; finds = k .finds; is = refl }))
 
--- what is written lies in the buffer
-pub log-within : {t out new : List ℕ} {reply : LogReply} {n : ℕ} → LogAnswer t out reply new → reply ≡ Written n → n ≤ length new
-log-within (tooFew l) e = absurd (let z : _≡_ {A = ℕ} 0 1 = cc in omega arith)
-log-within {out = out} {n = n} (logged {log = log} room h) e =
+-- with room for every log it is written, and lies in the buffer
+pub never-refused : {A : Type 0} {t out new : List ℕ} {reply : LogReply} {r : Refusal} → logBytes ≤ length out → LogAnswer t out reply new → reply ≡ NotWritten r → A
+never-refused room (tooFew l) e = absurd (omega arith)
+never-refused room (logged l h) e = absurd (let z : _≡_ {A = ℕ} 0 1 = cc in omega arith)
+
+within-by : {t out new : List ℕ} {reply : LogReply} {n : ℕ} → LogAnswer t out reply new → reply ≡ Written n → n ≤ length new
+within-by (tooFew l) e = absurd (let z : _≡_ {A = ℕ} 0 1 = cc in omega arith)
+within-by {out = out} {n = n} (logged {log = log} room h) e =
     let z : length log ≡ n = cc in
     omega (arith, length-append log (drop (length log) out))
+
+pub log-within : {t out new : List ℕ} {n : ℕ} → LogAnswer t out (Written n) new → n ≤ length new
+log-within h = within-by h refl

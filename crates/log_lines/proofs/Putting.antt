@@ -4,7 +4,7 @@ use mathlib.Core.Path.{_≡_, refl, sym, ap, subst, _∙_}
 use mathlib.Core.List.{List, [], _∷_, _++_, append-nil}
 use native.Mathlib.Numerals.{add-one}
 use native.Mathlib.Omega.{arith}
-use lib.ListN.{length, take, drop, getD, set, length-append, take-append-drop}
+use lib.ListN.{length, take, drop, getD, length-append, take-append-drop}
 use lib.Seq.{sets, length-sets, take-suc, take-all}
 use Rattle.definitions.specs.Tests.{forEach}
 use Rattle.definitions.specs.Log.{decimal, lineOf}
@@ -15,9 +15,6 @@ use Rattle.log_lines.specs.Put.{Fits, Put, itemsOf}
 
 pub put-none : (old : List ℕ) (at : ℕ) → Put old at [] old at
 put-none old at = record { stored = refl; after = omega arith }
-
-pub put-one : (old : List ℕ) (at b : ℕ) → Put old at (b ∷ []) (set old at b) (at + 1)
-put-one old at b = record { stored = refl; after = refl }
 
 -- bytes behind bytes
 pub put-then : {old mid new : List ℕ} {at m n : ℕ} {xs ys : List ℕ} → Put old at xs mid m → Put mid m ys new n → Put old at (xs ++ ys) new n

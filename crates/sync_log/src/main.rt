@@ -1,4 +1,6 @@
 // The log program: a sync text from standard input, its log to standard output.
+ghost use Prim.Native.Nat.{_≤_};
+ghost use Rattle.definitions.specs.Log.{LogAnswer, logBytes};
 ghost use Rattle.sync_log.specs.Input.{Within};
 ghost use lib.ListN.{length};
 ghost use mathlib.Core.Path.{_≡_};
@@ -42,26 +44,31 @@ fn log_room() -> [u8; LOG_ROOM]
     [0; LOG_ROOM]
 }
 
-fn write_log(text: &[u8]) {
+// The log of a text, at the start of a buffer that every log fits.
+fn log_of(text: &[u8], out: &mut [u8]) -> usize
+    requires { ⌜ logBytes ≤ length (now out) ⌝ }
+    ensures { λ r. ⌜ LogAnswer (now (text .entry)) (now (out .entry)) (LogReply.Written r) (now (out .exit)) ⌝ }
+{
+    match log::log(text, out) {
+        LogReply::Written(n) => n,
+        // Never: there is room.
+        LogReply::Refused(_) => 0,
+    }
+}
+
+fn main() {
+    let mut text = [0u8; TEXT_ROOM];
     let mut out = log_room();
-    match log::log(text, &mut out) {
-        LogReply::Written(n) => {
-            if !io::write_all(libc::STDOUT_FILENO, &out[..n]) {
+    match read_input(&mut text) {
+        Input::Text(n) => {
+            let end = log_of(&text[..n], &mut out);
+            if !io::write_all(libc::STDOUT_FILENO, &out[..end]) {
                 io::write_all(
                     libc::STDERR_FILENO,
                     b"sync_log: a write to standard output failed\n",
                 );
             }
         }
-        // There is always room.
-        LogReply::Refused(_) => {}
-    }
-}
-
-fn main() {
-    let mut text = [0u8; TEXT_ROOM];
-    match read_input(&mut text) {
-        Input::Text(n) => write_log(&text[..n]),
         Input::Failed => {
             io::write_all(
                 libc::STDERR_FILENO,
