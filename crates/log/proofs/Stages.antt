@@ -24,15 +24,15 @@ use Rattle.definitions.specs.Geometry.{axesOf}
 use Rattle.definitions.specs.Record.{recordWords}
 use Rattle.definitions.specs.Refusals.{refusal, verdictOf, geometryTests, geometryVerdict, baseCount, recordTests, allAddresses}
 use Rattle.definitions.specs.Text.{textRecords, TextAnswer, wrongWords, tooLong, broken, tooMany, read}
-use Rattle.definitions.specs.Log.{Finding, refuses, makes, findingBy, programTests, judged, baseOf, pictureLines, Finds, tooLong as findsTooLong, broken as findsBroken, tooMany as findsTooMany, read as findsRead, LogOf, logFor, refusedLine, logBytes, LogAnswer, tooFew, logged}
+use Rattle.definitions.specs.Log.{Finding, refuses, makes, findingBy, programTests, judged, baseOf, pictureLines, Finds, tooLong as findsTooLong, broken as findsBroken, tooMany as findsTooMany, read as findsRead, LogOf, logFor, lineOf, refusedWord, refusedLine, logBytes, LogAnswer, tooFew, logged}
 use Rattle.definitions.proofs.Choices.{of-true}
 use Rattle.definitions.proofs.Verdicts.{both-passed}
 use Rattle.definitions.proofs.Accepted.{accepted-axes}
-use Rattle.definitions.proofs.Lines.{refused-short}
+use Rattle.definitions.proofs.Lines.{digits5, refused-short}
 use Rattle.definitions.proofs.Findings.{numbers-wrong, count-wrong, count-right, RefusedBy, by-number, by-record, refused-by}
 use Rattle.grammar.proofs.Words.{text-words}
 use Rattle.upsample.specs.Staged.{AcceptedAxes}
-use Rattle.log_lines.specs.Put.{Put}
+use Rattle.log_lines.specs.Put.{Fits, Put}
 use Rattle.log_picture.proofs.Growing.{picture-short}
 use Rattle.log.specs.Given.{Given, kept, lines}
 
@@ -40,6 +40,11 @@ use Rattle.log.specs.Given.{Given, kept, lines}
 pub put-first : (out log new : List ℕ) (n : ℕ) → length log ≤ length out → Put out 0 log new n → (n ≡ length log) × (new ≡ log ++ drop (length log) out)
 put-first out log new n l p =
     (p .after ∙ zero-add (length log), p .stored ∙ (sets-eq log out 0 (omega arith) ∙ ap (λ (k : ℕ). log ++ drop k out) (zero-add (length log))))
+
+-- there is room for a refusal's line
+pub refused-room : (out : List ℕ) (a b : ℕ) → 31 ≤ length out → a ≤ 65536 → b ≤ 65536 → Fits out 0 (lineOf refusedWord (a ∷ b ∷ []))
+unfolding lineOf
+refused-room out a b room p q = simp length-append (omega (arith, digits5 a (omega arith), digits5 b (omega arith)))
 
 -- ---- what is given by a verdict
 module _ (out log : List ℕ) (v : Verdict) where

@@ -20,12 +20,20 @@ use Rattle.definitions.proofs.Parts.{parts, parts-more}
 use Rattle.upsample.specs.Staged.{AcceptedAxes}
 use Rattle.upsample.proofs.Sizes.{full-small}
 use Rattle.picture.proofs.Filling.{located}
-use Rattle.log_lines.specs.Put.{Put}
+use Rattle.log_lines.specs.Put.{Fits, Put}
 use Rattle.log_lines.proofs.Putting.{put-none, put-then}
 
 -- a macroblock's line is short enough wherever its column and row are
 pub line-short : (column row : ℕ) (a : Answer) → column < 256 → row < 256 → length (lineOf mbWord (column ∷ row ∷ answerType a ∷ answerPieces a ∷ [])) ≤ 18
 line-short column row a p q = mb-short column row (answerType a) (answerPieces a) p q (type-low a) (let l = pieces-low a in omega arith)
+
+-- there is room for it, and for a sync line
+pub mb-room : (out : List ℕ) (at column row type pieces : ℕ) → at + 18 ≤ length out → column < 256 → row < 256 → type < 10 → pieces < 100
+    → Fits out at (lineOf mbWord (column ∷ row ∷ type ∷ pieces ∷ []))
+mb-room out at column row type pieces room a b c d = omega (arith, mb-short column row type pieces a b c d)
+
+pub sync-room : (out : List ℕ) (at a b c d : ℕ) → at + 31 ≤ length out → a ≤ 65536 → b ≤ 65536 → c ≤ 65536 → d ≤ 65536 → Fits out at (lineOf syncWord (a ∷ b ∷ c ∷ d ∷ []))
+sync-room out at a b c d room p q r s = omega (arith, sync-short a b c d p q r s)
 
 module _ (g : Axes) (base : List ℤ) where
   abbrev line : ℕ → List ℕ

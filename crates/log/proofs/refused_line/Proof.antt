@@ -1,7 +1,6 @@
 -- `log::refused_line` meets its contract. Assumes nothing.
-use native.Mathlib.Omega.{arith}
 use Rattle.definitions.specs.Log.{refusedLine}
-use Rattle.definitions.proofs.Lines.{refused-short}
+use Rattle.log.proofs.Stages.{refused-room}
 use borrow.Author.Needs.{needs}
 use Rattle.log.proofs.refused_line.Statement.{statement}
 use Rattle.log.proofs.refused_line.Tie as tie
@@ -13,10 +12,9 @@ slice-aggregate-put-line-2 : tie.Need-slice-aggregate-put-line-2
 slice-aggregate-put-line-2 c = search needs
 
 put-line-requires : tie.Need-put-line-requires
-unfolding refusedLine
 put-line-requires c κs =
     let s = c .before .before .before .before in
-    omega (arith, refused-short (s .args .r) (s .pre .0) (s .pre .1))
+    refused-room (s .args .out .now) _ _ (s .pre .2) (search needs) (search needs)
 
 same-length : tie.Need-same-length
 same-length c = search needs

@@ -1,7 +1,8 @@
 -- `log_picture::macroblock_line` meets its contract. Assumes nothing.
 use native.Mathlib.Omega.{arith}
 use mathlib.Core.Path.{sym}
-use Rattle.log_picture.proofs.Growing.{line-short}
+use Rattle.definitions.proofs.Lines.{type-low, pieces-low}
+use Rattle.log_picture.proofs.Growing.{mb-room}
 use borrow.Author.Needs.{needs}
 use Rattle.log_picture.proofs.macroblock_line.Statement.{statement}
 use Rattle.log_picture.proofs.macroblock_line.Tie as tie
@@ -21,8 +22,9 @@ slice-aggregate-put-line-2 c = search needs
 put-line-requires : tie.Need-put-line-requires
 put-line-requires c κs =
     let s = c .before .before .before .before .before .before in
-    rw (c .before .before .before .before .type-of .ensures, c .before .before .before .pieces-of .ensures)
-    (omega (arith, line-short (s .args .column) (s .args .row) (s .args .a) (s .pre .0) (s .pre .1)))
+    let t = type-low (s .args .a) in
+    let p = pieces-low (s .args .a) in
+    mb-room (s .args .out .now) (s .args .at) _ _ _ _ (s .pre .2) (search needs) (search needs) (omega (arith, c .before .before .before .before .type-of .ensures)) (omega (arith, c .before .before .before .pieces-of .ensures))
 
 same-length : tie.Need-same-length
 same-length c = search needs

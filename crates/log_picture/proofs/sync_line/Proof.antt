@@ -1,6 +1,5 @@
 -- `log_picture::sync_line` meets its contract. Assumes nothing.
-use native.Mathlib.Omega.{arith}
-use Rattle.definitions.proofs.Lines.{sync-short}
+use Rattle.log_picture.proofs.Growing.{sync-room}
 use borrow.Author.Needs.{needs}
 use Rattle.log_picture.proofs.sync_line.Statement.{statement}
 use Rattle.log_picture.proofs.sync_line.Tie as tie
@@ -14,8 +13,7 @@ slice-aggregate-put-line-2 c = search needs
 put-line-requires : tie.Need-put-line-requires
 put-line-requires c κs =
     let s = c .before .before .before .before in
-    let k = s .args .c in
-    omega (arith, sync-short (s .args .total) (k .inherited) (k .intra) (k .outside) (s .pre .0) (s .pre .1) (s .pre .2) (s .pre .3))
+    sync-room (s .args .out .now) (s .args .at) _ _ _ _ (s .pre .4) (search needs) (search needs) (search needs) (search needs)
 
 same-length : tie.Need-same-length
 same-length c = search needs
