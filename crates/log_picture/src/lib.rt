@@ -1,10 +1,10 @@
 // The lines of a picture's log, on a geometry and records that were checked.
 ghost use Prim.Native.Nat.{_+_, _≤_, _<_};
 ghost use Rattle.definitions.specs.Answer.{answerType};
+ghost use Rattle.definitions.specs.Calls.{fullCount, madeAt};
 ghost use Rattle.definitions.specs.Log.{answerPieces, lineOf, logBytes, mbWord, pictureLines, syncWord};
 ghost use Rattle.definitions.specs.Splits.{count, subCount};
 ghost use Rattle.log_lines.specs.Put.{Put};
-ghost use Rattle.macroblock.specs.Made.{Placeable, placedBy};
 ghost use Rattle.upsample.specs.Staged.{Formed};
 ghost use lib.ListN.{length};
 ghost use mathlib.Core.List.{[], _∷_};
@@ -15,10 +15,9 @@ use definitions::Counts;
 use definitions::Split;
 use definitions::SubSplit;
 use log_lines::put_line;
-use macroblock::AxisRead;
+use macroblock::axis_read;
 use macroblock::place;
 use macroblock::type_number;
-use picture::axis_reads;
 use picture::full_count;
 
 // ---- The numbers of a line
@@ -96,11 +95,14 @@ fn sync_line(out: &mut [u8], at: usize, total: u32, c: Counts) -> usize
 }
 
 // ---- The picture
-// A macroblock's answer. Its words are not logged.
-fn answer_at(g: Axes, base: &[i16], h: AxisRead, v: AxisRead) -> Answer
-    requires { ⌜ Placeable g h v (now base) ⌝ }
-    ensures { λ r. ⌜ r ≡ placedBy g h v (now (base .entry)) .answer ⌝ }
+// The answer at an address of the picture. Its words are not logged.
+fn answer_at(g: Axes, base: &[i16], a: usize) -> Answer
+    requires { ⌜ Formed g (now base) × (a < fullCount g) ⌝ }
+    ensures { λ r. ⌜ r ≡ madeAt g (now (base .entry)) a .answer ⌝ }
 {
+    let width = (g.horizontal.full.0 / 16) as usize;
+    let h = axis_read(g.horizontal, (a % width) as u32);
+    let v = axis_read(g.vertical, (a / width) as u32);
     let mut words = [0i16; 77];
     place(g, base, h, v, &mut words)
 }
@@ -110,8 +112,6 @@ pub fn picture_lines(g: Axes, base: &[i16], out: &mut [u8]) -> usize
     requires { ⌜ Formed g (now base) × (logBytes ≤ length (now out)) ⌝ }
     ensures { λ r. ⌜ Put (now (out .entry)) 0 (pictureLines g (now (base .entry))) (now (out .exit)) r ⌝ }
 {
-    let across = axis_reads(g.horizontal);
-    let down = axis_reads(g.vertical);
     let width = (g.horizontal.full.0 / 16) as usize;
     let total = full_count(g);
     let mut counts = Counts {
@@ -122,13 +122,9 @@ pub fn picture_lines(g: Axes, base: &[i16], out: &mut [u8]) -> usize
     let mut at: usize = 0;
     let mut a: usize = 0;
     while a < total {
-        let column = a % width;
-        let row = a / width;
-        let h = across[column];
-        let v = down[row];
-        let answer = answer_at(g, base, h, v);
+        let answer = answer_at(g, base, a);
         counts = picture::count(counts, answer);
-        at = macroblock_line(out, at, column as u32, row as u32, answer);
+        at = macroblock_line(out, at, (a % width) as u32, (a / width) as u32, answer);
         a += 1;
     }
     sync_line(out, at, total as u32, counts)

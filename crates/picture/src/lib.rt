@@ -30,7 +30,7 @@ use upsample::refused;
 const RECORD_WORDS: usize = 77;
 
 // The axis at each column (row): 256 is the most that a picture has.
-pub fn axis_reads(a: Axis) -> [AxisRead; 256]
+fn axis_reads(a: Axis) -> [AxisRead; 256]
     requires { ⌜ AcceptedAxis a ⌝ }
     ensures { λ r. ⌜ AxisReads a 256 r ⌝ }
 {
