@@ -31,3 +31,5 @@ pub mod SessionRefusals
 pub mod SessionExamples
 pub mod Formed
 pub mod Texts
+pub mod Lines
+pub mod Findings

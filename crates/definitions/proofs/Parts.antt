@@ -5,7 +5,7 @@ use mathlib.Core.List.{List, [], _∷_, _++_, append-assoc, append-nil}
 use native.Mathlib.Nat.{mul-zero, mul-suc}
 use native.Mathlib.Numerals.{add-one}
 use native.Mathlib.Omega.{arith}
-use lib.ListN.{length, take, drop, length-append, drop-of-length-le}
+use lib.ListN.{length, take, drop, set, length-append, drop-of-length-le}
 use lib.Seq.{take-at, drop-at, drop-drop, sets, sets-eq}
 use Rattle.definitions.specs.Tests.{upTo, forEach}
 use Rattle.definitions.proofs.RecordLists.{joined-each}
@@ -59,3 +59,10 @@ parts-all f size out n k l e = rw (e, drop-of-length-le out {i = size * n} (omeg
 pub stored-all : {A : Type 0} (vs out : List A) → length out ≡ length vs → sets out 0 vs ≡ vs
 stored-all vs out e =
     sets-eq vs out 0 (omega arith) ∙ rw (drop-of-length-le out {i = 0 + length vs} (omega arith)) (append-nil vs)
+
+-- and two runs of words, the second behind the first
+pub sets-append : {A : Type 0} (l : List A) (i : ℕ) (xs ys : List A) → sets l i (xs ++ ys) ≡ sets (sets l i xs) (i + length xs) ys
+sets-append l i [] ys = ap (λ (x : ℕ). sets l x ys) (let q : i ≡ i + 0 = omega arith in q)
+sets-append l i (v ∷ vs) ys =
+    sets-append (set l i v) (suc i) vs ys
+    ∙ ap (λ (x : ℕ). sets (sets (set l i v) (suc i) vs) x ys) (let q : suc i + length vs ≡ i + suc (length vs) = omega arith in q)

@@ -1,5 +1,6 @@
 -- "Bench examples" of document 01: the starred ones, in one table, proved by one statement.
 use Prim.Native.Nat.{ℕ}
+use mathlib.Core.Path.{_≡_, refl}
 use mathlib.Core.Bool.{Bool, true, false, not, _&&_}
 use mathlib.Core.List.{List, [], _∷_, _++_}
 use lib.Count.{ones, onesIn}
@@ -20,7 +21,9 @@ use Rattle.definitions.specs.Record.{recordWords, recordAt, motionOf, sp
 use Rattle.definitions.specs.Inheriting.{setOf, intraSet, gathered, source, clearOf, filled, lower, lowest, having, unused, zeroPrediction, mergedList, merged, someOf, liveOf, copiedFrom, copied, resolved, scaledWord, scaledPrediction, scaledMotion, inheritedMotions}
 use Rattle.definitions.specs.Answer.{namedAt, answerOf, answerType, addressesOf, unusedMotion, writtenFor, madeOf}
 use Rattle.definitions.specs.Refusals.{geometryTests, recordTests, addressesRead}
-use Rattle.definitions.specs.Calls.{macroblockTests, macroblockCall}
+use Rattle.definitions.specs.Calls.{macroblockTests, macroblockCall, madeAt, countsOf}
+use Rattle.definitions.specs.Text.{Entry, whole}
+use Rattle.definitions.specs.Log.{digitsIn, decimal, lineOf, macroblockLine, syncLine, pictureLines, programTests, judged, baseOf, makes}
 use Rattle.definitions.specs.Geometry.{columnsRead}
 
 -- what an axis gives for a macroblock: outside, or M, N, F and whether two columns are read
@@ -112,3 +115,27 @@ starred =
 pub starred-hold : T (allOf holds starred)
 unfolding allOf allBelow pick upTo insideAxis mOf nOf fOf twoOf columnsRead digitsOf coordinateOf stepOf addressRead blockRead sameMotion samePrediction alike oneEach fewestIn recordAt motionOf splitSaid rule1 rule2 rule3 rule4 rule5 rule6 firstBroken laidOut setOf intraSet gathered source clearOf filled lower lowest having mergedList merged someOf liveOf copiedFrom copied resolved scaledPrediction scaledMotion inheritedMotions namedAt answerOf addressesOf writtenFor madeOf geometryTests recordTests addressesRead macroblockTests macroblockCall ones onesIn
 starred-hold = tt
+
+-- Whole case ("Sync text and log"): base 16 16, scaled 32 32, at 0 0, full 48 32, one record (whole (0 -1) (4 -8 0 0))
+abbrev wholeAxis : ℕ → AxisNumbers
+wholeAxis full = record { base = pos 16; scaled = pos 32; offset = pos 0; full = pos full }
+
+abbrev pub wholeCase : Numbers
+wholeCase = record { horizontal = wholeAxis 48; vertical = wholeAxis 32 }
+
+abbrev pub wholeEntries : List Entry
+wholeEntries = record { kind = whole; fields = pos 0 ∷ minus 1 ∷ pos 4 ∷ minus 8 ∷ pos 0 ∷ pos 0 ∷ [] } ∷ []
+
+abbrev pub wholeLog : List ℕ
+wholeLog =
+    (40 ∷ 109 ∷ 98 ∷ 32 ∷ 48 ∷ 32 ∷ 48 ∷ 32 ∷ 49 ∷ 32 ∷ 49 ∷ 41 ∷ 10 ∷ [])
+    ++ ((40 ∷ 109 ∷ 98 ∷ 32 ∷ 49 ∷ 32 ∷ 48 ∷ 32 ∷ 49 ∷ 32 ∷ 49 ∷ 41 ∷ 10 ∷ [])
+    ++ ((40 ∷ 109 ∷ 98 ∷ 32 ∷ 50 ∷ 32 ∷ 48 ∷ 32 ∷ 53 ∷ 32 ∷ 48 ∷ 41 ∷ 10 ∷ [])
+    ++ ((40 ∷ 109 ∷ 98 ∷ 32 ∷ 48 ∷ 32 ∷ 49 ∷ 32 ∷ 49 ∷ 32 ∷ 49 ∷ 41 ∷ 10 ∷ [])
+    ++ ((40 ∷ 109 ∷ 98 ∷ 32 ∷ 49 ∷ 32 ∷ 49 ∷ 32 ∷ 49 ∷ 32 ∷ 49 ∷ 41 ∷ 10 ∷ [])
+    ++ ((40 ∷ 109 ∷ 98 ∷ 32 ∷ 50 ∷ 32 ∷ 49 ∷ 32 ∷ 53 ∷ 32 ∷ 48 ∷ 41 ∷ 10 ∷ [])
+    ++ (40 ∷ 115 ∷ 121 ∷ 110 ∷ 99 ∷ 32 ∷ 54 ∷ 32 ∷ 52 ∷ 32 ∷ 48 ∷ 32 ∷ 50 ∷ 41 ∷ 10 ∷ []))))))
+
+pub whole-holds : judged wholeCase 1 (baseOf wholeEntries) ≡ makes wholeLog
+unfolding allOf allBelow pick upTo insideAxis mOf nOf fOf twoOf columnsRead digitsOf coordinateOf stepOf addressRead blockRead sameMotion samePrediction alike oneEach fewestIn recordAt motionOf splitSaid rule1 rule2 rule3 rule4 rule5 rule6 firstBroken laidOut setOf intraSet gathered source clearOf filled lower lowest having mergedList merged someOf liveOf copiedFrom copied resolved scaledPrediction scaledMotion inheritedMotions namedAt answerOf addressesOf writtenFor madeOf geometryTests recordTests ones onesIn madeAt countsOf digitsIn decimal lineOf macroblockLine syncLine pictureLines programTests
+whole-holds = refl

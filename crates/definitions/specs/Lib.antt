@@ -12,5 +12,6 @@ pub mod Refusals
 pub mod Calls
 pub mod Session
 pub mod Text
+pub mod Log
 pub mod Demand3
 pub mod Examples

@@ -143,3 +143,9 @@ pub enum TextReply {
     Read(TextRead),
     Refused(Refusal),
 }
+
+// What the log call gives: the length of the log, or why none is written.
+pub enum LogReply {
+    Written(usize),
+    Refused(Refusal),
+}

@@ -1,15 +1,18 @@
--- Examples of refusal 9's place, by one statement over one table: the machine computes each.
+-- Examples: refusal 9's place, by one statement over one table, and the Whole case. The machine computes each.
 use Prim.Native.Nat.{ℕ, _+_}
-use mathlib.Core.Path.{_≡_, refl}
+use mathlib.Core.Path.{_≡_, refl, subst}
 use mathlib.Core.Bool.{Bool, true, false, _&&_, cond}
-use mathlib.Core.List.{List, [], _∷_}
+use mathlib.Core.List.{List, [], _∷_, _++_}
 use native.Mathlib.Omega.{arith}
 use lib.Dec.{T, ltb, leb}
 use lib.ListN.{length}
 use borrow.Author.Tests.{ltb-true, ltb-false, leb-true}
 use Rattle.definitions.specs.Text.{BreaksAt}
+use Rattle.definitions.specs.Log.{makes, Finds, read, LogOf}
+use Rattle.definitions.specs.Examples.{wholeCase, wholeEntries, wholeLog, whole-holds}
 use Rattle.grammar.specs.Machine.{Cfg, dead, live, step, stepK, δ, classOf, runs, stateAt, Alive, Waiting}
 use Rattle.grammar.specs.Promises.{Ended}
+use Rattle.grammar.proofs.Runs.{ends-text-as}
 use Rattle.grammar.proofs.Openings.{waiting-alive}
 use Rattle.grammar.proofs.Whole.{ended-breaks}
 
@@ -125,3 +128,21 @@ all-right (r ∷ rs) h =
 pub table-right : Right table
 unfolding stateAt runs step stepK δ classOf
 table-right = all-right table tt
+
+-- Whole case of document 01, from the text to the log
+abbrev wholeText : List ℕ
+wholeText =
+    (40 ∷ 98 ∷ 97 ∷ 115 ∷ 101 ∷ 32 ∷ 49 ∷ 54 ∷ 32 ∷ 49 ∷ 54 ∷ 41 ∷ 10 ∷ [])
+    ++ ((40 ∷ 115 ∷ 99 ∷ 97 ∷ 108 ∷ 101 ∷ 100 ∷ 32 ∷ 51 ∷ 50 ∷ 32 ∷ 51 ∷ 50 ∷ 41 ∷ 10 ∷ [])
+    ++ ((40 ∷ 97 ∷ 116 ∷ 32 ∷ 48 ∷ 32 ∷ 48 ∷ 41 ∷ 10 ∷ [])
+    ++ ((40 ∷ 102 ∷ 117 ∷ 108 ∷ 108 ∷ 32 ∷ 52 ∷ 56 ∷ 32 ∷ 51 ∷ 50 ∷ 41 ∷ 10 ∷ [])
+    ++ (40 ∷ 119 ∷ 104 ∷ 111 ∷ 108 ∷ 101 ∷ 32 ∷ 40 ∷ 48 ∷ 32 ∷ 45 ∷ 49 ∷ 41 ∷ 32 ∷ 40 ∷ 52 ∷ 32 ∷ 45 ∷ 56 ∷ 32 ∷ 48 ∷ 32 ∷ 48 ∷ 41 ∷ 41 ∷ 10 ∷ []))))
+
+pub whole-log : LogOf wholeText wholeLog
+unfolding runs step stepK δ classOf
+whole-log =
+    record {
+      finding = makes wholeLog;
+      finds = subst (Finds wholeText) whole-holds (read (leb-true _ _ refl) (ends-text-as wholeCase wholeEntries refl) (leb-true _ _ refl));
+      is = refl;
+    }

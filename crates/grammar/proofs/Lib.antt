@@ -13,4 +13,6 @@ pub mod Openings
 pub mod Whole
 pub mod Again
 pub mod Once
+pub mod OneLog
+pub mod Words
 pub mod Examples

@@ -18,7 +18,7 @@ pub record Same (r s : TextReply) (v w : List ℤ) : Type 0 where
   pub reply : r ≡ s
   pub words : v ≡ w
 
-belongs : {t : List ℕ} (n : Numbers) (es : List Entry) → Text n es t → Belongs t
+pub belongs : {t : List ℕ} (n : Numbers) (es : List Entry) → Text n es t → Belongs t
 belongs n es h = record { numbers = n; entries = es; text = h }
 
 pub one-answer : {t : List ℕ} {words : List ℤ} {r s : TextReply} {v w : List ℤ} → TextAnswer t words r v → TextAnswer t words s w → Same r s v w

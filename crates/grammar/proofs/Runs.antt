@@ -240,7 +240,7 @@ abbrev fieldsOf : List Kind → ℕ
 fieldsOf [] = 0
 fieldsOf (k ∷ ks) = fieldsIn (tailOf k) + fieldsOf ks
 
-form-count : {ps : List Part} {vs : List ℤ} {t : List ℕ} → Form ps vs t → length vs ≡ fieldsIn ps
+pub form-count : {ps : List Part} {vs : List ℤ} {t : List ℕ} → Form ps vs t → length vs ≡ fieldsIn ps
 form-count nothing = refl
 form-count (isByte f) = form-count f
 form-count (isSpaced n f) = ap suc (form-count f)

@@ -10,6 +10,7 @@ use lib.Seq.{sets, sets-eq, length-sets}
 use Rattle.definitions.specs.Record.{recordWords}
 use Rattle.definitions.specs.Answer.{unusedMotion}
 use Rattle.definitions.specs.Text.{intra, whole, mb, wholeMotion, wordsFor}
+use Rattle.definitions.proofs.Parts.{sets-append}
 use Rattle.definitions.proofs.Records.{laid-length}
 use Rattle.grammar.specs.declared.Got.{Got}
 use Rattle.grammar.specs.declared.Got.the-variants.{At, Bad}
@@ -17,12 +18,6 @@ use Rattle.grammar.specs.declared.Num.the-variants.{Value, Wrong}
 use Rattle.grammar.specs.declared.Pair.the-variants.{Both}
 use Rattle.grammar.specs.Machine.{Sym, field, gap, shut, lits, Ev, num, nums, live, stateAt}
 use Rattle.grammar.specs.Promises.{WordTo, FieldTo, pairOf, TwoTo, fields, Touched, Stored, StoresTo, Within, ThenWordTo, ThenWord, ThenStoresTo, ThenStores, tail, TailTo}
-
-sets-append : (l : List ℤ) (i : ℕ) (xs ys : List ℤ) → sets l i (xs ++ ys) ≡ sets (sets l i xs) (i + length xs) ys
-sets-append l i [] ys = ap (λ (x : ℕ). sets l x ys) (let q : i ≡ i + 0 = omega arith in q)
-sets-append l i (v ∷ vs) ys =
-    sets-append (set l i v) (suc i) vs ys
-    ∙ ap (λ (x : ℕ). sets (sets (set l i v) (suc i) vs) x ys) (let q : suc i + length vs ≡ i + suc (length vs) = omega arith in q)
 
 nums-append : (vs ws : List ℤ) → nums vs [] ++ nums ws [] ≡ nums (vs ++ ws) []
 nums-append [] ws = refl

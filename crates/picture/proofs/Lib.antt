@@ -1,2 +1,2 @@
-mod Filling
-mod Stages
+pub mod Filling
+pub mod Stages

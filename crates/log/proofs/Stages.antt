@@ -1,0 +1,207 @@
+-- From what is found of a text to what the log's functions hand back. Assumes nothing.
+use Prim.Native.Nat.{ℕ, _*_, _≤_, _<_}
+use mathlib.Core.Path.{_≡_, refl, sym, ap, subst, _∙_}
+use mathlib.Core.List.{List, [], _∷_, _++_}
+use native.Mathlib.Nat.{zero-add}
+use native.Mathlib.Omega.{arith}
+use lib.Dec.{ltb}
+use lib.IntN.{ℤ}
+use lib.ListN.{length, take, drop, length-append}
+use lib.Seq.{sets-eq, take-at}
+use borrow.Author.Tests.{ltb-true}
+use Rattle.definitions.specs.declared.Axes.{Axes}
+use Rattle.definitions.specs.declared.Numbers.{Numbers}
+use Rattle.definitions.specs.declared.Refusal.{Refusal}
+use Rattle.definitions.specs.declared.Verdict.{Verdict}
+use Rattle.definitions.specs.declared.Verdict.the-variants.{Accepted, Refused}
+use Rattle.definitions.specs.declared.TextRead.{TextRead}
+use Rattle.definitions.specs.declared.TextReply.{TextReply}
+use Rattle.definitions.specs.declared.TextReply.the-variants.{Read, Refused as NotRead}
+use Rattle.definitions.specs.declared.LogReply.{LogReply}
+use Rattle.definitions.specs.declared.LogReply.the-variants.{Written, Refused as NotWritten}
+use Rattle.definitions.specs.Tests.{allOf}
+use Rattle.definitions.specs.Geometry.{axesOf}
+use Rattle.definitions.specs.Record.{recordWords}
+use Rattle.definitions.specs.Refusals.{refusal, verdictOf, geometryTests, geometryVerdict, baseCount, recordTests, allAddresses}
+use Rattle.definitions.specs.Text.{textRecords, TextAnswer, wrongWords, tooLong, broken, tooMany, read}
+use Rattle.definitions.specs.Log.{Finding, refuses, makes, findingBy, programTests, judged, baseOf, pictureLines, Finds, tooLong as findsTooLong, broken as findsBroken, tooMany as findsTooMany, read as findsRead, LogOf, logFor, lineOf, refusedWord, refusedLine, logBytes, LogAnswer, tooFew, logged}
+use Rattle.definitions.proofs.Choices.{of-true}
+use Rattle.definitions.proofs.Verdicts.{both-passed}
+use Rattle.definitions.proofs.Accepted.{accepted-axes}
+use Rattle.definitions.proofs.Lines.{digits5, refused-short}
+use Rattle.definitions.proofs.Findings.{numbers-wrong, count-wrong, count-right, RefusedBy, by-number, by-record, refused-by}
+use Rattle.grammar.proofs.Words.{text-words}
+use Rattle.upsample.specs.Staged.{AcceptedAxes}
+use Rattle.log_lines.specs.Put.{Fits, Put}
+use Rattle.log_picture.proofs.Growing.{picture-short}
+use Rattle.log.specs.Given.{Given, kept, lines}
+
+-- ---- bytes put from the buffer's start on
+pub put-first : (out log new : List ℕ) (n : ℕ) → length log ≤ length out → Put out 0 log new n → (n ≡ length log) × (new ≡ log ++ drop (length log) out)
+put-first out log new n l p =
+    (p .after ∙ zero-add (length log), p .stored ∙ (sets-eq log out 0 (omega arith) ∙ ap (λ (k : ℕ). log ++ drop k out) (zero-add (length log))))
+
+-- there is room for a refusal's line
+pub refused-room : (out : List ℕ) (a b : ℕ) → 31 ≤ length out → a ≤ 65536 → b ≤ 65536 → Fits out 0 (lineOf refusedWord (a ∷ b ∷ []))
+unfolding lineOf
+refused-room out a b room p q = simp length-append (omega (arith, digits5 a (omega arith), digits5 b (omega arith)))
+
+-- ---- what is given by a verdict
+module _ (out log : List ℕ) (v : Verdict) where
+  pub given-refusal : (r : Refusal) → v ≡ Refused r → Given out (findingBy v log) (NotWritten r) out
+  given-refusal r e = subst (λ (u : Verdict). Given out (findingBy u log) (NotWritten r) out) (sym e) kept
+
+  pub given-lines : v ≡ Accepted → (n : ℕ) (new : List ℕ) → length log ≤ length out → Put out 0 log new n → Given out (findingBy v log) (Written n) new
+  given-lines e n new l p =
+      let h = put-first out log new n l p in
+      subst (λ (u : Verdict). Given out (findingBy u log) (Written n) new) (sym e)
+      (subst (λ (k : ℕ). Given out (makes log) (Written k) new) (sym (h .0)) (subst (λ (b : List ℕ). Given out (makes log) (Written (length log)) b) (sym (h .1)) lines))
+
+-- ---- what is given of a text that is read
+module _ (n : Numbers) (count : ℕ) (base : List ℤ) (out : List ℕ) where
+  abbrev all : Verdict
+  all = verdictOf (programTests n count base)
+
+  pub wrong-numbers : (r : Refusal) → geometryVerdict n ≡ Refused r → Given out (judged n count base) (NotWritten r) out
+  wrong-numbers r e = given-refusal out _ all r (numbers-wrong n count base r e)
+
+  module _ (axes : Axes) (accepted : geometryVerdict n ≡ Accepted) (is : axes ≡ axesOf n) where
+    pub wrong-count : (count ≡ baseCount axes → ⊥) → (r : Refusal) → r ≡ refusal 5 → Given out (judged n count base) (NotWritten r) out
+    wrong-count d r e = given-refusal out _ all r (count-wrong n count base accepted (λ s. d (s ∙ ap baseCount (sym is))) ∙ ap Refused (sym e))
+
+    module _ (right : count ≡ baseCount axes) where
+      of-records : all ≡ verdictOf (recordTests base (allAddresses axes))
+      of-records = count-right n count base accepted (right ∙ ap baseCount is) ∙ ap (λ (g : Axes). verdictOf (recordTests base (allAddresses g))) (sym is)
+
+      pub wrong-record : (r : Refusal) → verdictOf (recordTests base (allAddresses axes)) ≡ Refused r → Given out (judged n count base) (NotWritten r) out
+      wrong-record r e = given-refusal out _ all r (of-records ∙ e)
+
+      pub right-records : verdictOf (recordTests base (allAddresses axes)) ≡ Accepted → AcceptedAxes axes → logBytes ≤ length out
+          → (k : ℕ) (new : List ℕ) → Put out 0 (pictureLines axes base) new k → Given out (judged n count base) (Written k) new
+      right-records e a room k new p =
+          let l = picture-short (axesOf n) base (subst AcceptedAxes is a) in
+          given-lines out (pictureLines (axesOf n) base) all (of-records ∙ e) k new (omega arith) (subst (λ (g : Axes). Put out 0 (pictureLines g base) new k) is p)
+
+-- ---- what is given by the text call
+-- the words of the record lines are the first of those that were lent
+pub record ReadWords (t : List ℕ) (n : Numbers) (count : ℕ) (words : List ℤ) : Type 0 where
+  pub few : count ≤ textRecords
+  pub within : recordWords * count ≤ length words
+  pub long : length (take (recordWords * count) words) ≡ recordWords * count
+  pub finds : Finds t (judged n count (take (recordWords * count) words))
+
+pub words-read : {t : List ℕ} {old words : List ℤ} {reply : TextReply} {u : TextRead} → length old ≡ recordWords * textRecords
+    → TextAnswer t old reply words → reply ≡ Read u → ReadWords t (u .numbers) (u .lines) words
+words-read e (wrongWords d) q = absurd (d e)
+words-read e (tooLong f l) q = absurd (let z : _≡_ {A = ℕ} 0 1 = cc in omega arith)
+words-read e (broken f l b) q = absurd (let z : _≡_ {A = ℕ} 0 1 = cc in omega arith)
+words-read e (tooMany f l x k) q = absurd (let z : _≡_ {A = ℕ} 0 1 = cc in omega arith)
+words-read {t} {old} {u = u} e (read {n = m} {entries = entries} f l x k) q =
+    let same : record { numbers = m; lines = length entries } ≡ u = cc in
+    let a : m ≡ u .numbers = ap (λ (v : TextRead). v .numbers) same in
+    let c : length entries ≡ u .lines = ap (λ (v : TextRead). v .lines) same in
+    let many : length (baseOf entries) ≡ recordWords * u .lines = text-words x ∙ ap (λ (j : ℕ). recordWords * j) c in
+    let w : take (recordWords * u .lines) (baseOf entries ++ drop (recordWords * length entries) old) ≡ baseOf entries =
+    take-at (baseOf entries) (drop (recordWords * length entries) old) (recordWords * u .lines) many in
+    record {
+      few = omega arith;
+      within = omega (arith, length-append (baseOf entries) (drop (recordWords * length entries) old));
+      long = ap length w ∙ many;
+      finds = subst (Finds t) (λ i. judged (a i) (c i) (sym w i)) (findsRead l x k);
+    }
+
+pub refused-read : {t : List ℕ} {old words : List ℤ} {reply : TextReply} {r : Refusal} → length old ≡ recordWords * textRecords
+    → TextAnswer t old reply words → reply ≡ NotRead r → Finds t (refuses r)
+refused-read e (wrongWords d) q = absurd (d e)
+refused-read {t} {r = r} e (tooLong f l) q = let z : refusal 10 ≡ r = cc in subst (λ (s : Refusal). Finds t (refuses s)) z (findsTooLong l)
+refused-read {t} {r = r} e (broken {place = p} f l b) q =
+    let z : record { number = 9; place = p; rule = 0 } ≡ r = cc in
+    subst (λ (s : Refusal). Finds t (refuses s)) z (findsBroken l b)
+refused-read {t} {r = r} e (tooMany f l x k) q = let z : refusal 10 ≡ r = cc in subst (λ (s : Refusal). Finds t (refuses s)) z (findsTooMany l x k)
+refused-read e (read f l x k) q = absurd (let z : _≡_ {A = ℕ} 0 1 = cc in omega arith)
+
+-- ---- the log
+-- a refusal's numbers are small
+abbrev pub Low : Refusal → Type 0
+Low r = (r .number < 100) × (r .place ≤ 65536)
+
+finding-refused : (v : Verdict) (log : List ℕ) (r : Refusal) → findingBy v log ≡ refuses r → v ≡ Refused r
+finding-refused Accepted log r e = absurd (let z : _≡_ {A = ℕ} 0 1 = cc in omega arith)
+finding-refused (Refused s) log r e = cc
+
+finding-made : (v : Verdict) (log made : List ℕ) → findingBy v log ≡ makes made → (v ≡ Accepted) × (log ≡ made)
+finding-made Accepted log made e = (refl, cc)
+finding-made (Refused s) log made e = absurd (let z : _≡_ {A = ℕ} 0 1 = cc in omega arith)
+
+by-low : {count : ℕ} {r : Refusal} → count ≤ textRecords → RefusedBy count r → Low r
+unfolding allOf
+by-low l (by-number {k = k} m) = (ltb-true k 100 (of-true (λ x. ltb x 100) (1 ∷ 2 ∷ 3 ∷ 4 ∷ 5 ∷ []) refl m), omega arith)
+by-low l (by-record h) = (omega arith, omega arith)
+
+finds-low : {t : List ℕ} {f : Finding} {r : Refusal} → Finds t f → f ≡ refuses r → Low r
+finds-low {r = r} (findsTooLong l) e = let z : refusal 10 ≡ r = cc in subst Low z (omega arith, omega arith)
+finds-low {r = r} (findsBroken {place = p} l b) e =
+    let w = b .within in
+    let z : record { number = 9; place = p; rule = 0 } ≡ r = cc in
+    subst Low z (omega arith, omega arith)
+finds-low {r = r} (findsTooMany l x k) e = let z : refusal 10 ≡ r = cc in subst Low z (omega arith, omega arith)
+finds-low {r = r} (findsRead {n = n} {entries = entries} l x k) e =
+    by-low k (refused-by (length entries) n (baseOf entries) r (finding-refused (verdictOf (programTests n (length entries) (baseOf entries))) (pictureLines (axesOf n) (baseOf entries)) r e))
+
+-- every log fits
+finds-short : {t : List ℕ} {f : Finding} {log : List ℕ} → Finds t f → f ≡ makes log → length log ≤ logBytes
+unfolding programTests
+finds-short (findsTooLong l) e = absurd (let z : _≡_ {A = ℕ} 0 1 = cc in omega arith)
+finds-short (findsBroken l b) e = absurd (let z : _≡_ {A = ℕ} 0 1 = cc in omega arith)
+finds-short (findsTooMany l x k) e = absurd (let z : _≡_ {A = ℕ} 0 1 = cc in omega arith)
+finds-short {log = log} (findsRead {n = n} {entries = entries} l x k) e =
+    let h = finding-made (verdictOf (programTests n (length entries) (baseOf entries))) (pictureLines (axesOf n) (baseOf entries)) log e in
+    let both = accepted-axes n (both-passed (geometryTests n) _ (h .0) .0) in
+    subst (λ (o : List ℕ). length o ≤ logBytes) (h .1) (picture-short (axesOf n) (baseOf entries) (record { horizontal = both .0; vertical = both .1 }))
+
+pub log-fits : {t log : List ℕ} → LogOf t log → length log ≤ logBytes
+log-fits {t} {log} h = subst (λ (o : List ℕ). length o ≤ logBytes) (sym (h .is)) (by (h .finding) (h .finds))
+  where
+    by : (f : Finding) → Finds t f → length (logFor f) ≤ logBytes
+    by (refuses r) x = let l = finds-low x refl in omega (arith, refused-short r (l .0) (l .1))
+    by (makes made) x = finds-short x refl
+
+-- ---- the log call
+-- lines were given
+pub lines-logged : {t out new : List ℕ} {f : Finding} {reply : LogReply} {n : ℕ} → logBytes ≤ length out → Finds t f → Given out f reply new → reply ≡ Written n → LogAnswer t out (Written n) new
+lines-logged room x kept e = absurd (let z : _≡_ {A = ℕ} 0 1 = cc in omega arith)
+lines-logged {t} {out} room x (lines {log = log}) e =
+    subst (λ (k : ℕ). LogAnswer t out (Written k) (log ++ drop (length log) out)) (cc) (logged room (record { finding = makes log; finds = x; is = refl }))
+
+-- a refusal was given, and its line is put
+pub record Kept (t out : List ℕ) (r : Refusal) (mid : List ℕ) : Type 0 where
+  pub finds : Finds t (refuses r)
+  pub low : Low r
+  pub same : mid ≡ out
+
+pub refusal-kept : {t out mid : List ℕ} {f : Finding} {reply : LogReply} {r : Refusal} → Finds t f → Given out f reply mid → reply ≡ NotWritten r → Kept t out r mid
+refusal-kept {t} {r = r} x (kept {r = s}) e =
+    let q : s ≡ r = cc in
+    let y : Finds t (refuses r) = subst (λ (z : Refusal). Finds t (refuses z)) q x in
+    record { finds = y; low = finds-low y refl; same = refl }
+refusal-kept x lines e = absurd (let z : _≡_ {A = ℕ} 0 1 = cc in omega arith)
+
+pub refusal-logged : {t out mid new : List ℕ} {r : Refusal} {n : ℕ} → logBytes ≤ length out → Kept t out r mid → Put mid 0 (refusedLine r) new n → LogAnswer t out (Written n) new
+refusal-logged {t} {out} {mid} {new} {r} {n} room k p =
+    let l = refused-short r (k .low .0) (k .low .1) in
+    let h = put-first out (refusedLine r) new n (omega arith) (subst (λ (o : List ℕ). Put o 0 (refusedLine r) new n) (k .same) p) in
+    rw (h .0, h .1) (logged room (record { finding = refuses r; finds = k .finds; is = refl }))
+
+-- with room for every log it is written, and lies in the buffer
+pub never-refused : {A : Type 0} {t out new : List ℕ} {reply : LogReply} {r : Refusal} → logBytes ≤ length out → LogAnswer t out reply new → reply ≡ NotWritten r → A
+never-refused room (tooFew l) e = absurd (omega arith)
+never-refused room (logged l h) e = absurd (let z : _≡_ {A = ℕ} 0 1 = cc in omega arith)
+
+within-by : {t out new : List ℕ} {reply : LogReply} {n : ℕ} → LogAnswer t out reply new → reply ≡ Written n → n ≤ length new
+within-by (tooFew l) e = absurd (let z : _≡_ {A = ℕ} 0 1 = cc in omega arith)
+within-by {out = out} {n = n} (logged {log = log} room h) e =
+    let z : length log ≡ n = cc in
+    omega (arith, length-append log (drop (length log) out))
+
+pub log-within : {t out new : List ℕ} {n : ℕ} → LogAnswer t out (Written n) new → n ≤ length new
+log-within h = within-by h refl

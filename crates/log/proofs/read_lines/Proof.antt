@@ -1,0 +1,128 @@
+-- `log::read_lines` meets its contract. Assumes nothing.
+use Prim.Native.Nat.{ℕ, _*_}
+use mathlib.Core.Path.{_≡_, sym, ap, subst, _∙_}
+use Rattle.definitions.specs.declared.Verdict.the-variants.{Accepted}
+use Rattle.definitions.specs.Geometry.{axesOf}
+use Rattle.definitions.specs.Record.{recordWords}
+use Rattle.definitions.specs.Refusals.{geometryVerdict, verdictOf, baseCount, recordTests, allAddresses}
+use Rattle.definitions.proofs.RecordLists.{all-formed, index-member}
+use Rattle.geometry.proofs.Verdicts.{checked-valid}
+use Rattle.upsample.specs.Staged.{AcceptedAxes}
+use Rattle.upsample.proofs.Within.{checked-accepted, checked-refused}
+use Rattle.picture.proofs.Stages.{all-checked}
+use Rattle.log.proofs.Stages.{wrong-numbers, wrong-count, wrong-record, right-records}
+use borrow.Author.Needs.{needs}
+use Rattle.log.proofs.read_lines.Statement.{statement}
+use Rattle.log.proofs.read_lines.Tie as tie
+
+-- the geometry is accepted
+geometry : (c : tie.After-axes) → (geometryVerdict (c .before .before .before .before .before .before .before .args .t .numbers) ≡ Accepted) × (c .axes .result ≡ axesOf (c .before .before .before .before .before .before .before .args .t .numbers))
+geometry c =
+    let k = checked-accepted (c .before .before .before .before .before .before .before .args .t .numbers) (c .before .before .g .given .0 .0) (sym (c .before .before .before .before .new .ensures) ∙ c .before .before .g .given .1) in
+    (k .0, c .axes .ensures ∙ k .1)
+
+accepted : (c : tie.After-axes) → AcceptedAxes (c .axes .result)
+accepted c =
+    let k = checked-valid (c .before .before .before .before .before .before .before .args .t .numbers) (c .before .before .g .given .0 .0) (sym (c .before .before .before .before .new .ensures) ∙ c .before .before .g .given .1) in
+    subst AcceptedAxes (sym (c .axes .ensures)) (record { horizontal = k .horizontal; vertical = k .vertical })
+
+-- the count of record lines is right
+right : (c : tie.Else1) → c .before .before .before .before .before .before .before .before .before .before .args .t .lines ≡ baseCount (c .before .before .before .axes .result)
+right c = c .if1 .left ∙ c .before .before .base-count .ensures .0
+
+-- the verdict on all records
+checked : (c : tie.After-check) → verdictOf (recordTests (c .before .before .before .before .before .before .before .before .before .before .before .args .base .now) (allAddresses (c .before .before .before .before .axes .result))) ≡ c .check .result
+checked c =
+    all-checked (c .before .before .before .before .axes .result) (c .before .before .before .before .before .before .before .before .before .before .before .args .base .now) (c .before .before .before .base-count .result) (c .before .before .before .base-count .ensures .0) ∙ sym (c .check .ensures)
+
+new-requires : tie.Need-new-requires
+new-requires c κs = search needs
+
+enum-known-g : tie.Need-enum-known-g
+enum-known-g c = search needs
+
+axes-requires : tie.Need-axes-requires
+axes-requires c κs = search needs
+
+base-count-requires : tie.Need-base-count-requires
+base-count-requires c κs = accepted c
+
+cast-if1 : tie.Need-cast-if1
+cast-if1 c = search needs
+
+refused-requires : tie.Need-refused-requires
+refused-requires c κs = search needs
+
+returns : tie.Need-returns
+returns c =
+    let s = c .before .before .before .before .before .before .before .before .before .before .before in
+    let g = geometry (c .before .before .before .before) in
+    wrong-count (s .args .t .numbers) (s .args .t .lines) (s .args .base .now) (s .args .out .now) (c .before .before .before .before .axes .result) (g .0) (g .1)
+    (λ e. c .before .if1 .taken (e ∙ sym (c .before .before .before .base-count .ensures .0))) (c .refused .result) (c .refused .ensures)
+
+check-requires : tie.Need-check-requires
+check-requires c κs = search needs
+
+enum-told : tie.Need-enum-told
+enum-told c = search needs
+
+picture-lines-requires : tie.Need-picture-lines-requires
+picture-lines-requires c κs =
+    let s = c .before .before .before .before .before .before .before .before .before .before .before .before .before .before in
+    let v = checked (c .before .before .before) ∙ c .before .enum-told .given .1 in
+    let g = c .before .before .before .before .before .before .before .axes .result in (
+      record {
+        placed = record { axes = accepted (c .before .before .before .before .before .before .before); base-length = s .pre .0 ∙ ap (λ (k : ℕ). recordWords * k) (right (c .before .before .before .before)) };
+        formed = λ a h. all-formed (s .args .base .now) (allAddresses g) v a (index-member (baseCount g) a h);
+      },
+      s .pre .1,
+    )
+
+enum-known-r : tie.Need-enum-known-r
+enum-known-r c = search needs
+
+enum-known-r-2 : tie.Need-enum-known-r-2
+enum-known-r-2 c = search needs
+
+same-length : tie.Need-same-length
+same-length c = search needs
+
+returns-2 : tie.Need-returns-2
+returns-2 c =
+    let s = c .before .before .before .before .before .before .before .before .before .before .before .before .before .before .before .before .before in
+    let g = geometry (c .before .before .before .before .before .before .before .before .before .before) in
+    right-records (s .args .t .numbers) (s .args .t .lines) (s .args .base .now) (s .args .out .now) (c .before .before .before .before .before .before .before .before .before .before .axes .result) (g .0) (g .1) (right (c .before .before .before .before .before .before .before))
+    (checked (c .before .before .before .before .before .before) ∙ c .before .before .before .before .enum-told .given .1) (accepted (c .before .before .before .before .before .before .before .before .before .before)) (s .pre .1) _ _ (c .before .before .picture-lines .ensures)
+
+returns-3 : tie.Need-returns-3
+returns-3 c =
+    let s = c .before .before .before .before .before .before .before .before .before .before .before .before .before .before in
+    let g = geometry (c .before .before .before .before .before .before .before) in
+    wrong-record (s .args .t .numbers) (s .args .t .lines) (s .args .base .now) (s .args .out .now) (c .before .before .before .before .before .before .before .axes .result) (g .0) (g .1) (right (c .before .before .before .before)) (c .before .r .given .0 .0) (checked (c .before .before .before) ∙ c .before .r .given .1)
+
+returns-4 : tie.Need-returns-4
+returns-4 c =
+    let s = c .before .before .before .before .before .before in
+    wrong-numbers (s .args .t .numbers) (s .args .t .lines) (s .args .base .now) (s .args .out .now) (c .before .r2 .given .0 .0)
+    (checked-refused (s .args .t .numbers) (c .before .r2 .given .0 .0) (sym (c .before .before .before .new .ensures) ∙ c .before .r2 .given .1))
+
+pub read-lines-spec : {M : Type 1} → statement M
+read-lines-spec =
+    tie.close
+    (tie.spec
+    new-requires
+    enum-known-g
+    axes-requires
+    base-count-requires
+    cast-if1
+    refused-requires
+    returns
+    check-requires
+    enum-told
+    picture-lines-requires
+    enum-known-r
+    enum-known-r-2
+    same-length
+    returns-2
+    returns-3
+    returns-4)

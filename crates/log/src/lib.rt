@@ -1,0 +1,88 @@
+// The log of a sync text, from bytes to bytes.
+ghost use Prim.Native.Nat.{_*_, _≤_, _<_};
+ghost use Rattle.definitions.specs.Log.{LogAnswer, judged, logBytes, refusedLine};
+ghost use Rattle.definitions.specs.Record.{recordWords};
+ghost use Rattle.log_lines.specs.Put.{Put};
+ghost use Rattle.log.specs.Given.{Given, TextGiven};
+ghost use lib.ListN.{length};
+ghost use mathlib.Core.Path.{_≡_};
+use definitions::LogReply;
+use definitions::Refusal;
+use definitions::TextRead;
+use definitions::TextReply;
+use definitions::Verdict;
+use geometry::Checked;
+use geometry::Geometry;
+use log_lines::put_line;
+use log_picture::picture_lines;
+use records::check;
+use sync_text::read_text;
+use upsample::base_count;
+use upsample::refused;
+
+const RECORD_WORDS: usize = 77;
+
+// The words of the 99 records that a text can have.
+const TEXT_WORDS: usize = 7623;
+
+// The bytes that every log fits: 65,536 lines of at most 18, and a last one of at most 31.
+const LOG_BYTES: usize = 1179679;
+
+// The text is read: refusals 1 to 5 and 8, or the lines.
+fn read_lines(t: TextRead, base: &[i16], out: &mut [u8]) -> LogReply
+    requires { ⌜ (length (now base) ≡ recordWords * t .lines) × (logBytes ≤ length (now out)) ⌝ }
+    ensures { λ r. ⌜ Given (now (out .entry)) (judged (t .numbers) (t .lines) (now (base .entry))) r (now (out .exit)) ⌝ }
+{
+    let numbers = t.numbers;
+    match Geometry::new(numbers) {
+        Checked::Geometry(g) => {
+            let axes = g.axes();
+            let records = base_count(axes);
+            if t.lines as usize != records {
+                return LogReply::Refused(refused(5));
+            }
+            match check(base, 0, records) {
+                Verdict::Accepted => LogReply::Written(picture_lines(axes, base, out)),
+                Verdict::Refused(r) => LogReply::Refused(r),
+            }
+        }
+        Checked::Refused(r) => LogReply::Refused(r),
+    }
+}
+
+// The lines of a text's picture, or its refusal, and then no byte is written.
+fn text_lines(text: &[u8], out: &mut [u8]) -> LogReply
+    requires { ⌜ logBytes ≤ length (now out) ⌝ }
+    ensures { λ r. ⌜ TextGiven (now (text .entry)) (now (out .entry)) r (now (out .exit)) ⌝ }
+{
+    let mut words = [0i16; TEXT_WORDS];
+    match read_text(text, &mut words) {
+        TextReply::Read(t) => {
+            let end = RECORD_WORDS * t.lines as usize;
+            read_lines(t, &words[..end], out)
+        }
+        TextReply::Refused(r) => LogReply::Refused(r),
+    }
+}
+
+// (refused number place)
+fn refused_line(out: &mut [u8], r: Refusal) -> usize
+    requires { ⌜ (r .number < 100) × (r .place ≤ 65536) × (31 ≤ length (now out)) ⌝ }
+    ensures { λ n. ⌜ Put (now (out .entry)) 0 (refusedLine r) (now (out .exit)) n ⌝ }
+{
+    let numbers = [r.number, r.place];
+    put_line(out, 0, b"refused", &numbers)
+}
+
+// The log call: the bytes of a text, and bytes to write its log into. It gives the length of the log; refused for too few bytes, it writes none.
+pub fn log(text: &[u8], out: &mut [u8]) -> LogReply
+    ensures { λ r. ⌜ LogAnswer (now (text .entry)) (now (out .entry)) r (now (out .exit)) ⌝ }
+{
+    if out.len() < LOG_BYTES {
+        return LogReply::Refused(refused(6));
+    }
+    match text_lines(text, out) {
+        LogReply::Written(n) => LogReply::Written(n),
+        LogReply::Refused(r) => LogReply::Written(refused_line(out, r)),
+    }
+}

@@ -1,0 +1,10 @@
+-- What is read of the input stands at the start of the buffer.
+use Prim.Native.Nat.{ℕ, _≤_}
+use mathlib.Core.List.{List}
+use lib.ListN.{length}
+use Rattle.sync_log.specs.declared.Input.{Input}
+use Rattle.sync_log.specs.declared.Input.the-variants.{Text, Failed}
+
+abbrev pub Within : Input → List ℕ → Type 0
+Within (Text n) buf = n ≤ length buf
+Within Failed buf = Unit

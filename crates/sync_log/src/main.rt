@@ -1,0 +1,79 @@
+// The log program: a sync text from standard input, its log to standard output.
+ghost use Prim.Native.Nat.{_≤_};
+ghost use Rattle.definitions.specs.Log.{LogAnswer, logBytes};
+ghost use Rattle.sync_log.specs.Input.{Within};
+ghost use lib.ListN.{length};
+ghost use mathlib.Core.Path.{_≡_};
+use definitions::LogReply;
+
+// One byte more than the longest text, which tells a longer one.
+const TEXT_ROOM: usize = 65537;
+
+// The bytes that every log fits.
+const LOG_ROOM: usize = 1179679;
+
+// The bytes that were read, up to the end of the input or of the room for them; or a read failed.
+enum Input {
+    Text(usize),
+    Failed,
+}
+
+// Standard input, however its bytes arrive.
+fn read_input(buf: &mut [u8]) -> Input
+    ensures { λ r. ⌜ Within r (now (buf .exit)) ⌝ }
+{
+    let mut done: usize = 0;
+    while done < buf.len() {
+        let got = libc::read(libc::STDIN_FILENO, &mut buf[done..]);
+        if got < 0 {
+            return Input::Failed;
+        }
+        let more = io::count(got, &buf[done..]);
+        if more == 0 {
+            return Input::Text(done);
+        }
+        done += more;
+    }
+    Input::Text(done)
+}
+
+// The `ensures` gives the length alone: the prover does not write out that many zeros.
+fn log_room() -> [u8; LOG_ROOM]
+    ensures { λ r. ⌜ 1179679 ≡ length r ⌝ }
+{
+    [0; LOG_ROOM]
+}
+
+// The log of a text, at the start of a buffer that every log fits.
+fn log_of(text: &[u8], out: &mut [u8]) -> usize
+    requires { ⌜ logBytes ≤ length (now out) ⌝ }
+    ensures { λ r. ⌜ LogAnswer (now (text .entry)) (now (out .entry)) (LogReply.Written r) (now (out .exit)) ⌝ }
+{
+    match log::log(text, out) {
+        LogReply::Written(n) => n,
+        // Never: there is room.
+        LogReply::Refused(_) => 0,
+    }
+}
+
+fn main() {
+    let mut text = [0u8; TEXT_ROOM];
+    let mut out = log_room();
+    match read_input(&mut text) {
+        Input::Text(n) => {
+            let end = log_of(&text[..n], &mut out);
+            if !io::write_all(libc::STDOUT_FILENO, &out[..end]) {
+                io::write_all(
+                    libc::STDERR_FILENO,
+                    b"sync_log: a write to standard output failed\n",
+                );
+            }
+        }
+        Input::Failed => {
+            io::write_all(
+                libc::STDERR_FILENO,
+                b"sync_log: a read of standard input failed\n",
+            );
+        }
+    }
+}
