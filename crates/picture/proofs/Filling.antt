@@ -3,7 +3,7 @@ use Prim.Native.Nat.{ℕ, _+_, _*_, _/_, _%_, _<_, _≤_}
 use mathlib.Core.Path.{_≡_, refl, sym, ap, subst, _∙_}
 use mathlib.Core.List.{List, List·Memᴰ}
 use mathlib.Core.Logic.{_⊎_, ⊎-elim}
-use native.Mathlib.Nat.{eq-or-lt-of-le, div-eq-of-lt-le, div-lt-iff-lt-mul, mod-eq-of-lt, mul-add-mod-self-right}
+use native.Mathlib.Nat.{eq-or-lt-of-le, div-add-mod, div-eq-of-lt-le, div-lt-iff-lt-mul, mod-eq-of-lt, mod-lt, mul-add-mod-self-right, mul-comm}
 use native.Mathlib.Numerals.{add-one}
 use native.Mathlib.Omega.{arith}
 use lib.IntN.{ℤ}
@@ -39,6 +39,23 @@ read-more a x reads r h so-far e = record {
       (below-last k x l);
 }
 
+-- ---- where an address stands
+pub record Located (g : Axes) (address : ℕ) : Type 0 where
+  pub some : 0 < macroblocks (fullSize (g .horizontal))
+  pub within : address % macroblocks (fullSize (g .horizontal)) < macroblocks (fullSize (g .horizontal))
+  pub column : address % macroblocks (fullSize (g .horizontal)) < 256
+  pub row : address / macroblocks (fullSize (g .horizontal)) < 256
+  pub whole : address / macroblocks (fullSize (g .horizontal)) * macroblocks (fullSize (g .horizontal)) + address % macroblocks (fullSize (g .horizontal)) ≡ address
+
+pub located : (g : Axes) → AcceptedAxes g → (address total : ℕ) → total ≡ fullCount g → address < total → Located g address
+located g a address total e h =
+    let w = macroblocks (fullSize (g .horizontal)) in
+    let wide : w ≤ 256 = omega (arith, a .horizontal .full-high) in
+    let some : 0 < w = omega (arith, a .horizontal .full-low) in
+    let high : macroblocks (fullSize (g .vertical)) ≤ 256 = omega (arith, a .vertical .full-high) in
+    let row : address / w < macroblocks (fullSize (g .vertical)) = div-lt-iff-lt-mul some .1 (omega arith) in
+    record { some = some; within = mod-lt address some; column = omega (arith, mod-lt address some); row = omega arith; whole = ap (λ (n : ℕ). n + address % w) (mul-comm (address / w) w) ∙ div-add-mod address w }
+
 -- ---- the macroblock at an address, by its column and row
 module _ (g : Axes) (address column row : ℕ) (c : column < macroblocks (fullSize (g .horizontal))) (is : row * macroblocks (fullSize (g .horizontal)) + column ≡ address) where
   abbrev width : ℕ
@@ -51,11 +68,7 @@ module _ (g : Axes) (address column row : ℕ) (c : column < macroblocks (fullSi
   its-row = div-eq-of-lt-le width (omega arith) (omega arith)
 
   pub row-below : AcceptedAxes g → (total : ℕ) → total ≡ fullCount g → address < total → row < 256
-  row-below a total e h =
-      let some : 0 < width = omega arith in
-      let high : macroblocks (fullSize (g .vertical)) ≤ 256 = omega (arith, a .vertical .full-high) in
-      let low : address / width < macroblocks (fullSize (g .vertical)) = div-lt-iff-lt-mul some .1 (omega arith) in
-      omega (arith, its-row)
+  row-below a total e h = omega (arith, located g a address total e h .row, its-row)
 
   module _ (base : List ℤ) (f : Formed g base) (h v : AxisRead) (p : h ≡ readOf (g .horizontal) column) (q : v ≡ readOf (g .vertical) row) where
     known : Known g base (f .placed) column row h v

@@ -41,12 +41,12 @@ slice-aggregate-place c = search needs
 place-requires : tie.Need-place-requires
 place-requires c κs =
     let s = c .before .before .before .before in
-    (placeable (s .args .g) (s .args .base .now) (s .pre .0) (s .args .a) _ _ (c .before .before .axis-read .ensures) (c .before .axis-read2 .ensures), length-replicate 77 (pos 0))
+    (placeable (s .args .g) (s .args .a) _ _ (there s .within) (there s .whole) (s .args .base .now) (s .pre .0) _ _ (c .before .before .axis-read .ensures) (c .before .axis-read2 .ensures), length-replicate 77 (pos 0))
 
 returns : tie.Need-returns
 returns c =
     let s = c .before .before .before .before .before .before in
-    c .before .place .ensures .0 ∙ ap (λ (k : Made). k .answer) (made-there (s .args .g) (s .args .base .now) (s .pre .0) (s .args .a) _ _ (c .before .before .before .before .axis-read .ensures) (c .before .before .before .axis-read2 .ensures))
+    c .before .place .ensures .0 ∙ ap (λ (k : Made). k .answer) (made-there (s .args .g) (s .args .a) _ _ (there s .within) (there s .whole) (s .args .base .now) (s .pre .0) _ _ (c .before .before .before .before .axis-read .ensures) (c .before .before .before .axis-read2 .ensures))
 
 pub answer-at-spec : {M : Type 1} → statement M
 answer-at-spec =
