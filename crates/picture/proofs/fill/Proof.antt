@@ -26,7 +26,7 @@ abbrev μ-loop : tie.MeasureT-loop
 μ-loop g base out₀ columns width total counts₀ at₀ v₀ a₀ out counts at v a = total - a
 
 column-reads-requires : tie.Need-column-reads-requires Inv-loop μ-loop
-column-reads-requires c κs = c .pre .0 .placed .axes .horizontal
+column-reads-requires c κs = search needs
 
 full-count-requires : tie.Need-full-count-requires Inv-loop μ-loop
 full-count-requires c κs = c .before .before .pre .0 .placed .axes
