@@ -1,6 +1,8 @@
 // Gathering by the block map: the motions that the blocks of a macroblock read, and the set of those that read intra macroblocks.
-ghost use Prim.Native.Nat.{_≤_};
-ghost use Rattle.definitions.specs.Record.{isIntra, typeOf};
+ghost use Prim.Native.Nat.{_*_, _+_, _≤_};
+ghost use Rattle.definitions.specs.BlockMap.{blockIn};
+ghost use Rattle.definitions.specs.Record.{isIntra, subTypeOf, typeOf};
+ghost use Rattle.definitions.specs.Splits.{quadrantOf};
 ghost use Rattle.gather.specs.Reads.{Readable, ReadableAt, addressRead, bitOf, motionRead, recordRead, rowSet, setBy};
 ghost use Rattle.definitions.specs.Tests.{eqZ};
 ghost use lib.IntN.{pos};
@@ -9,6 +11,7 @@ ghost use mathlib.Core.List.{[], _∷_};
 ghost use mathlib.Core.Path.{_≡_};
 use definitions::Motion;
 use records::is_intra;
+use records::is_single;
 use records::is_whole;
 use records::motion_of;
 
@@ -54,6 +57,15 @@ pub fn reads_whole(base: &[i16], width: usize, x: u16, y: u16) -> bool
     ensures { λ r. ⌜ r ≡ eqZ (typeOf (recordRead width (now (base .entry)) x y)) (pos 1) ⌝ }
 {
     is_whole(base, address_of(width, x, y))
+}
+
+// The quadrant in which it stands there is not divided.
+pub fn reads_single(base: &[i16], width: usize, x: u16, y: u16) -> bool
+    requires { ⌜ ReadableAt width (now base) x y × (width ≤ 256) ⌝ }
+    ensures { λ r. ⌜ r ≡ eqZ (subTypeOf (recordRead width (now (base .entry)) x y) (quadrantOf (4 * blockIn y + blockIn x))) (pos 0) ⌝ }
+{
+    let q = (2 * (y % 4 / 2) + x % 4 / 2) as usize;
+    is_single(base, address_of(width, x, y), q)
 }
 
 fn intra_bit(base: &[i16], width: usize, x: u16, y: u16) -> u16

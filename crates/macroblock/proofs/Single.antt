@@ -2,7 +2,8 @@
 use Prim.Native.Nat.{ℕ, _+_, _*_, _/_, _%_, _<_}
 use mathlib.Core.Path.{_≡_, refl, sym, ap, _∙_}
 use mathlib.Core.Bool.{Bool, true, false, _&&_, _||_}
-use mathlib.Core.List.{List, [], _∷_}
+use mathlib.Core.List.{List, []}
+use mathlib.Core.Logic.{⊎-elim}
 use native.Mathlib.Omega.{arith}
 use lib.IntN.{ℤ, pos}
 use lib.ListN.{getD, replicate}
@@ -14,16 +15,15 @@ use Rattle.definitions.specs.declared.Split.{Split}
 use Rattle.definitions.specs.declared.Split.the-variants.{S16x16}
 use Rattle.definitions.specs.Tests.{pick, eqZ, four}
 use Rattle.definitions.specs.Geometry.{baseSize, macroblocks}
-use Rattle.definitions.specs.BlockMap.{columnOf, blockIn}
-use Rattle.definitions.specs.Splits.{sameMotion, oneEach}
-use Rattle.definitions.specs.Record.{recordAt, isIntra, typeOf, motionOf, splitSaid, rule6, typeNumber, laidOut}
+use Rattle.definitions.specs.BlockMap.{blockIn}
+use Rattle.definitions.specs.Splits.{quadrantOf}
+use Rattle.definitions.specs.Record.{recordAt, isIntra, typeOf, subTypeOf, motionOf, typeNumber, laidOut}
 use Rattle.definitions.specs.Inheriting.{zeroMotion, setOf, mostlyIntra, clearOf, filled, merged, copied, copiedFrom, liveOf, someOf, resolved, scaledMotion, motionAt, chosen}
 use Rattle.definitions.specs.Answer.{subTypes}
-use Rattle.definitions.proofs.Choices.{and-true, or-true, eqZ-true, each, four-same, yes, no}
-use Rattle.definitions.proofs.Formed.{rules-of}
-use Rattle.definitions.proofs.Fewest.{one-each, chosen-is}
+use Rattle.definitions.proofs.Choices.{and-true, or-true, each, four-same, yes, no}
+use Rattle.definitions.proofs.Fewest.{chosen-is}
 use Rattle.definitions.proofs.Motions.{motion-same}
-use Rattle.definitions.proofs.Records.{each16}
+use Rattle.records.proofs.Undivided.{whole, undivided}
 use Rattle.definitions.proofs.Sameness.{set-same}
 use Rattle.definitions.proofs.Shapes.{samePairs, shapeOf, quadrantShape, shapesOf, splitOf, allWhole}
 use Rattle.definitions.proofs.Steps.{Both, filled-leaves, settled-merged}
@@ -31,15 +31,25 @@ use Rattle.quadrant.specs.Merging.{Empty}
 use Rattle.gather.specs.Reads.{ReadableAt, Readable, addressRead, recordRead, motionRead, addressBy, readBy, blockBy, motionBy, setBy, gatheredBy}
 use Rattle.gather.proofs.Reading.{readable-at}
 use Rattle.macroblock.specs.declared.AxisRead.{AxisRead}
-use Rattle.macroblock.specs.Made.{Ready, oneColumn, resolvedBy, motionsBy, inheritedBy}
+use Rattle.macroblock.specs.Made.{Ready, onePart, resolvedBy, motionsBy, inheritedBy}
 use Rattle.macroblock.proofs.Motions.{read-empty}
 
-one-column : (reads : List ℕ) → oneColumn reads ≡ true → (i : ℕ) → i < 4 → columnOf (getD reads i 0) ≡ columnOf (getD reads 0 0)
-unfolding oneColumn
-one-column reads e =
+one-part : (d : ℕ) (reads : List ℕ) → onePart d reads ≡ true → (i : ℕ) → i < 4 → getD reads i 0 / d ≡ getD reads 0 0 / d
+unfolding onePart
+one-part d reads e =
     let ab = and-true _ _ e in
     let a = and-true _ _ (ab .0) in
-    each (λ i. columnOf (getD reads i 0) ≡ columnOf (getD reads 0 0)) refl (eqb-true _ _ (a .0)) (eqb-true _ _ (a .1)) (eqb-true _ _ (ab .1))
+    each (λ i. getD reads i 0 / d ≡ getD reads 0 0 / d) refl (eqb-true _ _ (a .0)) (eqb-true _ _ (a .1)) (eqb-true _ _ (ab .1))
+
+-- the quadrant of the block with coordinates x and y, by their halves
+half-is : (u x : ℕ) → u / 2 ≡ x / 2 → u % 4 / 2 ≡ x % 4 / 2
+half-is u x e = omega arith
+
+quadrant-is : (x y : ℕ) → quadrantOf (4 * blockIn y + blockIn x) ≡ 2 * (y % 4 / 2) + x % 4 / 2
+quadrant-is x y = omega arith
+
+same-quadrant : (u w x y : ℕ) → u / 2 ≡ x / 2 → w / 2 ≡ y / 2 → quadrantOf (4 * blockIn w + blockIn u) ≡ quadrantOf (4 * blockIn y + blockIn x)
+same-quadrant u w x y p q = quadrant-is u w ∙ ((λ i. 2 * half-is w y q i + half-is u x p i) ∙ sym (quadrant-is x y))
 
 -- a set of all sixteen, and of none
 all-or-none : (t : Bool) → setOf 16 (λ i. t) ≡ pick t 65535 0
@@ -77,7 +87,7 @@ pub mostly-none : mostlyIntra 0 ≡ false
 unfolding ones onesIn
 mostly-none = refl
 
-module _ (g : Axes) (h v : AxisRead) (base : List ℤ) (ready : Ready g h v base) (one : (oneColumn (h .reads) && oneColumn (v .reads)) ≡ true) where
+module _ (g : Axes) (h v : AxisRead) (base : List ℤ) (ready : Ready g h v base) (one : (onePart 4 (h .reads) && onePart 4 (v .reads)) ≡ true) where
   abbrev width : ℕ
   width = macroblocks (baseSize (g .horizontal))
 
@@ -95,9 +105,9 @@ module _ (g : Axes) (h v : AxisRead) (base : List ℤ) (ready : Ready g h v base
 
   same-read : (i : ℕ) → i < 16 → readBy width (h .reads) (v .reads) base i ≡ it
   same-read i l =
-      let both = and-true (oneColumn (h .reads)) (oneColumn (v .reads)) one in
-      let p = one-column (h .reads) (both .0) (i % 4) (omega arith) in
-      let q = one-column (v .reads) (both .1) (i / 4) (omega arith) in
+      let both = and-true (onePart 4 (h .reads)) (onePart 4 (v .reads)) one in
+      let p = one-part 4 (h .reads) (both .0) (i % 4) (omega arith) in
+      let q = one-part 4 (v .reads) (both .1) (i / 4) (omega arith) in
       λ t. recordAt base (q t * width + p t)
 
   set-is : setBy width (h .reads) (v .reads) base ≡ pick (isIntra it) 65535 0
@@ -110,77 +120,79 @@ module _ (g : Axes) (h v : AxisRead) (base : List ℤ) (ready : Ready g h v base
   pub set-none : isIntra it ≡ false → 0 ≡ setBy width (h .reads) (v .reads) base
   set-none e = sym (set-is ∙ no _ _ e)
 
-  -- ---- a record of type 1
-  module _ (not-intra : isIntra it ≡ false) (whole : eqZ (typeOf it) (pos 1) ≡ true) where
+  -- ---- one motion
+  module _ (not-intra : isIntra it ≡ false) where
     abbrev n : Motion
     n = motionRead width base x y
 
-    one-motion : oneEach (motionOf it) S16x16 ≡ true
-    unfolding rule6 splitSaid
-    one-motion =
-        let six : (isIntra it || oneEach (motionOf it) (splitSaid it)) ≡ true = rules-of it (first-readable .formed) .pieces in
-        ap (oneEach (motionOf it)) (sym (yes _ _ whole)) ∙ by (isIntra it) not-intra six
-      where
-        by : {o : Bool} (t : Bool) → t ≡ false → (t || o) ≡ true → o ≡ true
-        by true e s = cc
-        by false e s = s
+    abbrev AllRead : Type 0
+    AllRead = (i : ℕ) → i < 16 → motionBy width (h .reads) (v .reads) base i ≡ n
 
-    all-same : (b : ℕ) → b < 16 → motionOf it b ≡ motionOf it 0
-    all-same =
-        let e = one-each (motionOf it) S16x16 one-motion .0 in
-        each16 (λ b. motionOf it b ≡ motionOf it 0) refl (e .0) (e .1 .0) (e .1 .1 .0) (e .1 .1 .1 .0) (e .1 .1 .1 .1 .0) (e .1 .1 .1 .1 .1 .0) (e .1 .1 .1 .1 .1 .1 .0)
-        (e .1 .1 .1 .1 .1 .1 .1 .0) (e .1 .1 .1 .1 .1 .1 .1 .1 .0) (e .1 .1 .1 .1 .1 .1 .1 .1 .1 .0) (e .1 .1 .1 .1 .1 .1 .1 .1 .1 .1 .0) (e .1 .1 .1 .1 .1 .1 .1 .1 .1 .1 .1 .0)
-        (e .1 .1 .1 .1 .1 .1 .1 .1 .1 .1 .1 .1 .0) (e .1 .1 .1 .1 .1 .1 .1 .1 .1 .1 .1 .1 .1 .0) (e .1 .1 .1 .1 .1 .1 .1 .1 .1 .1 .1 .1 .1 .1 .0)
-
-    each-read : (i : ℕ) → i < 16 → motionBy width (h .reads) (v .reads) base i ≡ n
+    by-blocks : ((i : ℕ) → i < 16 → motionOf it (blockBy (h .reads) (v .reads) i) ≡ motionOf it (4 * blockIn y + blockIn x)) → AllRead
     unfolding motionBy motionRead
-    each-read i l =
-        ap (λ (r : List ℤ). motionOf r (blockBy (h .reads) (v .reads) i)) (same-read i l)
-        ∙ (all-same (blockBy (h .reads) (v .reads) i) (omega arith) ∙ sym (all-same (4 * blockIn y + blockIn x) (omega arith)))
+    by-blocks e i l = ap (λ (r : List ℤ). motionOf r (blockBy (h .reads) (v .reads) i)) (same-read i l) ∙ e i l
 
-    abbrev quadrant : List Motion
-    quadrant = four (λ k. n)
+    abbrev block : ℕ
+    block = 4 * blockIn y + blockIn x
 
-    gathered-is : gatheredBy width (h .reads) (v .reads) base ≡ four (λ q. quadrant)
-    unfolding gatheredBy
-    gathered-is =
-        let e : (i : ℕ) → i < 16 → motionBy width (h .reads) (v .reads) base i ≡ n = each-read in
-        four-same
-        (four-same (e 0 (omega arith)) (e 1 (omega arith)) (e 4 (omega arith)) (e 5 (omega arith)))
-        (four-same (e 2 (omega arith)) (e 3 (omega arith)) (e 6 (omega arith)) (e 7 (omega arith)))
-        (four-same (e 8 (omega arith)) (e 9 (omega arith)) (e 12 (omega arith)) (e 13 (omega arith)))
-        (four-same (e 10 (omega arith)) (e 11 (omega arith)) (e 14 (omega arith)) (e 15 (omega arith)))
+    -- a record of type 1, or one quadrant read that is not divided
+    pub one-read : (eqZ (typeOf it) (pos 1) || ((onePart 2 (h .reads) && onePart 2 (v .reads)) && eqZ (subTypeOf it (quadrantOf block)) (pos 0))) ≡ true → AllRead
+    one-read e =
+        ⊎-elim
+        (λ t. by-blocks (λ i l. whole it (first-readable .formed) not-intra (blockBy (h .reads) (v .reads) i) block (omega arith) (omega arith) t))
+        (λ t.
+        let quarter = and-true (onePart 2 (h .reads) && onePart 2 (v .reads)) (eqZ (subTypeOf it (quadrantOf block)) (pos 0)) t in
+        let halves = and-true (onePart 2 (h .reads)) (onePart 2 (v .reads)) (quarter .0) in
+        by-blocks (λ i l.
+        let p = one-part 2 (h .reads) (halves .0) (i % 4) (omega arith) in
+        let q = one-part 2 (v .reads) (halves .1) (i / 4) (omega arith) in
+        undivided it (first-readable .formed) not-intra (blockBy (h .reads) (v .reads) i) block (omega arith) (omega arith) (same-quadrant _ _ x y p q) (quarter .1)))
+        (or-true (eqZ (typeOf it) (pos 1)) ((onePart 2 (h .reads) && onePart 2 (v .reads)) && eqZ (subTypeOf it (quadrantOf block)) (pos 0)) e)
 
-    settled : merged quadrant ≡ quadrant
-    settled =
-        let empty = read-empty width base x y first-readable in
-        settled-merged quadrant (record {
-          one0 = each _ refl refl refl refl;
-          one1 = each _ refl refl refl refl;
-          zero0 = each _ (empty .0) (empty .0) (empty .0) (empty .0);
-          zero1 = each _ (empty .1) (empty .1) (empty .1) (empty .1);
-        })
+    module _ (all : AllRead) where
+      abbrev quadrant : List Motion
+      quadrant = four (λ k. n)
 
-    unchanged : (q : ℕ) → q < 4 → merged (filled (clearOf 0 q) quadrant) ≡ quadrant
-    unchanged q l = ap merged (filled-leaves (clearOf 0 q) quadrant (none-marked q l)) ∙ settled
+      gathered-is : gatheredBy width (h .reads) (v .reads) base ≡ four (λ q. quadrant)
+      unfolding gatheredBy
+      gathered-is =
+          let e : (i : ℕ) → i < 16 → motionBy width (h .reads) (v .reads) base i ≡ n = all in
+          four-same
+          (four-same (e 0 (omega arith)) (e 1 (omega arith)) (e 4 (omega arith)) (e 5 (omega arith)))
+          (four-same (e 2 (omega arith)) (e 3 (omega arith)) (e 6 (omega arith)) (e 7 (omega arith)))
+          (four-same (e 8 (omega arith)) (e 9 (omega arith)) (e 12 (omega arith)) (e 13 (omega arith)))
+          (four-same (e 10 (omega arith)) (e 11 (omega arith)) (e 14 (omega arith)) (e 15 (omega arith)))
 
-    resolved-is : resolvedBy g h v base ≡ four (λ q. quadrant)
-    unfolding resolvedBy resolved copied copiedFrom liveOf someOf clearOf pick
-    resolved-is =
-        ap (λ (s : ℕ). resolved s (gatheredBy width (h .reads) (v .reads) base)) (sym (set-none not-intra))
-        ∙ (ap (resolved 0) gathered-is
-        ∙ four-same (unchanged 0 (omega arith)) (unchanged 1 (omega arith)) (unchanged 2 (omega arith)) (unchanged 3 (omega arith)))
+      settled : merged quadrant ≡ quadrant
+      settled =
+          let empty = read-empty width base x y first-readable in
+          settled-merged quadrant (record {
+            one0 = each _ refl refl refl refl;
+            one1 = each _ refl refl refl refl;
+            zero0 = each _ (empty .0) (empty .0) (empty .0) (empty .0);
+            zero1 = each _ (empty .1) (empty .1) (empty .1) (empty .1);
+          })
 
-    pub whole-motions : motionsBy g h v base ≡ four (λ q. four (λ k. scaledMotion g n))
-    unfolding motionsBy
-    whole-motions = ap (λ (m : List (List Motion)). four (λ q. four (λ k. scaledMotion g (getD (getD m q []) k zeroMotion)))) resolved-is
+      unchanged : (q : ℕ) → q < 4 → merged (filled (clearOf 0 q) quadrant) ≡ quadrant
+      unchanged q l = ap merged (filled-leaves (clearOf 0 q) quadrant (none-marked q l)) ∙ settled
 
-    pub whole-split : S16x16 ≡ chosen (motionsBy g h v base)
-    whole-split = sym (ap chosen whole-motions ∙ (chosen-is (four (λ q. four (λ k. scaledMotion g n))) ∙ uniform (scaledMotion g n)))
+      resolved-is : resolvedBy g h v base ≡ four (λ q. quadrant)
+      unfolding resolvedBy resolved copied copiedFrom liveOf someOf clearOf pick
+      resolved-is =
+          ap (λ (s : ℕ). resolved s (gatheredBy width (h .reads) (v .reads) base)) (sym (set-none not-intra))
+          ∙ (ap (resolved 0) gathered-is
+          ∙ four-same (unchanged 0 (omega arith)) (unchanged 1 (omega arith)) (unchanged 2 (omega arith)) (unchanged 3 (omega arith)))
 
-    pub whole-written : {m : Motion} → m ≡ scaledMotion g n → laidOut (typeNumber S16x16) (λ q. getD (subTypes S16x16) q 0) (motionAt (replicate 4 (replicate 4 m))) ≡ inheritedBy g h v base
-    unfolding inheritedBy
-    whole-written e =
-        let p = whole-split in
-        let q = ap (λ (m : Motion). four (λ j. four (λ k. m))) e ∙ sym whole-motions in
-        λ i. laidOut (typeNumber (p i)) (λ j. getD (subTypes (p i)) j 0) (motionAt (q i))
+      pub whole-motions : motionsBy g h v base ≡ four (λ q. four (λ k. scaledMotion g n))
+      unfolding motionsBy
+      whole-motions = ap (λ (m : List (List Motion)). four (λ q. four (λ k. scaledMotion g (getD (getD m q []) k zeroMotion)))) resolved-is
+
+      pub whole-split : S16x16 ≡ chosen (motionsBy g h v base)
+      whole-split = sym (ap chosen whole-motions ∙ (chosen-is (four (λ q. four (λ k. scaledMotion g n))) ∙ uniform (scaledMotion g n)))
+
+      pub whole-written : {m : Motion} → m ≡ scaledMotion g n → laidOut (typeNumber S16x16) (λ q. getD (subTypes S16x16) q 0) (motionAt (replicate 4 (replicate 4 m))) ≡ inheritedBy g h v base
+      unfolding inheritedBy
+      whole-written e =
+          let p = whole-split in
+          let q = ap (λ (m : Motion). four (λ j. four (λ k. m))) e ∙ sym whole-motions in
+          λ i. laidOut (typeNumber (p i)) (λ j. getD (subTypes (p i)) j 0) (motionAt (q i))

@@ -16,7 +16,7 @@ use Rattle.definitions.specs.declared.Answer.the-variants.{Outside, Intra, Inhe
 use Rattle.macroblock.specs.declared.AxisRead.{AxisRead}
 use Rattle.definitions.specs.Tests.{pick, four}
 use Rattle.definitions.specs.Geometry.{baseSize, classOf, macroblocks, insideAxis, sampleOf}
-use Rattle.definitions.specs.BlockMap.{stepOf, columnOf}
+use Rattle.definitions.specs.BlockMap.{stepOf}
 use Rattle.definitions.specs.Record.{typeNumber, laidOut}
 use Rattle.definitions.specs.Inheriting.{mostlyIntra, at, motionAt, resolved, scaledMotion, chosen}
 use Rattle.definitions.specs.Answer.{Made, subTypes, writtenFor}
@@ -39,11 +39,9 @@ pub record Small (s : AxisStep) : Type 0 where
   pub reads : (i : ℕ) → i < 4 → getD (s .reads) i 0 < 65536
   pub first : s .first < 65536
 
--- all four coordinates lie in one column (row)
-unfoldable pub oneColumn : List ℕ → Bool
-oneColumn reads =
-    (eqb (columnOf (getD reads 1 0)) (columnOf (getD reads 0 0)) && eqb (columnOf (getD reads 2 0)) (columnOf (getD reads 0 0)))
-    && eqb (columnOf (getD reads 3 0)) (columnOf (getD reads 0 0))
+-- all four coordinates lie in one column (row) where d is 4, and in one half of it where d is 2
+unfoldable pub onePart : ℕ → List ℕ → Bool
+onePart d reads = (eqb (getD reads 1 0 / d) (getD reads 0 0 / d) && eqb (getD reads 2 0 / d) (getD reads 0 0 / d)) && eqb (getD reads 3 0 / d) (getD reads 0 0 / d)
 
 -- ---- What is made inside
 abbrev pub namedBy : AxisRead → AxisRead → Named

@@ -6,7 +6,7 @@ ghost use Rattle.definitions.specs.Geometry.{baseSize, macroblocks};
 ghost use Rattle.definitions.specs.Inheriting.{chosen, clearOf, filled, merged, motionAt};
 ghost use Rattle.definitions.specs.Record.{laidOut, subTypeNumber, typeNumber};
 ghost use Rattle.gather.specs.Reads.{ReadableAt, motionRead, recordRead, setBy};
-ghost use Rattle.macroblock.specs.Made.{Placeable, Ready, Small, inheritedBy, madeBy, motionsBy, namedBy, nowhere, oneColumn, placedBy, readIn, readOf, resolvedBy};
+ghost use Rattle.macroblock.specs.Made.{Placeable, Ready, Small, inheritedBy, madeBy, motionsBy, namedBy, nowhere, onePart, placedBy, readIn, readOf, resolvedBy};
 ghost use lib.ListN.{getD, length};
 ghost use mathlib.Core.Bool.{_&&_, true};
 ghost use mathlib.Core.List.{[], _∷_};
@@ -25,6 +25,7 @@ use gather::intra_set;
 use gather::motion_read;
 use gather::quadrant_read;
 use gather::reads_intra;
+use gather::reads_single;
 use gather::reads_whole;
 use geometry::axis_step;
 use geometry::class_of;
@@ -224,27 +225,38 @@ fn make_inherited(
 
 // All four coordinates lie in one column (row).
 fn is_one(reads: [u16; 4]) -> bool
-    ensures { λ r. ⌜ r ≡ oneColumn reads ⌝ }
+    ensures { λ r. ⌜ r ≡ onePart 4 reads ⌝ }
 {
     let first = reads[0] / 4;
     (reads[1] / 4 == first) & (reads[2] / 4 == first) & (reads[3] / 4 == first)
 }
 
-// Where one macroblock is read: intra, or of one motion, it needs no step.
+// All four coordinates lie in one half of a column (row).
+fn is_half(reads: [u16; 4]) -> bool
+    ensures { λ r. ⌜ r ≡ onePart 2 reads ⌝ }
+{
+    let first = reads[0] / 2;
+    (reads[1] / 2 == first) & (reads[2] / 2 == first) & (reads[3] / 2 == first)
+}
+
+// Where one macroblock is read: intra, or of one motion (it is 16×16, or one quadrant of it is read that is not divided), it needs no step.
 fn make_of_one(g: Axes, base: &[i16], h: AxisRead, v: AxisRead, out: &mut [i16]) -> Answer
-    requires { ⌜ Ready g h v (now base) × ((oneColumn (h .reads) && oneColumn (v .reads)) ≡ true) × (length (now out) ≡ 77) ⌝ }
+    requires { ⌜ Ready g h v (now base) × ((onePart 4 (h .reads) && onePart 4 (v .reads)) ≡ true) × (length (now out) ≡ 77) ⌝ }
     ensures answer { λ r. ⌜ r ≡ madeBy g h v (now (base .entry)) .answer ⌝ }
     ensures written { λ r. ⌜ now (out .exit) ≡ madeBy g h v (now (base .entry)) .written ⌝ }
 {
     let width = (g.horizontal.base.0 / 16) as usize;
-    let x = h.reads[0];
-    let y = v.reads[0];
+    let across = h.reads;
+    let down = v.reads;
+    let x = across[0];
+    let y = down[0];
     let named = named_of(h, v);
     if reads_intra(base, width, x, y) {
         write_unused(out, 0);
         return Answer::Intra(named);
     }
-    if reads_whole(base, width, x, y) {
+    let quarter = is_half(across) & is_half(down);
+    if reads_whole(base, width, x, y) | (quarter & reads_single(base, width, x, y)) {
         let m = scale_motion(g, motion_read(base, width, x, y));
         write_split(out, Split::S16x16, [[m; 4]; 4]);
         return Answer::Inherited(named, Split::S16x16);

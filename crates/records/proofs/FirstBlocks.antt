@@ -92,7 +92,7 @@ module _ (m : ℕ → Motion) where
   columns : (f : ℕ → Bool) → allBelow 16 f ≡ (allBelow 4 (λ r. f (4 * r) && f (4 * r + 1)) && allBelow 4 (λ r. f (4 * r + 2) && f (4 * r + 3)))
   columns f = by-rows f ∙ sym (below-both 4 (λ r. f (4 * r) && f (4 * r + 1)) (λ r. f (4 * r + 2) && f (4 * r + 3)) _ (λ k. refl))
 
-  by-first-blocks : (s : Split) → allBelow 16 (asAt (firstBlockIn s)) ≡ oneEach m s
+  pub by-first-blocks : (s : Split) → allBelow 16 (asAt (firstBlockIn s)) ≡ oneEach m s
   unfolding oneEach allOf alike allBelow
   by-first-blocks S16x16 = rw (same 0) (simp (and-assoc, and-true))
   by-first-blocks S16x8 = rw (same 0, same 8) (simp (and-assoc, and-true))

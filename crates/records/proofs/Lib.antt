@@ -1,5 +1,6 @@
--- Laws of this crate's proofs; other crates cite Addresses.
+-- Laws of this crate's proofs; other crates cite Addresses and Undivided.
 pub mod Addresses
+pub mod Undivided
 mod Words
 mod Searches
 mod Ranges

@@ -96,6 +96,15 @@ pub fn is_whole(base: &[i16], a: usize) -> bool
     words[0] == 1
 }
 
+// Quadrant q is not divided: its sub-type is 0.
+pub fn is_single(base: &[i16], a: usize, q: usize) -> bool
+    requires { ⌜ ((a + 1) * recordWords ≤ length (now base)) × (a < 65536) × (q < 4) ⌝ }
+    ensures { λ t. ⌜ t ≡ eqZ (subTypeOf (recordAt (now (base .entry)) a) q) (pos 0) ⌝ }
+{
+    let words = record_at(base, a);
+    words[1 + q] == 0
+}
+
 pub fn motion_of(base: &[i16], a: usize, b: usize) -> Motion
     requires { ⌜ ((a + 1) * recordWords ≤ length (now base)) × (a < 65536) × (b < 16) ⌝ }
     ensures { λ m. ⌜ m ≡ motionOf (recordAt (now (base .entry)) a) b ⌝ }

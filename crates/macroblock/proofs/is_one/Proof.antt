@@ -1,6 +1,6 @@
 -- `macroblock::is_one` meets its contract. Assumes nothing.
 use mathlib.Core.Path.{refl}
-use Rattle.macroblock.specs.Made.{oneColumn}
+use Rattle.macroblock.specs.Made.{onePart}
 use borrow.Author.Needs.{needs}
 use Rattle.macroblock.proofs.is_one.Statement.{statement}
 use Rattle.macroblock.proofs.is_one.Tie as tie
@@ -18,7 +18,7 @@ array-read-result-3 : tie.Need-array-read-result-3
 array-read-result-3 c = search needs
 
 returns : tie.Need-returns
-unfolding oneColumn
+unfolding onePart
 returns c = refl
 
 pub is-one-spec : {M : Type 1} → statement M
