@@ -103,7 +103,7 @@ module _ (n : Numbers) (column row : ℕ) (accepted : geometryVerdict n ≡ Acce
         cover = λ m s e. covered s;
         one-motion = λ m s e. fewest-written axes base column row d m s e .one;
         motions = motions-written axes base column row;
-        rivals = λ m s e t listed. fewest-written axes base column row d m s e .more t;
+        rivals = λ m s e. fewest-written axes base column row d m s e .more;
         says-split = split-written axes base column row;
       }
 

@@ -24,6 +24,7 @@ pub mod Demand
 pub mod RecordLists
 pub mod Ratios
 pub mod Overlap
+pub mod Why
 pub mod Counting
 pub mod Sessions
 pub mod SessionPicture
