@@ -67,10 +67,10 @@ module _ (n : Numbers) (column row : ℕ) (accepted : geometryVerdict n ≡ Acce
   abbrev axes : Axes
   axes = axesOf n
 
-  across-inside : inside axes column row ≡ true → Inside (baseSize (axes .horizontal)) (scaledSize (axes .horizontal)) (cOf (axes .horizontal) (sampleOf column))
+  pub across-inside : inside axes column row ≡ true → Inside (baseSize (axes .horizontal)) (scaledSize (axes .horizontal)) (cOf (axes .horizontal) (sampleOf column))
   across-inside e = inside-axis (axes .horizontal) (sampleOf column) (accepted-axes n accepted .0) (and-true (insideAxis (axes .horizontal) (sampleOf column)) (insideAxis (axes .vertical) (sampleOf row)) e .0)
 
-  down-inside : inside axes column row ≡ true → Inside (baseSize (axes .vertical)) (scaledSize (axes .vertical)) (cOf (axes .vertical) (sampleOf row))
+  pub down-inside : inside axes column row ≡ true → Inside (baseSize (axes .vertical)) (scaledSize (axes .vertical)) (cOf (axes .vertical) (sampleOf row))
   down-inside e = inside-axis (axes .vertical) (sampleOf row) (accepted-axes n accepted .1) (and-true (insideAxis (axes .horizontal) (sampleOf column)) (insideAxis (axes .vertical) (sampleOf row)) e .1)
 
   -- other records do not matter

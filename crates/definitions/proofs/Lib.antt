@@ -22,6 +22,7 @@ pub mod Addresses
 pub mod Promises
 pub mod Demand
 pub mod RecordLists
+pub mod Rising
 pub mod Ratios
 pub mod Overlap
 pub mod Why

@@ -1,0 +1,110 @@
+-- The addresses that a call checks rise, so that the first malformed record is the lowest (RecordsJudged of specs/Refusals). Assumes nothing.
+use Prim.Native.Nat.{ℕ, zero, suc, _+_, _*_, _<_}
+use mathlib.Core.Path.{_≡_, refl, sym, ap, subst, _∙_}
+use mathlib.Core.Bool.{Bool, true, false, not, false≢true}
+use mathlib.Core.List.{List, [], _∷_, _++_, map, List·Memᴰ, List·Memᴰ·head, List·Memᴰ·tail, List·Memᴰ·cases-cons, List·Memᴰ·not-nil, List·Memᴰ·append-cases, List·Memᴰ·eq-of-singleton}
+use mathlib.Core.Logic.{⊎-elim}
+use native.Mathlib.Nat.{mul-le-mul-right}
+use native.Mathlib.Omega.{arith}
+use lib.IntN.{ℤ}
+use Rattle.definitions.specs.declared.Numbers.{Numbers}
+use Rattle.definitions.specs.declared.Refusal.{Refusal}
+use Rattle.definitions.specs.declared.Verdict.the-variants.{Accepted, Refused}
+use Rattle.definitions.specs.Tests.{upTo, forEach}
+use Rattle.definitions.specs.Geometry.{axesOf, baseSize, macroblocks, inside, columnsRead}
+use Rattle.definitions.specs.Record.{recordAt, wellFormed}
+use Rattle.definitions.specs.Answer.{namedAt, columnsOf, rowsOf, addressesOf}
+use Rattle.definitions.specs.Refusals.{verdictOf, recordTest, recordTests, geometryVerdict, addressesRead, LowestMalformed, Rising, RecordsJudged}
+use Rattle.definitions.proofs.Choices.{yes, no, pick-cases}
+use Rattle.definitions.proofs.RecordLists.{all-formed, formed-all, member-index}
+use Rattle.definitions.proofs.Addresses.{member-map, member-for, columns-are, rows-are, column-below}
+use Rattle.definitions.proofs.Demand.{across-inside, down-inside}
+
+-- ---- the first malformed record of a rising list is its lowest
+refused-lowest : (base : List ℤ) (addresses : List ℕ) → Rising addresses → (r : Refusal) → verdictOf (recordTests base addresses) ≡ Refused r → LowestMalformed base addresses r
+unfolding recordTests
+refused-lowest base [] rise r e = absurd (let z : _≡_ {A = ℕ} 0 1 = cc in omega arith)
+refused-lowest base (a ∷ rest) rise r e = by (wellFormed (recordAt base a)) refl (refused-lowest base rest (rise .1) r)
+  where
+    by : (b : Bool) → wellFormed (recordAt base a) ≡ b → (verdictOf (recordTests base rest) ≡ Refused r → LowestMalformed base rest r) → LowestMalformed base (a ∷ rest) r
+    by true w later =
+        let l = later (sym (no _ _ (ap not w)) ∙ e) in
+        record {
+          number = l .number;
+          checked = List·Memᴰ·tail (l .checked);
+          malformed = l .malformed;
+          lowest = λ c m f. ⊎-elim (λ p. absurd (false≢true (sym f ∙ (ap (λ (k : ℕ). wellFormed (recordAt base k)) p ∙ w)))) (λ t. l .lowest c t f) (List·Memᴰ·cases-cons m);
+          rule = l .rule;
+        }
+    by false w later =
+        let p : recordTest base a .gives ≡ r = cc (sym (yes _ _ (ap not w)) ∙ e) in
+        subst (λ (q : Refusal). LowestMalformed base (a ∷ rest) q) p
+        (record {
+          number = refl;
+          checked = List·Memᴰ·head refl;
+          malformed = w;
+          lowest = λ c m f. ⊎-elim (λ q. omega arith) (λ t. omega (arith, rise .0 c t)) (List·Memᴰ·cases-cons m);
+          rule = refl;
+        })
+
+-- ---- rising lists
+rising-join : (xs ys : List ℕ) → Rising xs → Rising ys → ((x y : ℕ) → List·Memᴰ x xs → List·Memᴰ y ys → x < y) → Rising (xs ++ ys)
+rising-join [] ys p q h = q
+rising-join (x ∷ xs) ys p q h =
+    (λ b m. ⊎-elim (λ l. p .0 b l) (λ l. h x b (List·Memᴰ·head refl) l) (List·Memᴰ·append-cases xs m), rising-join xs ys (p .1) q (λ a b m k. h a b (List·Memᴰ·tail m) k))
+
+rising-one : (x : ℕ) → Rising (x ∷ [])
+rising-one x = (λ b m. absurd (List·Memᴰ·not-nil m), tt)
+
+rising-indices : (n : ℕ) → Rising (upTo n (λ k. k))
+unfolding upTo
+rising-indices zero = tt
+rising-indices (suc n) =
+    rising-join (upTo n (λ k. k)) (n ∷ []) (rising-indices n) (rising-one n) (λ x y m k. let e = List·Memᴰ·eq-of-singleton k in omega (arith, member-index n x m))
+
+rising-columns : (first : ℕ) (two : Bool) → Rising (columnsRead first two)
+unfolding columnsRead
+rising-columns first two =
+    pick-cases Rising two (first ∷ (first + 1) ∷ []) (first ∷ [])
+    (λ e. (λ b m. let p = List·Memᴰ·eq-of-singleton m in omega arith, rising-one (first + 1)))
+    (λ e. rising-one first)
+
+-- the addresses of columns below a width, in raster order
+module _ (width : ℕ) where
+  abbrev at : ℕ → ℕ → ℕ
+  at row column = row * width + column
+
+  rising-row : (row : ℕ) (columns : List ℕ) → Rising columns → Rising (map (at row) columns)
+  rising-row row [] p = tt
+  rising-row row (c ∷ cs) p =
+      (λ b m. let k = member-map (at row) cs m in omega (arith, p .0 (k .0) (k .1), k .2), rising-row row cs (p .1))
+
+  rising-raster : (rows columns : List ℕ) → Rising rows → Rising columns → ((c : ℕ) → List·Memᴰ c columns → c < width) → Rising (forEach rows (λ row. map (at row) columns))
+  rising-raster [] columns p q h = tt
+  rising-raster (r ∷ rs) columns p q h =
+      rising-join (map (at r) columns) (forEach rs (λ row. map (at row) columns)) (rising-row r columns q) (rising-raster rs columns (p .1) q h)
+      (λ x y m k.
+      let c = member-map (at r) columns m in
+      let s = member-for (λ row. map (at row) columns) rs k in
+      let d = member-map (at (s .0)) columns (s .2) in
+      omega (arith, c .2, d .2, h (c .0) (c .1), mul-le-mul-right width (p .0 (s .0) (s .1))))
+
+rising-read : (n : Numbers) (column row : ℕ) → geometryVerdict n ≡ Accepted → Rising (addressesRead (axesOf n) column row)
+unfolding addressesRead addressesOf
+rising-read n column row accepted =
+    let g = axesOf n in
+    let named = namedAt g column row in
+    pick-cases Rising (inside g column row) (addressesOf g named) []
+    (λ e. rising-raster (macroblocks (baseSize (g .horizontal))) (rowsOf named) (columnsOf named)
+    (subst Rising (sym (rows-are g column row)) (rising-columns _ _))
+    (subst Rising (sym (columns-are g column row)) (rising-columns _ _))
+    (λ c m. column-below g column row (across-inside n column row accepted e) (down-inside n column row accepted e) m))
+    (λ e. tt)
+
+pub records-judged : RecordsJudged
+records-judged = record {
+  accepted = λ base addresses. (all-formed base addresses, formed-all base addresses);
+  refused = refused-lowest;
+  all-rise = λ g. rising-indices _;
+  read-rise = rising-read;
+}
