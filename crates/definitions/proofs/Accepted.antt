@@ -15,7 +15,7 @@ use Rattle.definitions.specs.declared.Verdict.{Verdict}
 use Rattle.definitions.specs.declared.Verdict.the-variants.{Accepted, Refused}
 use Rattle.definitions.specs.Accepted.{Inside, AcceptedAxis}
 use Rattle.definitions.specs.Tests.{pick, minus}
-use Rattle.definitions.specs.Geometry.{baseSize, scaledSize, fullSize, offsetOf, axisOf, insideAxis, cOf, sampleOf}
+use Rattle.definitions.specs.Geometry.{baseSize, scaledSize, fullSize, offsetOf, axisOf, axesOf, insideAxis, inside, cOf, sampleOf}
 use Rattle.definitions.specs.Refusals.{sizeRight, scaledRight, offsetRight, geometryTests, geometryVerdict}
 use Rattle.definitions.proofs.Choices.{and-true}
 use Rattle.definitions.proofs.Differences.{sub-pos, sub-cases, pos-minus}
@@ -131,6 +131,14 @@ unfolding insideAxis
 inside-axis a p accepted e =
     let both = and-true (leZ (offsetOf a) (pos p)) (leZ (pos (p + 16)) (offsetOf a +ℤ pos (scaledSize a))) e in
     record { sized = accepted .sized; c-low = omega arith; c-high = fits (offsetOf a) p (scaledSize a) (both .0) (both .1) }
+
+-- on both axes
+module _ (n : Numbers) (column row : ℕ) (accepted : geometryVerdict n ≡ Accepted) where
+  pub across-inside : inside (axesOf n) column row ≡ true → Inside (baseSize (axesOf n .horizontal)) (scaledSize (axesOf n .horizontal)) (cOf (axesOf n .horizontal) (sampleOf column))
+  across-inside e = inside-axis (axesOf n .horizontal) (sampleOf column) (accepted-axes n accepted .0) (and-true (insideAxis (axesOf n .horizontal) (sampleOf column)) (insideAxis (axesOf n .vertical) (sampleOf row)) e .0)
+
+  pub down-inside : inside (axesOf n) column row ≡ true → Inside (baseSize (axesOf n .vertical)) (scaledSize (axesOf n .vertical)) (cOf (axesOf n .vertical) (sampleOf row))
+  down-inside e = inside-axis (axesOf n .vertical) (sampleOf row) (accepted-axes n accepted .1) (and-true (insideAxis (axesOf n .horizontal) (sampleOf column)) (insideAxis (axesOf n .vertical) (sampleOf row)) e .1)
 
 -- ---- a geometry that meets all of this: document 01's whole case, its macroblock 1 0
 unfoldable pub whole : Numbers

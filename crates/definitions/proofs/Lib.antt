@@ -19,10 +19,10 @@ pub mod Answers
 pub mod Sameness
 pub mod Blocks
 pub mod Addresses
+pub mod Rising
 pub mod Promises
 pub mod Demand
 pub mod RecordLists
-pub mod Rising
 pub mod Ratios
 pub mod Overlap
 pub mod Why

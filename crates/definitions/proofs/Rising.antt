@@ -7,18 +7,20 @@ use mathlib.Core.Logic.{⊎-elim}
 use native.Mathlib.Nat.{mul-le-mul-right}
 use native.Mathlib.Omega.{arith}
 use lib.IntN.{ℤ}
+use Rattle.definitions.specs.declared.Axes.{Axes}
 use Rattle.definitions.specs.declared.Numbers.{Numbers}
 use Rattle.definitions.specs.declared.Refusal.{Refusal}
 use Rattle.definitions.specs.declared.Verdict.the-variants.{Accepted, Refused}
 use Rattle.definitions.specs.Tests.{upTo, forEach}
 use Rattle.definitions.specs.Geometry.{axesOf, baseSize, macroblocks, inside, columnsRead}
 use Rattle.definitions.specs.Record.{recordAt, wellFormed}
+use Rattle.definitions.specs.BlockMap.{baseAddress}
 use Rattle.definitions.specs.Answer.{namedAt, columnsOf, rowsOf, addressesOf}
 use Rattle.definitions.specs.Refusals.{verdictOf, recordTest, recordTests, geometryVerdict, addressesRead, LowestMalformed, Rising, RecordsJudged}
 use Rattle.definitions.proofs.Choices.{yes, no, pick-cases}
-use Rattle.definitions.proofs.RecordLists.{all-formed, formed-all, member-index}
+use Rattle.definitions.proofs.Accepted.{across-inside, down-inside}
+use Rattle.definitions.proofs.RecordLists.{all-formed, formed-all}
 use Rattle.definitions.proofs.Addresses.{member-map, member-for, columns-are, rows-are, column-below}
-use Rattle.definitions.proofs.Demand.{across-inside, down-inside}
 
 -- ---- the first malformed record of a rising list is its lowest
 refused-lowest : (base : List ℤ) (addresses : List ℕ) → Rising addresses → (r : Refusal) → verdictOf (recordTests base addresses) ≡ Refused r → LowestMalformed base addresses r
@@ -56,11 +58,18 @@ rising-join (x ∷ xs) ys p q h =
 rising-one : (x : ℕ) → Rising (x ∷ [])
 rising-one x = (λ b m. absurd (List·Memᴰ·not-nil m), tt)
 
-rising-indices : (n : ℕ) → Rising (upTo n (λ k. k))
+member-upTo : (n : ℕ) (f : ℕ → ℕ) {x : ℕ} → List·Memᴰ x (upTo n f) → (k : ℕ) × (k < n) × (x ≡ f k)
 unfolding upTo
-rising-indices zero = tt
-rising-indices (suc n) =
-    rising-join (upTo n (λ k. k)) (n ∷ []) (rising-indices n) (rising-one n) (λ x y m k. let e = List·Memᴰ·eq-of-singleton k in omega (arith, member-index n x m))
+member-upTo zero f m = absurd (List·Memᴰ·not-nil m)
+member-upTo (suc n) f m =
+    ⊎-elim (λ l. let w = member-upTo n f l in (w .0, omega (arith, w .1), w .2)) (λ l. (n, omega arith, List·Memᴰ·eq-of-singleton l)) (List·Memᴰ·append-cases (upTo n f) m)
+
+rising-upTo : (n : ℕ) (f : ℕ → ℕ) → ((i j : ℕ) → i < j → j < n → f i < f j) → Rising (upTo n f)
+unfolding upTo
+rising-upTo zero f h = tt
+rising-upTo (suc n) f h =
+    rising-join (upTo n f) (f n ∷ []) (rising-upTo n f (λ i j l k. h i j l (omega arith))) (rising-one (f n))
+    (λ x y m k. let e = List·Memᴰ·eq-of-singleton k in let w = member-upTo n f m in omega (arith, w .2, h (w .0) n (w .1) (omega arith)))
 
 rising-columns : (first : ℕ) (two : Bool) → Rising (columnsRead first two)
 unfolding columnsRead
@@ -69,10 +78,13 @@ rising-columns first two =
     (λ e. (λ b m. let p = List·Memᴰ·eq-of-singleton m in omega arith, rising-one (first + 1)))
     (λ e. rising-one first)
 
--- the addresses of columns below a width, in raster order
-module _ (width : ℕ) where
+-- the addresses of some columns of the base in some rows, in raster order
+module _ (g : Axes) where
+  abbrev width : ℕ
+  width = macroblocks (baseSize (g .horizontal))
+
   abbrev at : ℕ → ℕ → ℕ
-  at row column = row * width + column
+  at row column = baseAddress g column row
 
   rising-row : (row : ℕ) (columns : List ℕ) → Rising columns → Rising (map (at row) columns)
   rising-row row [] p = tt
@@ -95,7 +107,7 @@ rising-read n column row accepted =
     let g = axesOf n in
     let named = namedAt g column row in
     pick-cases Rising (inside g column row) (addressesOf g named) []
-    (λ e. rising-raster (macroblocks (baseSize (g .horizontal))) (rowsOf named) (columnsOf named)
+    (λ e. rising-raster g (rowsOf named) (columnsOf named)
     (subst Rising (sym (rows-are g column row)) (rising-columns _ _))
     (subst Rising (sym (columns-are g column row)) (rising-columns _ _))
     (λ c m. column-below g column row (across-inside n column row accepted e) (down-inside n column row accepted e) m))
@@ -105,6 +117,6 @@ pub records-judged : RecordsJudged
 records-judged = record {
   accepted = λ base addresses. (all-formed base addresses, formed-all base addresses);
   refused = refused-lowest;
-  all-rise = λ g. rising-indices _;
+  all-rise = λ g. rising-upTo _ _ (λ i j h k. omega arith);
   read-rise = rising-read;
 }
