@@ -1,7 +1,8 @@
 -- What refusals 1 to 4 and the test of inside leave, as facts on naturals; and a geometry that meets them. Assumes nothing.
-use Prim.Native.Nat.{ℕ, suc, _+_, _*_, _-_, _%_, _≤_}
+use Prim.Native.Nat.{ℕ, suc, _+_, _*_, _-_, _/_, _%_, _≤_, _<_}
 use mathlib.Core.Path.{_≡_, refl, sym, ap, subst, _∙_}
 use mathlib.Core.Bool.{Bool, true, false, not, _&&_, false≢true}
+use native.Mathlib.Nat.{mod-lt, div-lt-iff-lt-mul}
 use native.Mathlib.Omega.{arith}
 use lib.Dec.{T, eqb, leb}
 use lib.IntN.{ℤ, pos, negsuc, natAbs, _+ℤ_, _-ℤ_}
@@ -15,8 +16,9 @@ use Rattle.definitions.specs.declared.Verdict.{Verdict}
 use Rattle.definitions.specs.declared.Verdict.the-variants.{Accepted, Refused}
 use Rattle.definitions.specs.Accepted.{Inside, AcceptedAxis}
 use Rattle.definitions.specs.Tests.{pick, minus}
-use Rattle.definitions.specs.Geometry.{baseSize, scaledSize, fullSize, offsetOf, axisOf, axesOf, insideAxis, inside, cOf, sampleOf}
+use Rattle.definitions.specs.Geometry.{baseSize, scaledSize, fullSize, offsetOf, axisOf, axesOf, insideAxis, inside, cOf, sampleOf, macroblocks}
 use Rattle.definitions.specs.Refusals.{sizeRight, scaledRight, offsetRight, geometryTests, geometryVerdict}
+use Rattle.definitions.specs.Calls.{fullCount}
 use Rattle.definitions.proofs.Choices.{and-true}
 use Rattle.definitions.proofs.Differences.{sub-pos, sub-cases, pos-minus}
 
@@ -139,6 +141,20 @@ module _ (n : Numbers) (column row : ℕ) (accepted : geometryVerdict n ≡ Acce
 
   pub down-inside : inside (axesOf n) column row ≡ true → Inside (baseSize (axesOf n .vertical)) (scaledSize (axesOf n .vertical)) (cOf (axesOf n .vertical) (sampleOf row))
   down-inside e = inside-axis (axesOf n .vertical) (sampleOf row) (accepted-axes n accepted .1) (and-true (insideAxis (axesOf n .horizontal) (sampleOf column)) (insideAxis (axesOf n .vertical) (sampleOf row)) e .1)
+
+-- ---- the column and row of an address of the picture
+module _ (n : Numbers) (accepted : geometryVerdict n ≡ Accepted) where
+  abbrev columns : ℕ
+  columns = macroblocks (fullSize (axesOf n .horizontal))
+
+  some-columns : 0 < columns
+  some-columns = omega (arith, accepted-axes n accepted .0 .full-low)
+
+  pub column-within : (address : ℕ) → address % columns < columns
+  column-within address = mod-lt address some-columns
+
+  pub row-within : (address : ℕ) → address < fullCount (axesOf n) → address / columns < macroblocks (fullSize (axesOf n .vertical))
+  row-within address h = div-lt-iff-lt-mul some-columns .1 (omega arith)
 
 -- ---- a geometry that meets all of this: document 01's whole case, its macroblock 1 0
 unfoldable pub whole : Numbers

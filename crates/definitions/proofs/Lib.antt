@@ -27,6 +27,7 @@ pub mod Ratios
 pub mod Overlap
 pub mod Why
 pub mod Counting
+pub mod Singly
 pub mod Sessions
 pub mod SessionPicture
 pub mod SessionRefusals

@@ -22,7 +22,7 @@ use Rattle.definitions.proofs.Choices.{no, and-intro}
 use Rattle.definitions.proofs.Verdicts.{then-verdict}
 use Rattle.definitions.proofs.Demand.{within}
 use Rattle.definitions.proofs.Sessions.{next-going, next-over, only-sound}
-use Rattle.definitions.proofs.SessionPicture.{column-within, row-within}
+use Rattle.definitions.proofs.Accepted.{column-within, row-within}
 
 -- a verdict that refuses does so by one of these numbers
 abbrev ByThese : Verdict → Type 0
