@@ -22,6 +22,7 @@ pub mod Addresses
 pub mod Rising
 pub mod Promises
 pub mod Demand
+pub mod Cases
 pub mod RecordLists
 pub mod Ratios
 pub mod Overlap
