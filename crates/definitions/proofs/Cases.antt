@@ -1,18 +1,20 @@
 -- The concrete cases of specs/Cases, by computation. Assumes nothing.
-use Prim.Native.Nat.{ℕ, _+_, _*_}
-use mathlib.Core.Path.{_≡_, refl, ap}
+use Prim.Native.Nat.{ℕ, _*_}
+use mathlib.Core.Path.{_≡_, refl, sym, ap, _∙_}
 use mathlib.Core.Bool.{true}
 use mathlib.Core.List.{List, List·Memᴰ·not-nil}
 use lib.Count.{ones, onesIn}
 use lib.Dec.{ltb}
-use lib.IntN.{ℤ}
+use lib.IntN.{ℤ, pos}
 use lib.ListN.{length}
 use borrow.Author.Tests.{ltb-true}
 use Rattle.definitions.specs.declared.Numbers.{Numbers}
 use Rattle.definitions.specs.declared.Counts.{Counts}
 use Rattle.definitions.specs.declared.Verdict.the-variants.{Accepted}
+use Rattle.definitions.specs.declared.Class.the-variants.{Corner, Center}
+use Rattle.definitions.specs.declared.Split.the-variants.{S16x16}
 use Rattle.definitions.specs.declared.Answer.{Answer}
-use Rattle.definitions.specs.declared.Answer.the-variants.{Outside}
+use Rattle.definitions.specs.declared.Answer.the-variants.{Outside, Intra, Inherited}
 use Rattle.definitions.specs.declared.MacroblockReply.{MacroblockReply}
 use Rattle.definitions.specs.declared.PictureReply.the-variants.{Counted}
 use Rattle.definitions.specs.Tests.{pick, allBelow, allOf, upTo}
@@ -25,10 +27,10 @@ use Rattle.definitions.specs.Answer.{namedAt, answerOf, addressesOf, wri
 use Rattle.definitions.specs.Refusals.{geometryTests, geometryVerdict, baseCount, recordTests, addressesRead}
 use Rattle.definitions.specs.Calls.{Outcome, macroblockTests, macroblockCall, fullCount, pictureTests, madeAt, countsOf, pictureCall}
 use Rattle.definitions.specs.Demand3.{SinglyGives}
-use Rattle.definitions.specs.Examples.{wholeRecord, wholeCase}
-use Rattle.definitions.specs.Cases.{blank, outsideRecord, Concrete, Cases}
+use Rattle.definitions.specs.Examples.{centred, intraRecord, wholeRecord, allButLast, wholeCase}
+use Rattle.definitions.specs.Cases.{blank, Concrete, first, doubledRecord, outsideRecord, counts, Cases}
 use Rattle.definitions.proofs.Choices.{below-true}
-use Rattle.definitions.proofs.Demand.{demand3}
+use Rattle.definitions.proofs.Demand.{call-accepted, gives-made, counted-accepted, record-made, demand3}
 
 -- a concrete case by equations that compute
 concrete : (n : Numbers) (column row : ℕ) (base : List ℤ) (answer : Answer) (written : List ℤ) (counts : Counts)
@@ -39,31 +41,62 @@ concrete : (n : Numbers) (column row : ℕ) (base : List ℤ) (answer : Answer) 
     → ltb row (macroblocks (fullSize (axesOf n .vertical))) ≡ true
     → SinglyGives n column row (blank 1) base answer written
     → pictureCall n base (blank (fullCount (axesOf n))) .reply ≡ Counted counts
-    → recordAt (pictureCall n base (blank (fullCount (axesOf n))) .words) (row * macroblocks (fullSize (axesOf n .horizontal)) + column) ≡ written
     → Concrete n column row base answer written counts
-concrete n column row base answer written counts accepted size formed x y singly counted there = record {
-  case = record {
-    geometry = accepted;
-    base-length = size;
-    formed = below-true (baseCount (axesOf n)) (λ a. wellFormed (recordAt base a)) formed;
-    column-within = ltb-true column _ x;
-    row-within = ltb-true row _ y;
-  };
-  singly = singly;
-  picture = record { counts = counts; accepted = counted; answered = ap (λ (o : Outcome MacroblockReply). o .reply) singly; at-address = there };
-  counted = refl;
-}
+concrete n column row base answer written counts accepted size formed x y singly counted =
+    let words = blank (fullCount (axesOf n)) in
+    let within-x = ltb-true column _ x in
+    let within-y = ltb-true row _ y in
+    let replied = ap (λ (o : Outcome MacroblockReply). o .reply) singly in
+    let given = gives-made n column row (blank 1) base (call-accepted n base (pos column) (pos row) (blank 1) answer replied) in
+    let there = record-made n words base column row within-x within-y (counted-accepted n words base counts counted) in
+    record {
+      case = record {
+        geometry = accepted;
+        base-length = size;
+        formed = below-true (baseCount (axesOf n)) (λ a. wellFormed (recordAt base a)) formed;
+        column-within = within-x;
+        row-within = within-y;
+      };
+      singly = singly;
+      picture = record { counts = counts; accepted = counted; answered = replied; at-address = there ∙ ap (λ (o : Outcome MacroblockReply). o .words) (sym given ∙ singly) };
+      counted = refl;
+    }
 
-right-of-window : SinglyGives wholeCase 2 0 (blank 1) wholeRecord Outside outsideRecord
+-- ---- document 01's whole case
+whole-formed : allBelow 1 (λ a. wellFormed (recordAt wholeRecord a)) ≡ true
+unfolding allOf allBelow pick upTo sameMotion samePrediction alike oneEach recordAt motionOf splitSaid rule1 rule2 rule3 rule4 rule5 rule6 firstBroken laidOut
+whole-formed = refl
+
+whole-first : SinglyGives wholeCase 0 0 (blank 1) wholeRecord (Inherited (first Corner) S16x16) doubledRecord
+unfolding allOf allBelow pick upTo insideAxis mOf nOf fOf twoOf columnsRead digitsOf coordinateOf stepOf addressRead blockRead sameMotion samePrediction alike oneEach fewestIn recordAt motionOf splitSaid rule1 rule2 rule3 rule4 rule5 rule6 firstBroken laidOut setOf intraSet gathered source clearOf filled lower lowest having mergedList merged someOf liveOf copiedFrom copied resolved scaledPrediction scaledMotion inheritedMotions namedAt answerOf addressesOf writtenFor madeOf geometryTests recordTests addressesRead macroblockTests macroblockCall ones onesIn
+whole-first = refl
+
+whole-outside : SinglyGives wholeCase 2 0 (blank 1) wholeRecord Outside outsideRecord
 unfolding pick upTo insideAxis laidOut answerOf writtenFor madeOf geometryTests recordTests addressesRead macroblockTests macroblockCall
-right-of-window = refl
+whole-outside = refl
+
+whole-counted : pictureCall wholeCase wholeRecord (blank 6) .reply ≡ Counted (counts 4 0 2)
+unfolding allOf allBelow pick upTo insideAxis mOf nOf fOf twoOf columnsRead digitsOf coordinateOf stepOf addressRead blockRead sameMotion samePrediction alike oneEach fewestIn recordAt motionOf splitSaid rule1 rule2 rule3 rule4 rule5 rule6 firstBroken laidOut setOf intraSet gathered source clearOf filled lower lowest having mergedList merged someOf liveOf copiedFrom copied resolved scaledPrediction scaledMotion inheritedMotions namedAt answerOf addressesOf writtenFor madeOf geometryTests recordTests pictureTests madeAt countsOf pictureCall ones onesIn
+whole-counted = refl
+
+-- ---- the starred macroblock
+centred-formed : allBelow 4 (λ a. wellFormed (recordAt allButLast a)) ≡ true
+unfolding allOf allBelow pick upTo sameMotion samePrediction alike oneEach recordAt motionOf splitSaid rule1 rule2 rule3 rule4 rule5 rule6 firstBroken laidOut
+centred-formed = refl
+
+centred-intra : SinglyGives centred 1 1 (blank 1) allButLast (Intra (first Center)) intraRecord
+unfolding allOf allBelow pick upTo insideAxis mOf nOf fOf twoOf columnsRead digitsOf coordinateOf stepOf addressRead blockRead sameMotion samePrediction alike oneEach fewestIn recordAt motionOf splitSaid rule1 rule2 rule3 rule4 rule5 rule6 firstBroken laidOut setOf intraSet gathered source clearOf filled lower lowest having mergedList merged someOf liveOf copiedFrom copied resolved scaledPrediction scaledMotion inheritedMotions namedAt answerOf addressesOf writtenFor madeOf geometryTests recordTests addressesRead macroblockTests macroblockCall ones onesIn
+centred-intra = refl
+
+centred-counted : pictureCall centred allButLast (blank 16) .reply ≡ Counted (counts 0 1 15)
+unfolding allOf allBelow pick upTo insideAxis mOf nOf fOf twoOf columnsRead digitsOf coordinateOf stepOf addressRead blockRead sameMotion samePrediction alike oneEach fewestIn recordAt motionOf splitSaid rule1 rule2 rule3 rule4 rule5 rule6 firstBroken laidOut setOf intraSet gathered source clearOf filled lower lowest having mergedList merged someOf liveOf copiedFrom copied resolved scaledPrediction scaledMotion inheritedMotions namedAt answerOf addressesOf writtenFor madeOf geometryTests recordTests pictureTests madeAt countsOf pictureCall ones onesIn
+centred-counted = refl
 
 pub cases : Cases
-unfolding allOf allBelow pick upTo insideAxis mOf nOf fOf twoOf columnsRead digitsOf coordinateOf stepOf addressRead blockRead sameMotion samePrediction alike oneEach fewestIn recordAt motionOf splitSaid rule1 rule2 rule3 rule4 rule5 rule6 firstBroken laidOut setOf intraSet gathered source clearOf filled lower lowest having mergedList merged someOf liveOf copiedFrom copied resolved scaledPrediction scaledMotion inheritedMotions namedAt answerOf addressesOf writtenFor madeOf geometryTests recordTests addressesRead macroblockTests macroblockCall pictureTests madeAt countsOf pictureCall ones onesIn
+unfolding pick upTo laidOut geometryTests
 cases = record {
-  inherited = concrete _ _ _ _ _ _ _ refl refl refl refl refl refl refl refl;
-  outside = concrete _ _ _ _ _ _ _ refl refl refl refl refl right-of-window refl refl;
-  others = λ base l. demand3 .singly wholeCase 2 0 (blank 1) wholeRecord Outside outsideRecord right-of-window .others base l (λ a m. absurd (List·Memᴰ·not-nil m));
-  filled = concrete _ _ _ _ _ _ _ refl refl refl refl refl refl refl refl;
-  intra = concrete _ _ _ _ _ _ _ refl refl refl refl refl refl refl refl;
+  inherited = concrete wholeCase 0 0 wholeRecord _ _ _ refl refl whole-formed refl refl whole-first whole-counted;
+  outside = concrete wholeCase 2 0 wholeRecord _ _ _ refl refl whole-formed refl refl whole-outside whole-counted;
+  others = λ base l. demand3 .singly wholeCase 2 0 (blank 1) wholeRecord Outside outsideRecord whole-outside .others base l (λ a m. absurd (List·Memᴰ·not-nil m));
+  intra = concrete centred 1 1 allButLast _ _ _ refl refl centred-formed refl refl centred-intra centred-counted;
 }

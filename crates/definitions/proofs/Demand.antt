@@ -239,7 +239,7 @@ module _ (n : Numbers) (words base : List ℤ) where
         ∙ formed-all base (addressesRead g column row) (λ a m. p .formed a (read-below (p .geometry) a m)))))
 
     -- and the record at its address is what is made of it
-    record-made : whole ≡ Accepted → recordAt (pictureCall n base words .words) (row * macroblocks (fullSize (g .horizontal)) + column) ≡ madeOf g base column row .written
+    pub record-made : whole ≡ Accepted → recordAt (pictureCall n base words .words) (row * macroblocks (fullSize (g .horizontal)) + column) ≡ madeOf g base column row .written
     unfolding madeAt
     record-made v =
         let width = macroblocks (fullSize (g .horizontal)) in

@@ -8,7 +8,6 @@ use Rattle.definitions.specs.declared.Numbers.{Numbers}
 use Rattle.definitions.specs.declared.Counts.{Counts}
 use Rattle.definitions.specs.declared.Class.{Class}
 use Rattle.definitions.specs.declared.Class.the-variants.{Corner, Center}
-use Rattle.definitions.specs.declared.Motion.{Motion}
 use Rattle.definitions.specs.declared.Named.{Named}
 use Rattle.definitions.specs.declared.Split.the-variants.{S16x16}
 use Rattle.definitions.specs.declared.Answer.{Answer}
@@ -20,7 +19,7 @@ use Rattle.definitions.specs.Inheriting.{unused}
 use Rattle.definitions.specs.Answer.{unusedMotion}
 use Rattle.definitions.specs.Calls.{fullCount}
 use Rattle.definitions.specs.Demand3.{SinglyGives, PictureGives, Case}
-use Rattle.definitions.specs.Examples.{centred, intraRecord, wholeRecord, onlyLast, allButLast, wholeCase}
+use Rattle.definitions.specs.Examples.{centred, intraRecord, wholeRecord, allButLast, wholeCase}
 
 -- the words of some records, to lend
 abbrev pub blank : ℕ → List ℤ
@@ -37,9 +36,9 @@ pub record Concrete (n : Numbers) (column row : ℕ) (base : List ℤ) (answer :
 abbrev pub first : Class → Named
 first class = record { class = class; column = 0; row = 0 }
 
--- records with no sub-types: one motion in all blocks, and none
-abbrev pub oneMotion : Motion → List ℤ
-oneMotion m = laidOut 1 (λ q. 0) (λ b. m)
+-- the whole case's record with its vector doubled, and the record of an outside macroblock
+abbrev pub doubledRecord : List ℤ
+doubledRecord = laidOut 1 (λ q. 0) (λ b. record { list0 = record { reference = pos 0; x = pos 8; y = minus 16 }; list1 = unused })
 
 abbrev pub outsideRecord : List ℤ
 outsideRecord = laidOut 5 (λ q. 0) (λ b. unusedMotion)
@@ -48,15 +47,11 @@ abbrev pub counts : ℕ → ℕ → ℕ → Counts
 counts inherited intra outside = record { inherited = inherited; intra = intra; outside = outside }
 
 pub record Cases : Type 0 where
-  -- document 01's whole case: its one base record has the vector 4, −8, which is doubled
-  pub inherited : Concrete wholeCase 0 0 wholeRecord (Inherited (first Corner) S16x16)
-      (oneMotion (record { list0 = record { reference = pos 0; x = pos 8; y = minus 16 }; list1 = unused }))
-      (counts 4 0 2)
+  -- document 01's whole case,
+  pub inherited : Concrete wholeCase 0 0 wholeRecord (Inherited (first Corner) S16x16) doubledRecord (counts 4 0 2)
   -- and to the right of the window,
   pub outside : Concrete wholeCase 2 0 wholeRecord Outside outsideRecord (counts 4 0 2)
   -- where every base record is another one;
   pub others : (base : List ℤ) → length base ≡ recordWords → SinglyGives wholeCase 2 0 (blank 1) base Outside outsideRecord
-  -- the starred macroblock at 16,16 with base 0, 1, 2 intra and 3 of type 1, at ratio 1
-  pub filled : Concrete centred 1 1 onlyLast (Inherited (first Center) S16x16) wholeRecord (counts 1 0 15)
-  -- and with only base 3 intra.
+  -- the starred macroblock at 16,16, with only base 3 intra.
   pub intra : Concrete centred 1 1 allButLast (Intra (first Center)) intraRecord (counts 0 1 15)

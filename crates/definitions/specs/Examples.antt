@@ -83,7 +83,7 @@ intraRecord = laidOut 0 (λ q. 0) (λ b. unusedMotion)
 abbrev pub wholeRecord : List ℤ
 wholeRecord = laidOut 1 (λ q. 0) (λ b. record { list0 = record { reference = pos 0; x = pos 4; y = minus 8 }; list1 = unused })
 
-abbrev pub onlyLast : List ℤ
+abbrev onlyLast : List ℤ
 onlyLast = intraRecord ++ (intraRecord ++ (intraRecord ++ wholeRecord))
 
 abbrev pub allButLast : List ℤ
