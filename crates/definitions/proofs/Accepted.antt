@@ -19,6 +19,7 @@ use Rattle.definitions.specs.Tests.{pick, minus}
 use Rattle.definitions.specs.Geometry.{baseSize, scaledSize, fullSize, offsetOf, axisOf, axesOf, insideAxis, inside, cOf, sampleOf, macroblocks}
 use Rattle.definitions.specs.Refusals.{sizeRight, scaledRight, offsetRight, geometryTests, geometryVerdict}
 use Rattle.definitions.specs.Calls.{fullCount}
+use Rattle.definitions.specs.Examples.{wholeCase}
 use Rattle.definitions.proofs.Choices.{and-true}
 use Rattle.definitions.proofs.Differences.{sub-pos, sub-cases, pos-minus}
 
@@ -157,19 +158,12 @@ module _ (n : Numbers) (accepted : geometryVerdict n ≡ Accepted) where
   row-within address h = div-lt-iff-lt-mul some-columns .1 (omega arith)
 
 -- ---- a geometry that meets all of this: document 01's whole case, its macroblock 1 0
-unfoldable pub whole : Numbers
-whole =
-    record {
-      horizontal = record { base = pos 16; scaled = pos 32; offset = pos 0; full = pos 48 };
-      vertical = record { base = pos 16; scaled = pos 32; offset = pos 0; full = pos 32 };
-    }
-
-whole-accepted : geometryVerdict whole ≡ Accepted
-unfolding whole geometryTests pick
+whole-accepted : geometryVerdict wholeCase ≡ Accepted
+unfolding geometryTests pick
 whole-accepted = refl
 
 pub whole-inside : Inside 16 32 24 × Inside 16 32 8
-unfolding whole insideAxis
+unfolding insideAxis
 whole-inside =
-    let axes = accepted-axes whole whole-accepted in
-    (inside-axis (axisOf (whole .horizontal)) (sampleOf 1) (axes .0) refl, inside-axis (axisOf (whole .vertical)) (sampleOf 0) (axes .1) refl)
+    let axes = accepted-axes wholeCase whole-accepted in
+    (inside-axis (axisOf (wholeCase .horizontal)) (sampleOf 1) (axes .0) refl, inside-axis (axisOf (wholeCase .vertical)) (sampleOf 0) (axes .1) refl)

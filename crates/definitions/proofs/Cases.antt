@@ -75,7 +75,7 @@ whole-outside : SinglyGives wholeCase 2 0 (blank 1) wholeRecord Outside outsideR
 unfolding pick upTo insideAxis laidOut answerOf writtenFor madeOf geometryTests recordTests addressesRead macroblockTests macroblockCall
 whole-outside = refl
 
-whole-counted : pictureCall wholeCase wholeRecord (blank 6) .reply ≡ Counted (counts 4 0 2)
+pub whole-counted : pictureCall wholeCase wholeRecord (blank 6) .reply ≡ Counted (counts 4 0 2)
 unfolding allOf allBelow pick upTo insideAxis mOf nOf fOf twoOf columnsRead digitsOf coordinateOf stepOf addressRead blockRead sameMotion samePrediction alike oneEach fewestIn recordAt motionOf splitSaid rule1 rule2 rule3 rule4 rule5 rule6 firstBroken laidOut setOf intraSet gathered source clearOf filled lower lowest having mergedList merged someOf liveOf copiedFrom copied resolved scaledPrediction scaledMotion inheritedMotions namedAt answerOf addressesOf writtenFor madeOf geometryTests recordTests pictureTests madeAt countsOf pictureCall ones onesIn
 whole-counted = refl
 
