@@ -31,6 +31,7 @@ use Rattle.definitions.specs.Examples.{centred, intraRecord, wholeRecord
 use Rattle.definitions.specs.Cases.{blank, Concrete, first, doubledRecord, outsideRecord, counts, Cases}
 use Rattle.definitions.proofs.Choices.{below-true}
 use Rattle.definitions.proofs.Demand.{call-accepted, gives-made, counted-accepted, record-made, demand3}
+use Rattle.definitions.proofs.Singly.{picture-by-singly}
 
 -- a concrete case by equations that compute
 concrete : (n : Numbers) (column row : ℕ) (base : List ℤ) (answer : Answer) (written : List ℤ) (counts : Counts)
@@ -98,5 +99,6 @@ cases = record {
   inherited = concrete wholeCase 0 0 wholeRecord _ _ _ refl refl whole-formed refl refl whole-first whole-counted;
   outside = concrete wholeCase 2 0 wholeRecord _ _ _ refl refl whole-formed refl refl whole-outside whole-counted;
   others = λ base l. demand3 .singly wholeCase 2 0 (blank 1) wholeRecord Outside outsideRecord whole-outside .others base l (λ a m. absurd (List·Memᴰ·not-nil m));
+  by-calls = picture-by-singly wholeCase wholeRecord (blank 6) (counts 4 0 2) (λ a. blank 1) whole-counted (λ a h. refl);
   intra = concrete centred 1 1 allButLast _ _ _ refl refl centred-formed refl refl centred-intra centred-counted;
 }

@@ -1,4 +1,5 @@
--- The addresses that a call checks rise, so that the first malformed record is the lowest (RecordsJudged of specs/Refusals). Assumes nothing.
+-- The addresses that a call checks rise, so that the first malformed record is the lowest (RecordsJudged of specs/Refusals, LowestRefused
+-- of specs/Calls). Assumes nothing.
 use Prim.Native.Nat.{ℕ, zero, suc, _+_, _<_}
 use mathlib.Core.Path.{_≡_, refl, sym, ap, subst, _∙_}
 use mathlib.Core.Bool.{Bool, true, false, not, false≢true}
@@ -6,18 +7,23 @@ use mathlib.Core.List.{List, [], _∷_, _++_, map, List·Memᴰ, List·Memᴰ·h
 use mathlib.Core.Logic.{⊎-elim}
 use native.Mathlib.Nat.{mul-le-mul-right}
 use native.Mathlib.Omega.{arith}
-use lib.IntN.{ℤ}
+use lib.Dec.{eqb}
+use lib.IntN.{ℤ, natAbs}
 use Rattle.definitions.specs.declared.Axes.{Axes}
 use Rattle.definitions.specs.declared.Numbers.{Numbers}
 use Rattle.definitions.specs.declared.Refusal.{Refusal}
 use Rattle.definitions.specs.declared.Verdict.the-variants.{Accepted, Refused}
-use Rattle.definitions.specs.Tests.{upTo, forEach}
+use Rattle.definitions.specs.declared.MacroblockReply.the-variants.{Refused as Declined}
+use Rattle.definitions.specs.declared.PictureReply.the-variants.{Refused as NotMade}
+use Rattle.definitions.specs.Tests.{allOf, upTo, forEach}
 use Rattle.definitions.specs.Geometry.{axesOf, baseSize, macroblocks, inside, columnsRead}
 use Rattle.definitions.specs.Record.{recordAt, wellFormed}
 use Rattle.definitions.specs.BlockMap.{baseAddress}
 use Rattle.definitions.specs.Answer.{namedAt, columnsOf, rowsOf, addressesOf}
-use Rattle.definitions.specs.Refusals.{verdictOf, recordTest, recordTests, geometryVerdict, addressesRead, LowestMalformed, Rising, RecordsJudged}
+use Rattle.definitions.specs.Refusals.{Test, verdictOf, geometryTests, geometryVerdict, baseTest, outputTest, positionTest, recordTest, recordTests, addressesRead, allAddresses, LowestMalformed, Rising, RecordsJudged}
+use Rattle.definitions.specs.Calls.{macroblockTests, macroblockCall, fullCount, pictureTests, pictureCall, LowestRefused}
 use Rattle.definitions.proofs.Choices.{yes, no, pick-cases}
+use Rattle.definitions.proofs.Verdicts.{refused-later, reply-refused}
 use Rattle.definitions.proofs.Accepted.{across-inside, down-inside}
 use Rattle.definitions.proofs.RecordLists.{all-formed, formed-all}
 use Rattle.definitions.proofs.Addresses.{member-map, member-for, columns-are, rows-are, column-below}
@@ -119,4 +125,35 @@ records-judged = record {
   refused = refused-lowest;
   all-rise = λ g. rising-upTo _ _ (λ i j h k. omega arith);
   read-rise = rising-read;
+}
+
+-- ---- in the calls
+pub declined : (n : Numbers) (base : List ℤ) (column row : ℤ) (words : List ℤ) (r : Refusal) → macroblockCall n base column row words .reply ≡ Declined r
+    → verdictOf (macroblockTests n base column row words) ≡ Refused r
+unfolding macroblockCall
+declined n base column row words r e = reply-refused _ Declined words _ r (λ q p. cc) (λ p. let z : _≡_ {A = ℕ} 0 1 = cc in omega arith) e
+
+not-made : (n : Numbers) (base words : List ℤ) (r : Refusal) → pictureCall n base words .reply ≡ NotMade r → verdictOf (pictureTests n base words) ≡ Refused r
+unfolding pictureCall
+not-made n base words r e = reply-refused _ NotMade words _ r (λ q p. cc) (λ p. let z : _≡_ {A = ℕ} 0 1 = cc in omega arith) e
+
+-- the tests of the geometry, others that do not give 8, and those of records
+lowest-behind : (n : Numbers) (base : List ℤ) (xs : List Test) (addresses : List ℕ) (r : Refusal) → allOf (λ t. not (eqb (t .gives .number) 8)) xs ≡ true
+    → (geometryVerdict n ≡ Accepted → Rising addresses) → r .number ≡ 8 → verdictOf (geometryTests n ++ (xs ++ recordTests base addresses)) ≡ Refused r
+    → LowestMalformed base addresses r
+unfolding geometryTests allOf
+lowest-behind n base xs addresses r others rise eight e =
+    let first = refused-later 8 (geometryTests n) (xs ++ recordTests base addresses) r refl eight e in
+    refused-lowest base addresses (rise (first .0)) r (refused-later 8 xs (recordTests base addresses) r others eight (first .1) .1)
+
+pub lowest-refused : LowestRefused
+unfolding macroblockTests pictureTests allOf
+lowest-refused = record {
+  singly = λ n base column row words r e eight.
+      let g = axesOf n in
+      lowest-behind n base (baseTest g base ∷ outputTest 1 words ∷ positionTest g column row ∷ []) (addressesRead g (natAbs column) (natAbs row)) r refl
+      (rising-read n (natAbs column) (natAbs row)) eight (declined n base column row words r e);
+  picture = λ n base words r e eight.
+      let g = axesOf n in
+      lowest-behind n base (baseTest g base ∷ outputTest (fullCount g) words ∷ []) (allAddresses g) r refl (λ v. records-judged .all-rise g) eight (not-made n base words r e);
 }

@@ -21,7 +21,7 @@ use Rattle.definitions.specs.Tests.{howMany, upTo, forEach}
 use Rattle.definitions.specs.Geometry.{axesOf, fullSize, macroblocks}
 use Rattle.definitions.specs.Record.{recordWords, recordAt}
 use Rattle.definitions.specs.Answer.{Made, madeOf}
-use Rattle.definitions.specs.Refusals.{Test, verdictOf, geometryTests, baseTest, outputTest, positionTest, recordTests, addressesRead, allAddresses}
+use Rattle.definitions.specs.Refusals.{Test, verdictOf, geometryTests, baseTest, outputTest, positionTest, recordTests, addressesRead, allAddresses, LowestMalformed}
 
 -- what a call hands back, and the words that it was lent, afterwards
 pub record Outcome (Reply : Type 0) : Type 0 where
@@ -79,6 +79,13 @@ pictureCall n base words =
     let g = axesOf n in
     let made = upTo (fullCount g) (madeAt g base) in
     byVerdict (verdictOf (pictureTests n base words)) NotMade words (record { reply = Counted (countsOf made); words = forEach made (λ m. m .written) })
+
+-- Refusal 8 of either call has the lowest malformed address among the records that it checks.
+pub record LowestRefused : Type 0 where
+  pub singly : (n : Numbers) (base : List ℤ) (column row : ℤ) (words : List ℤ) (r : Refusal) → macroblockCall n base column row words .reply ≡ Declined r → r .number ≡ 8
+      → LowestMalformed base (addressesRead (axesOf n) (natAbs column) (natAbs row)) r
+  pub picture : (n : Numbers) (base words : List ℤ) (r : Refusal) → pictureCall n base words .reply ≡ NotMade r → r .number ≡ 8
+      → LowestMalformed base (allAddresses (axesOf n)) r
 
 -- The picture by one-macroblock calls. The call at an address of the picture
 abbrev pub callAt : Numbers → List ℤ → ℕ → List ℤ → Outcome MacroblockReply

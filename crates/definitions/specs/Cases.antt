@@ -1,4 +1,4 @@
--- Concrete cases of demand 3: in each of them every premise of Demand3Entire is met, and this is what both calls give. proofs/Cases computes them.
+-- Concrete cases of demand 3: in each of them every premise of Demand3Entire is met, and this is what both calls give.
 use Prim.Native.Nat.{ℕ, _*_}
 use mathlib.Core.Path.{_≡_}
 use mathlib.Core.List.{List}
@@ -17,7 +17,7 @@ use Rattle.definitions.specs.Geometry.{axesOf}
 use Rattle.definitions.specs.Record.{recordWords, laidOut}
 use Rattle.definitions.specs.Inheriting.{unused}
 use Rattle.definitions.specs.Answer.{unusedMotion}
-use Rattle.definitions.specs.Calls.{fullCount}
+use Rattle.definitions.specs.Calls.{fullCount, AsSingly}
 use Rattle.definitions.specs.Demand3.{SinglyGives, PictureGives, Case}
 use Rattle.definitions.specs.Examples.{centred, intraRecord, wholeRecord, allButLast, wholeCase}
 
@@ -53,5 +53,7 @@ pub record Cases : Type 0 where
   pub outside : Concrete wholeCase 2 0 wholeRecord Outside outsideRecord (counts 4 0 2)
   -- where every base record is another one;
   pub others : (base : List ℤ) → length base ≡ recordWords → SinglyGives wholeCase 2 0 (blank 1) base Outside outsideRecord
+  -- the picture by one-macroblock calls;
+  pub by-calls : AsSingly wholeCase wholeRecord (blank 6) (counts 4 0 2) (λ a. blank 1)
   -- the starred macroblock at 16,16, with only base 3 intra.
   pub intra : Concrete centred 1 1 allButLast (Intra (first Center)) intraRecord (counts 0 1 15)
