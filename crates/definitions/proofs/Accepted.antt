@@ -1,7 +1,8 @@
 -- What refusals 1 to 4 and the test of inside leave, as facts on naturals; and a geometry that meets them. Assumes nothing.
-use Prim.Native.Nat.{ℕ, suc, _+_, _*_, _-_, _%_, _≤_}
+use Prim.Native.Nat.{ℕ, suc, _+_, _*_, _-_, _/_, _%_, _≤_, _<_}
 use mathlib.Core.Path.{_≡_, refl, sym, ap, subst, _∙_}
 use mathlib.Core.Bool.{Bool, true, false, not, _&&_, false≢true}
+use native.Mathlib.Nat.{mod-lt, div-lt-iff-lt-mul}
 use native.Mathlib.Omega.{arith}
 use lib.Dec.{T, eqb, leb}
 use lib.IntN.{ℤ, pos, negsuc, natAbs, _+ℤ_, _-ℤ_}
@@ -15,8 +16,10 @@ use Rattle.definitions.specs.declared.Verdict.{Verdict}
 use Rattle.definitions.specs.declared.Verdict.the-variants.{Accepted, Refused}
 use Rattle.definitions.specs.Accepted.{Inside, AcceptedAxis}
 use Rattle.definitions.specs.Tests.{pick, minus}
-use Rattle.definitions.specs.Geometry.{baseSize, scaledSize, fullSize, offsetOf, axisOf, insideAxis, cOf, sampleOf}
+use Rattle.definitions.specs.Geometry.{baseSize, scaledSize, fullSize, offsetOf, axisOf, axesOf, insideAxis, inside, cOf, sampleOf, macroblocks}
 use Rattle.definitions.specs.Refusals.{sizeRight, scaledRight, offsetRight, geometryTests, geometryVerdict}
+use Rattle.definitions.specs.Calls.{fullCount}
+use Rattle.definitions.specs.Examples.{wholeCase}
 use Rattle.definitions.proofs.Choices.{and-true}
 use Rattle.definitions.proofs.Differences.{sub-pos, sub-cases, pos-minus}
 
@@ -132,20 +135,35 @@ inside-axis a p accepted e =
     let both = and-true (leZ (offsetOf a) (pos p)) (leZ (pos (p + 16)) (offsetOf a +ℤ pos (scaledSize a))) e in
     record { sized = accepted .sized; c-low = omega arith; c-high = fits (offsetOf a) p (scaledSize a) (both .0) (both .1) }
 
--- ---- a geometry that meets all of this: document 01's whole case, its macroblock 1 0
-unfoldable pub whole : Numbers
-whole =
-    record {
-      horizontal = record { base = pos 16; scaled = pos 32; offset = pos 0; full = pos 48 };
-      vertical = record { base = pos 16; scaled = pos 32; offset = pos 0; full = pos 32 };
-    }
+-- on both axes
+module _ (n : Numbers) (column row : ℕ) (accepted : geometryVerdict n ≡ Accepted) where
+  pub across-inside : inside (axesOf n) column row ≡ true → Inside (baseSize (axesOf n .horizontal)) (scaledSize (axesOf n .horizontal)) (cOf (axesOf n .horizontal) (sampleOf column))
+  across-inside e = inside-axis (axesOf n .horizontal) (sampleOf column) (accepted-axes n accepted .0) (and-true (insideAxis (axesOf n .horizontal) (sampleOf column)) (insideAxis (axesOf n .vertical) (sampleOf row)) e .0)
 
-whole-accepted : geometryVerdict whole ≡ Accepted
-unfolding whole geometryTests pick
+  pub down-inside : inside (axesOf n) column row ≡ true → Inside (baseSize (axesOf n .vertical)) (scaledSize (axesOf n .vertical)) (cOf (axesOf n .vertical) (sampleOf row))
+  down-inside e = inside-axis (axesOf n .vertical) (sampleOf row) (accepted-axes n accepted .1) (and-true (insideAxis (axesOf n .horizontal) (sampleOf column)) (insideAxis (axesOf n .vertical) (sampleOf row)) e .1)
+
+-- ---- the column and row of an address of the picture
+module _ (n : Numbers) (accepted : geometryVerdict n ≡ Accepted) where
+  abbrev columns : ℕ
+  columns = macroblocks (fullSize (axesOf n .horizontal))
+
+  some-columns : 0 < columns
+  some-columns = omega (arith, accepted-axes n accepted .0 .full-low)
+
+  pub column-within : (address : ℕ) → address % columns < columns
+  column-within address = mod-lt address some-columns
+
+  pub row-within : (address : ℕ) → address < fullCount (axesOf n) → address / columns < macroblocks (fullSize (axesOf n .vertical))
+  row-within address h = div-lt-iff-lt-mul some-columns .1 (omega arith)
+
+-- ---- a geometry that meets all of this: document 01's whole case, its macroblock 1 0
+whole-accepted : geometryVerdict wholeCase ≡ Accepted
+unfolding geometryTests pick
 whole-accepted = refl
 
 pub whole-inside : Inside 16 32 24 × Inside 16 32 8
-unfolding whole insideAxis
+unfolding insideAxis
 whole-inside =
-    let axes = accepted-axes whole whole-accepted in
-    (inside-axis (axisOf (whole .horizontal)) (sampleOf 1) (axes .0) refl, inside-axis (axisOf (whole .vertical)) (sampleOf 0) (axes .1) refl)
+    let axes = accepted-axes wholeCase whole-accepted in
+    (inside-axis (axisOf (wholeCase .horizontal)) (sampleOf 1) (axes .0) refl, inside-axis (axisOf (wholeCase .vertical)) (sampleOf 0) (axes .1) refl)

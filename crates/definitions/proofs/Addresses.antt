@@ -24,12 +24,12 @@ for-member f [] m k = absurd (List·Memᴰ·not-nil m)
 for-member f {x} {y} (z ∷ zs) m k =
     ⊎-elim (λ e. Memᴰ·append-left (forEach zs f) (subst (λ l. List·Memᴰ y l) (ap f e) k)) (λ t. Memᴰ·append-right (f z) (for-member f zs t k)) (List·Memᴰ·cases-cons m)
 
-member-map : {A B : Type 0} (f : A → B) {y : B} (l : List A) → List·Memᴰ y (map f l) → (x : A) × List·Memᴰ x l × (y ≡ f x)
+pub member-map : {A B : Type 0} (f : A → B) {y : B} (l : List A) → List·Memᴰ y (map f l) → (x : A) × List·Memᴰ x l × (y ≡ f x)
 member-map f [] m = absurd (List·Memᴰ·not-nil m)
 member-map f (z ∷ zs) m =
     ⊎-elim (λ e. (z, List·Memᴰ·head refl, e)) (λ t. let w = member-map f zs t in (w .0, List·Memᴰ·tail (w .1), w .2)) (List·Memᴰ·cases-cons m)
 
-member-for : {A B : Type 0} (f : A → List B) {y : B} (l : List A) → List·Memᴰ y (forEach l f) → (x : A) × List·Memᴰ x l × List·Memᴰ y (f x)
+pub member-for : {A B : Type 0} (f : A → List B) {y : B} (l : List A) → List·Memᴰ y (forEach l f) → (x : A) × List·Memᴰ x l × List·Memᴰ y (f x)
 member-for f [] m = absurd (List·Memᴰ·not-nil m)
 member-for f (z ∷ zs) m =
     ⊎-elim (λ t. (z, List·Memᴰ·head refl, t)) (λ t. let w = member-for f zs t in (w .0, List·Memᴰ·tail (w .1), w .2)) (List·Memᴰ·append-cases (f z) m)
@@ -41,11 +41,11 @@ module _ (g : Axes) (column row : ℕ) where
   abbrev ver : ℕ
   ver = cOf (g .vertical) (sampleOf row)
 
-  columns-are : columnsOf (namedAt g column row) ≡ columnsRead (fOf (baseSize (g .horizontal)) (scaledSize (g .horizontal)) hor) (twoOf (baseSize (g .horizontal)) (scaledSize (g .horizontal)) hor)
+  pub columns-are : columnsOf (namedAt g column row) ≡ columnsRead (fOf (baseSize (g .horizontal)) (scaledSize (g .horizontal)) hor) (twoOf (baseSize (g .horizontal)) (scaledSize (g .horizontal)) hor)
   unfolding namedAt stepOf
   columns-are = ap (columnsRead _) (class-columns _ _)
 
-  rows-are : rowsOf (namedAt g column row) ≡ columnsRead (fOf (baseSize (g .vertical)) (scaledSize (g .vertical)) ver) (twoOf (baseSize (g .vertical)) (scaledSize (g .vertical)) ver)
+  pub rows-are : rowsOf (namedAt g column row) ≡ columnsRead (fOf (baseSize (g .vertical)) (scaledSize (g .vertical)) ver) (twoOf (baseSize (g .vertical)) (scaledSize (g .vertical)) ver)
   unfolding namedAt stepOf
   rows-are = ap (columnsRead _) (class-rows (twoOf (baseSize (g .horizontal)) (scaledSize (g .horizontal)) hor) _)
 

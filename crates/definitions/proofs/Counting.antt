@@ -1,15 +1,16 @@
--- Counts of answers: one macroblock more, and their sum (specs/Calls). Assumes nothing.
-use Prim.Native.Nat.{ℕ, suc, _+_}
+-- Counts of answers: one macroblock more, their sum, and each by its sort (specs/Calls). Assumes nothing.
+use Prim.Native.Nat.{ℕ, zero, suc, _+_, _<_}
 use mathlib.Core.Path.{_≡_, refl, ap, _∙_}
+use mathlib.Core.Bool.{Bool}
 use mathlib.Core.List.{List, [], _∷_, _++_}
 use native.Mathlib.Omega.{arith}
 use lib.ListN.{length}
 use Rattle.definitions.specs.declared.Answer.{Answer}
 use Rattle.definitions.specs.declared.Answer.the-variants.{Outside, Intra, Inherited}
 use Rattle.definitions.specs.declared.Counts.{Counts}
-use Rattle.definitions.specs.Tests.{upTo}
+use Rattle.definitions.specs.Tests.{pick, howMany, upTo}
 use Rattle.definitions.specs.Answer.{Made}
-use Rattle.definitions.specs.Calls.{counted, countsOf, sumOf}
+use Rattle.definitions.specs.Calls.{counted, noCounts, countsOf, sumOf}
 use Rattle.definitions.proofs.Choices.{upTo-length}
 
 -- the order of two answers does not matter
@@ -47,3 +48,20 @@ counts-length (m ∷ ms) = counted-sum (m .answer) (countsOf ms) ∙ omega (arit
 
 pub counts-sum : (n : ℕ) (f : ℕ → Made) → sumOf (countsOf (upTo n f)) ≡ n
 counts-sum n f = counts-length (upTo n f) ∙ upTo-length n f
+
+-- a count is the number of macroblocks of its sort
+pub counts-sort : (field : Counts → ℕ) (sort : Answer → Bool) → field noCounts ≡ 0 → ((a : Answer) (c : Counts) → field (counted a c) ≡ field c + pick (sort a) 1 0)
+    → (n : ℕ) (f : ℕ → Made) → field (countsOf (upTo n f)) ≡ howMany n (λ k. sort (f k .answer))
+unfolding upTo countsOf howMany
+counts-sort field sort none more zero f = none
+counts-sort field sort none more (suc n) f =
+    ap field (counts-more n f) ∙ (more (f n .answer) (countsOf (upTo n f)) ∙ ap (λ (k : ℕ). k + pick (sort (f n .answer)) 1 0) (counts-sort field sort none more n f))
+
+-- tests that agree hold as often
+pub as-many : (n : ℕ) (f g : ℕ → Bool) → ((k : ℕ) → k < n → f k ≡ g k) → howMany n f ≡ howMany n g
+unfolding howMany
+as-many zero f g h = refl
+as-many (suc n) f g h =
+    let p : howMany n f ≡ howMany n g = as-many n f g (λ k l. h k (omega arith)) in
+    let q : f n ≡ g n = h n (omega arith) in
+    λ i. p i + pick (q i) 1 0

@@ -23,8 +23,7 @@ use Rattle.definitions.specs.declared.PictureReply.the-variants.{Counted
 use Rattle.definitions.specs.declared.MacroblockReply.{MacroblockReply}
 use Rattle.definitions.specs.declared.MacroblockReply.the-variants.{Answered, Refused as Declined}
 use Rattle.definitions.specs.Tests.{upTo, forEach}
-use Rattle.definitions.specs.Accepted.{Inside}
-use Rattle.definitions.specs.Geometry.{axesOf, baseSize, scaledSize, fullSize, cOf, sampleOf, macroblocks, insideAxis, inside}
+use Rattle.definitions.specs.Geometry.{axesOf, fullSize, macroblocks, inside}
 use Rattle.definitions.specs.Record.{recordWords, recordAt, wellFormed, firstBroken}
 use Rattle.definitions.specs.Answer.{Made, answerOf, writtenFor, madeOf, addressesNamed}
 use Rattle.definitions.specs.Refusals.{test, refusal, verdictOf, geometryTests, geometryVerdict, baseCount, baseTest, outputTest, positionTest, recordTests, withinAxis, addressesRead, allAddresses}
@@ -33,7 +32,7 @@ use Rattle.definitions.specs.Demand3.{Demand3, AnyWords, SinglyGives, De
 use Rattle.definitions.proofs.Choices.{yes, no, and-true, and-intro}
 use Rattle.definitions.proofs.Verdicts.{first-passed, both-passed, then-verdict, reply-accepted}
 use Rattle.definitions.proofs.RecordLists.{not-false, all-formed, formed-all, index-member, member-index, record-of}
-use Rattle.definitions.proofs.Accepted.{accepted-axes, inside-axis}
+use Rattle.definitions.proofs.Accepted.{across-inside, down-inside}
 use Rattle.definitions.proofs.Answers.{Decided, is-outside, is-intra, is-inherited, decided, made-outside}
 use Rattle.definitions.proofs.Sameness.{same-made}
 use Rattle.definitions.proofs.Addresses.{address-named, address-below}
@@ -67,20 +66,14 @@ module _ (n : Numbers) (column row : ℕ) (accepted : geometryVerdict n ≡ Acce
   abbrev axes : Axes
   axes = axesOf n
 
-  across-inside : inside axes column row ≡ true → Inside (baseSize (axes .horizontal)) (scaledSize (axes .horizontal)) (cOf (axes .horizontal) (sampleOf column))
-  across-inside e = inside-axis (axes .horizontal) (sampleOf column) (accepted-axes n accepted .0) (and-true (insideAxis (axes .horizontal) (sampleOf column)) (insideAxis (axes .vertical) (sampleOf row)) e .0)
-
-  down-inside : inside axes column row ≡ true → Inside (baseSize (axes .vertical)) (scaledSize (axes .vertical)) (cOf (axes .vertical) (sampleOf row))
-  down-inside e = inside-axis (axes .vertical) (sampleOf row) (accepted-axes n accepted .1) (and-true (insideAxis (axes .horizontal) (sampleOf column)) (insideAxis (axes .vertical) (sampleOf row)) e .1)
-
   -- other records do not matter
   pub made-same : (base other : List ℤ) → Agree (addressesNamed axes (answerOf axes base column row)) base other → madeOf axes other column row ≡ madeOf axes base column row
   made-same base other e = by (decided axes base column row) e
     where
       by : {answer : Answer} → Decided axes base column row answer → Agree (addressesNamed axes answer) base other → madeOf axes other column row ≡ madeOf axes base column row
       by (is-outside i) a = made-outside axes other column row i ∙ sym (made-outside axes base column row i)
-      by (is-intra i m) a = same-made axes base other column row (λ k h. a _ (address-named axes column row (across-inside i) (down-inside i) k h))
-      by (is-inherited i m) a = same-made axes base other column row (λ k h. a _ (address-named axes column row (across-inside i) (down-inside i) k h))
+      by (is-intra i m) a = same-made axes base other column row (λ k h. a _ (address-named axes column row (across-inside n column row accepted i) (down-inside n column row accepted i) k h))
+      by (is-inherited i m) a = same-made axes base other column row (λ k h. a _ (address-named axes column row (across-inside n column row accepted i) (down-inside n column row accepted i) k h))
 
   -- all sentences but the one on other records
   pub promised : (base : List ℤ) (Other : List ℤ → Type 0) (Gives : List ℤ → Answer → List ℤ → Type 0)
@@ -93,8 +86,8 @@ module _ (n : Numbers) (column row : ℕ) (accepted : geometryVerdict n ≡ Acce
         class = ap (λ (m : Named). m .class) (named-right axes base column row d);
         first-column = ap (λ (m : Named). m .column) (named-right axes base column row d);
         first-row = ap (λ (m : Named). m .row) (named-right axes base column row d);
-        columns-inside = columns-below axes base column row across-inside down-inside d;
-        rows-inside = rows-below axes base column row across-inside down-inside d;
+        columns-inside = columns-below axes base column row (across-inside n column row accepted) (down-inside n column row accepted) d;
+        rows-inside = rows-below axes base column row (across-inside n column row accepted) (down-inside n column row accepted) d;
         others = same;
         inherited = inherited-when axes base column row d;
         intra = intra-when axes base column row d;
@@ -103,7 +96,7 @@ module _ (n : Numbers) (column row : ℕ) (accepted : geometryVerdict n ≡ Acce
         cover = λ m s e. covered s;
         one-motion = λ m s e. fewest-written axes base column row d m s e .one;
         motions = motions-written axes base column row;
-        rivals = λ m s e t listed. fewest-written axes base column row d m s e .more t;
+        rivals = λ m s e. fewest-written axes base column row d m s e .more;
         says-split = split-written axes base column row;
       }
 
@@ -246,7 +239,7 @@ module _ (n : Numbers) (words base : List ℤ) where
         ∙ formed-all base (addressesRead g column row) (λ a m. p .formed a (read-below (p .geometry) a m)))))
 
     -- and the record at its address is what is made of it
-    record-made : whole ≡ Accepted → recordAt (pictureCall n base words .words) (row * macroblocks (fullSize (g .horizontal)) + column) ≡ madeOf g base column row .written
+    pub record-made : whole ≡ Accepted → recordAt (pictureCall n base words .words) (row * macroblocks (fullSize (g .horizontal)) + column) ≡ madeOf g base column row .written
     unfolding madeAt
     record-made v =
         let width = macroblocks (fullSize (g .horizontal)) in

@@ -19,12 +19,16 @@ pub mod Answers
 pub mod Sameness
 pub mod Blocks
 pub mod Addresses
+pub mod Rising
 pub mod Promises
 pub mod Demand
+pub mod Cases
 pub mod RecordLists
 pub mod Ratios
 pub mod Overlap
+pub mod Why
 pub mod Counting
+pub mod Singly
 pub mod Sessions
 pub mod SessionPicture
 pub mod SessionRefusals

@@ -1,17 +1,15 @@
 -- Sessions by computation: document 01's whole case meets the premises of PictureBySession, and each refusal of a session occurs. Assumes nothing.
-use Prim.Native.Nat.{ℕ, _*_}
+use Prim.Native.Nat.{ℕ}
 use mathlib.Core.Path.{_≡_, refl}
 use mathlib.Core.List.{List, [], _∷_, map}
 use lib.Count.{ones, onesIn}
-use lib.IntN.{ℤ, pos}
+use lib.IntN.{pos}
 use lib.ListN.{replicate}
-use Rattle.definitions.specs.declared.Counts.{Counts}
 use Rattle.definitions.specs.declared.Verdict.{Verdict}
 use Rattle.definitions.specs.declared.Verdict.the-variants.{Accepted, Refused}
 use Rattle.definitions.specs.declared.MacroblockReply.{MacroblockReply}
 use Rattle.definitions.specs.declared.MacroblockReply.the-variants.{Answered, Refused as Declined}
 use Rattle.definitions.specs.declared.Numbers.{Numbers}
-use Rattle.definitions.specs.declared.PictureReply.the-variants.{Counted}
 use Rattle.definitions.specs.Tests.{pick, allBelow, allOf, upTo}
 use Rattle.definitions.specs.Geometry.{insideAxis, mOf, nOf, fOf, twoOf, columnsRead}
 use Rattle.definitions.specs.BlockMap.{digitsOf, coordinateOf, stepOf, addressRead, blockRead}
@@ -20,28 +18,15 @@ use Rattle.definitions.specs.Record.{recordWords, recordAt, motionOf, sp
 use Rattle.definitions.specs.Inheriting.{setOf, intraSet, gathered, source, clearOf, filled, lower, lowest, having, mergedList, merged, someOf, liveOf, copiedFrom, copied, resolved, scaledPrediction, scaledMotion, inheritedMotions}
 use Rattle.definitions.specs.Answer.{namedAt, answerOf, addressesOf, writtenFor, madeOf}
 use Rattle.definitions.specs.Refusals.{geometryTests, recordTests, addressesRead}
-use Rattle.definitions.specs.Calls.{macroblockTests, macroblockCall, pictureTests, madeAt, countsOf, pictureCall}
-use Rattle.definitions.specs.Examples.{wholeRecord}
+use Rattle.definitions.specs.Calls.{macroblockTests, macroblockCall}
+use Rattle.definitions.specs.Examples.{wholeRecord, wholeCase}
 use Rattle.definitions.specs.Session.{Call, begin, next, abandon, totals, fresh, beginVerdict, abandonVerdict, nextCall, Exchange, beginGave, nextGave, abandonGave, totalsGave, exchange, stateNext, exchanges, AsPicture}
-use Rattle.definitions.proofs.Accepted.{whole}
+use Rattle.definitions.specs.Cases.{blank, counts}
+use Rattle.definitions.proofs.Cases.{whole-counted}
 use Rattle.definitions.proofs.SessionPicture.{picture-by-session}
 
--- 77 words, and those of six macroblocks
-abbrev blank : List ℤ
-blank = replicate recordWords (pos 0)
-
-abbrev sheet : List ℤ
-sheet = replicate (recordWords * 6) (pos 0)
-
-abbrev wholeCounts : Counts
-wholeCounts = record { inherited = 4; intra = 0; outside = 2 }
-
-whole-counted : pictureCall whole wholeRecord sheet .reply ≡ Counted wholeCounts
-unfolding whole allOf allBelow pick upTo insideAxis mOf nOf fOf twoOf columnsRead digitsOf coordinateOf stepOf addressRead blockRead sameMotion samePrediction alike oneEach fewestIn recordAt motionOf splitSaid rule1 rule2 rule3 rule4 rule5 rule6 firstBroken laidOut setOf intraSet gathered source clearOf filled lower lowest having mergedList merged someOf liveOf copiedFrom copied resolved scaledPrediction scaledMotion inheritedMotions namedAt answerOf addressesOf writtenFor madeOf geometryTests recordTests addressesRead pictureTests madeAt countsOf pictureCall ones onesIn
-whole-counted = refl
-
-pub whole-session : AsPicture fresh whole wholeRecord sheet wholeCounts (λ a. blank)
-whole-session = picture-by-session fresh whole wholeRecord sheet wholeCounts (λ a. blank) refl whole-counted (λ a h. refl)
+pub whole-session : AsPicture fresh wholeCase wholeRecord (blank 6) (counts 4 0 2) (λ a. blank 1)
+whole-session = picture-by-session fresh wholeCase wholeRecord (blank 6) (counts 4 0 2) (λ a. blank 1) refl whole-counted (λ a h. refl)
 
 -- the number of a refusal; 0 where the call is accepted
 abbrev verdictNumber : Verdict → ℕ
@@ -67,13 +52,13 @@ wrong =
     }
 
 abbrev on : Call
-on = next wholeRecord blank
+on = next wholeRecord (blank 1)
 
 abbrev calls : List Call
 calls =
-    abandon ∷ on ∷ totals ∷ begin wrong ∷ begin whole ∷ begin wrong ∷ next [] blank ∷ next wholeRecord [] ∷ next (replicate recordWords (pos 9)) blank ∷ on ∷ abandon ∷ on ∷ begin whole
-    ∷ on ∷ on ∷ on ∷ on ∷ on ∷ begin whole ∷ on ∷ on ∷ abandon ∷ totals ∷ begin whole ∷ abandon ∷ []
+    abandon ∷ on ∷ totals ∷ begin wrong ∷ begin wholeCase ∷ begin wrong ∷ next [] (blank 1) ∷ next wholeRecord [] ∷ next (replicate recordWords (pos 9)) (blank 1) ∷ on ∷ abandon ∷ on ∷ begin wholeCase
+    ∷ on ∷ on ∷ on ∷ on ∷ on ∷ begin wholeCase ∷ on ∷ on ∷ abandon ∷ totals ∷ begin wholeCase ∷ abandon ∷ []
 
 pub refused-there : map numberOf (exchanges fresh calls) ≡ 20 ∷ 20 ∷ 0 ∷ 4 ∷ 0 ∷ 22 ∷ 5 ∷ 6 ∷ 8 ∷ 0 ∷ 0 ∷ 20 ∷ 0 ∷ 0 ∷ 0 ∷ 0 ∷ 0 ∷ 0 ∷ 22 ∷ 0 ∷ 21 ∷ 21 ∷ 0 ∷ 0 ∷ 0 ∷ []
-unfolding whole allOf allBelow pick upTo insideAxis mOf nOf fOf twoOf columnsRead digitsOf coordinateOf stepOf addressRead blockRead sameMotion samePrediction alike oneEach fewestIn recordAt motionOf splitSaid rule1 rule2 rule3 rule4 rule5 rule6 firstBroken laidOut setOf intraSet gathered source clearOf filled lower lowest having mergedList merged someOf liveOf copiedFrom copied resolved scaledPrediction scaledMotion inheritedMotions namedAt answerOf addressesOf writtenFor madeOf geometryTests recordTests addressesRead macroblockTests macroblockCall ones onesIn beginVerdict abandonVerdict nextCall exchange stateNext exchanges
+unfolding allOf allBelow pick upTo insideAxis mOf nOf fOf twoOf columnsRead digitsOf coordinateOf stepOf addressRead blockRead sameMotion samePrediction alike oneEach fewestIn recordAt motionOf splitSaid rule1 rule2 rule3 rule4 rule5 rule6 firstBroken laidOut setOf intraSet gathered source clearOf filled lower lowest having mergedList merged someOf liveOf copiedFrom copied resolved scaledPrediction scaledMotion inheritedMotions namedAt answerOf addressesOf writtenFor madeOf geometryTests recordTests addressesRead macroblockTests macroblockCall ones onesIn beginVerdict abandonVerdict nextCall exchange stateNext exchanges
 refused-there = refl

@@ -3,9 +3,8 @@ use Prim.Native.Nat.{ℕ, zero, suc, _≤_, _<_}
 use mathlib.Core.Path.{_≡_, refl, sym, ap, _∙_}
 use mathlib.Core.Bool.{true, false, not}
 use mathlib.Core.List.{List, [], _∷_, _++_}
-use native.Mathlib.Nat.{mod-lt, div-lt-iff-lt-mul}
 use native.Mathlib.Omega.{arith}
-use lib.IntN.{ℤ, pos}
+use lib.IntN.{ℤ}
 use lib.ListN.{length}
 use borrow.Author.Tests.{eq-eqb, ne-eqb}
 use Rattle.definitions.specs.declared.Axes.{Axes}
@@ -13,17 +12,17 @@ use Rattle.definitions.specs.declared.Numbers.{Numbers}
 use Rattle.definitions.specs.declared.Verdict.the-variants.{Accepted}
 use Rattle.definitions.specs.declared.MacroblockReply.the-variants.{Answered}
 use Rattle.definitions.specs.Tests.{allOf, upTo, forEach}
-use Rattle.definitions.specs.Geometry.{axesOf, fullSize, macroblocks}
+use Rattle.definitions.specs.Geometry.{axesOf}
 use Rattle.definitions.specs.Record.{recordWords}
 use Rattle.definitions.specs.Answer.{Made}
 use Rattle.definitions.specs.Refusals.{geometryVerdict}
-use Rattle.definitions.specs.Calls.{macroblockCall, fullCount, madeAt, noCounts, countsOf, sumOf}
-use Rattle.definitions.specs.Session.{Call, begin, next, totals, State, begun, finished, unfinished, columnAt, rowAt, callAtNext, beginVerdict, Exchange, beginGave, nextGave, totalsGave, exchange, stateBy, stateNext, exchanges, stateAfter, acceptedIn, wordsAfter, PictureBySession}
+use Rattle.definitions.specs.Calls.{callAt, fullCount, madeAt, noCounts, countsOf, sumOf}
+use Rattle.definitions.specs.Session.{Call, begin, next, totals, State, begun, finished, unfinished, callAtNext, beginVerdict, Exchange, beginGave, nextGave, totalsGave, exchange, stateBy, stateNext, exchanges, stateAfter, acceptedIn, wordsAfter, PictureBySession}
 use Rattle.definitions.proofs.Choices.{no, of-each, upTo-length, upTo-at}
-use Rattle.definitions.proofs.Accepted.{accepted-axes}
 use Rattle.definitions.proofs.RecordLists.{each-same}
 use Rattle.definitions.proofs.Counting.{counts-more, counts-sum}
-use Rattle.definitions.proofs.Demand.{Passed, passed, gives-made, counted-accepted, counted-made, picture-words, alone-accepted}
+use Rattle.definitions.proofs.Demand.{Passed, passed, counted-accepted, counted-made, picture-words}
+use Rattle.definitions.proofs.Singly.{call-gives}
 use Rattle.definitions.proofs.Sessions.{next-going}
 
 -- ---- calls after others
@@ -47,17 +46,6 @@ module _ (s : State) (n : Numbers) (free : unfinished s ≡ false) (accepted : g
   unfolding stateNext
   begins-state = ap (stateBy s) begins
 
--- ---- the column and row of an address
-module _ (n : Numbers) (accepted : geometryVerdict n ≡ Accepted) where
-  some-columns : 0 < macroblocks (fullSize (axesOf n .horizontal))
-  some-columns = omega (arith, accepted-axes n accepted .0 .full-low)
-
-  pub column-within : (address : ℕ) → columnAt n address < macroblocks (fullSize (axesOf n .horizontal))
-  column-within address = mod-lt address some-columns
-
-  pub row-within : (address : ℕ) → address < fullCount (axesOf n) → rowAt n address < macroblocks (fullSize (axesOf n .vertical))
-  row-within address h = div-lt-iff-lt-mul some-columns .1 (omega arith)
-
 -- ---- next
 module _ (n : Numbers) (base words : List ℤ) (lent : ℕ → List ℤ) (p : Passed n words base) (l : (a : ℕ) → a < fullCount (axesOf n) → length (lent a) ≡ recordWords) where
   abbrev g : Axes
@@ -77,10 +65,7 @@ module _ (n : Numbers) (base words : List ℤ) (lent : ℕ → List ℤ) (p : Pa
   at k = begun n (countsOf (upTo k made))
 
   answers-at : (k : ℕ) → k < fullCount g → callAtNext (at k) base (lent k) ≡ record { reply = Answered (made k .answer); words = made k .written }
-  unfolding madeAt
-  answers-at k h =
-      ap (λ (a : ℕ). macroblockCall n base (pos (columnAt n a)) (pos (rowAt n a)) (lent k)) (counts-sum k made)
-      ∙ gives-made n (columnAt n k) (rowAt n k) (lent k) base (alone-accepted n words base (columnAt n k) (rowAt n k) (column-within n (p .geometry) k) (row-within n (p .geometry) k h) p (lent k) (l k h))
+  answers-at k h = ap (λ (a : ℕ). callAt n base a (lent k)) (counts-sum k made) ∙ call-gives n base words p k h (lent k) (l k h)
 
   going-on : (k : ℕ) → k < fullCount g → finished (at k) ≡ false
   going-on k h = ne-eqb (sumOf (countsOf (upTo k made))) (fullCount g) (λ e. omega (arith, counts-sum k made))

@@ -7,22 +7,22 @@ use native.Mathlib.Omega.{arith}
 use lib.IntN.{ℤ, pos}
 use borrow.Author.Tests.{eqb-false}
 use Rattle.definitions.specs.declared.Numbers.{Numbers}
-use Rattle.definitions.specs.declared.Answer.{Answer}
 use Rattle.definitions.specs.declared.Refusal.{Refusal}
 use Rattle.definitions.specs.declared.Verdict.{Verdict}
 use Rattle.definitions.specs.declared.Verdict.the-variants.{Accepted, Refused}
 use Rattle.definitions.specs.declared.MacroblockReply.{MacroblockReply}
-use Rattle.definitions.specs.declared.MacroblockReply.the-variants.{Answered, Refused as Declined}
+use Rattle.definitions.specs.declared.MacroblockReply.the-variants.{Refused as Declined}
 use Rattle.definitions.specs.Tests.{pick}
 use Rattle.definitions.specs.Geometry.{axesOf, fullSize}
 use Rattle.definitions.specs.Refusals.{Test, refusal, verdictOf, geometryTests, geometryVerdict, baseTest, outputTest, positionTest, recordTests, addressesRead}
-use Rattle.definitions.specs.Calls.{Outcome, byVerdict, macroblockTests, macroblockCall, fullCount, sumOf}
+use Rattle.definitions.specs.Calls.{Outcome, macroblockTests, macroblockCall, fullCount, sumOf}
 use Rattle.definitions.specs.Session.{State, fresh, begun, finished, columnAt, rowAt, nextCall, stateAfter, Sound, refusesNext, NextRefusals}
 use Rattle.definitions.proofs.Choices.{no, and-intro}
 use Rattle.definitions.proofs.Verdicts.{then-verdict}
 use Rattle.definitions.proofs.Demand.{within}
 use Rattle.definitions.proofs.Sessions.{next-going, next-over, only-sound}
-use Rattle.definitions.proofs.SessionPicture.{column-within, row-within}
+use Rattle.definitions.proofs.Accepted.{column-within, row-within}
+use Rattle.definitions.proofs.Rising.{declined}
 
 -- a verdict that refuses does so by one of these numbers
 abbrev ByThese : Verdict → Type 0
@@ -60,10 +60,6 @@ call-these n base words address v h r e =
     (test-these (outputTest 1 words) (place ∷ records) refl (λ q f. records-these base (addressesRead g column row) q (sym (no _ _ inside) ∙ f)))
     r (sym (then-verdict (geometryTests n) _ v) ∙ e)
 
-declined : (v : Verdict) (words written : List ℤ) (a : Answer) (r : Refusal) → byVerdict v Declined words (record { reply = Answered a; words = written }) .reply ≡ Declined r → v ≡ Refused r
-declined Accepted words written a r e = absurd (let z : _≡_ {A = ℕ} 0 1 = cc in omega arith)
-declined (Refused q) words written a r e = cc
-
 state-these : (s : State) → Sound s → (base words : List ℤ) (r : Refusal) → nextCall s base words .reply ≡ Declined r → refusesNext (r .number) ≡ true
 unfolding nextCall pick macroblockCall
 state-these fresh h base words r e = let p : refusal 20 ≡ r = cc in ap (λ (q : Refusal). refusesNext (q .number)) (sym p)
@@ -77,7 +73,7 @@ state-these (begun n c) h base words r e = by (finished (begun n c)) refl
         let other = eqb-false (sumOf c) (fullCount (axesOf n)) f in
         let room : sumOf c < fullCount (axesOf n) = omega (arith, h .1) in
         call-these n base words (sumOf c) (h .0) room r
-        (declined _ words _ _ r (sym (ap (λ (o : Outcome MacroblockReply). o .reply) (next-going n c base words f)) ∙ e))
+        (declined n base _ _ words r (sym (ap (λ (o : Outcome MacroblockReply). o .reply) (next-going n c base words f)) ∙ e))
 
 pub next-refusals : NextRefusals
 next-refusals calls base words r = state-these (stateAfter fresh calls) (only-sound calls) base words r

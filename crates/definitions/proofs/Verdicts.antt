@@ -1,16 +1,19 @@
 -- Laws of verdicts: tests one after the other, and what a call makes of a verdict (specs/Refusals, specs/Calls). Assumes nothing.
 use Prim.Native.Nat.{ℕ}
-use mathlib.Core.Path.{_≡_, refl}
-use mathlib.Core.Bool.{Bool, true, false}
+use mathlib.Core.Path.{_≡_, refl, sym, ap, _∙_}
+use mathlib.Core.Bool.{Bool, true, false, not, false≢true}
 use mathlib.Core.List.{List, [], _∷_, _++_}
 use native.Mathlib.Omega.{arith}
+use lib.Dec.{eqb}
 use lib.IntN.{ℤ}
+use borrow.Author.Tests.{eq-eqb}
 use Rattle.definitions.specs.declared.Refusal.{Refusal}
 use Rattle.definitions.specs.declared.Verdict.{Verdict}
 use Rattle.definitions.specs.declared.Verdict.the-variants.{Accepted, Refused}
-use Rattle.definitions.specs.Tests.{pick}
+use Rattle.definitions.specs.Tests.{pick, allOf}
 use Rattle.definitions.specs.Refusals.{Test, verdictOf}
 use Rattle.definitions.specs.Calls.{Outcome, byVerdict}
+use Rattle.definitions.proofs.Choices.{yes, no, and-true}
 
 -- ---- tests one after the other
 -- where the whole is accepted, the first test does not apply and the rest is accepted
@@ -51,9 +54,31 @@ refused-first (x ∷ xs) ys r e = by (x .applies) (λ q. refused-first xs ys r q
     by true f p = p
     by false f p = f p
 
+-- a refusal by a number that the first tests do not give comes of the rest
+pub refused-later : (number : ℕ) (xs ys : List Test) (r : Refusal) → allOf (λ t. not (eqb (t .gives .number) number)) xs ≡ true → r .number ≡ number → verdictOf (xs ++ ys) ≡ Refused r
+    → (verdictOf xs ≡ Accepted) × (verdictOf ys ≡ Refused r)
+unfolding allOf
+refused-later number [] ys r h k e = (refl, e)
+refused-later number (x ∷ xs) ys r h k e =
+    let both = and-true (not (eqb (x .gives .number) number)) (allOf (λ t. not (eqb (t .gives .number) number)) xs) h in
+    by (x .applies) refl (both .0) (refused-later number xs ys r (both .1) k)
+  where
+    by : (b : Bool) → x .applies ≡ b → not (eqb (x .gives .number) number) ≡ true → (verdictOf (xs ++ ys) ≡ Refused r → (verdictOf xs ≡ Accepted) × (verdictOf ys ≡ Refused r))
+        → (verdictOf (x ∷ xs) ≡ Accepted) × (verdictOf ys ≡ Refused r)
+    by true w other later =
+        let p : x .gives ≡ r = cc (sym (yes _ _ w) ∙ e) in
+        absurd (false≢true (sym (ap not (eq-eqb (x .gives .number) number (ap (λ (q : Refusal). q .number) p ∙ k))) ∙ other))
+    by false w other later = let l = later (sym (no _ _ w) ∙ e) in (no _ _ w ∙ l .0, l .1)
+
 -- ---- a call's outcome
 -- a reply that is none of a refusal comes of an accepted verdict
 pub reply-accepted : {Reply : Type 0} (v : Verdict) (refused : Refusal → Reply) (words : List ℤ) (made : Outcome Reply) (reply : Reply) → ((r : Refusal) → refused r ≡ reply → ⊥)
     → byVerdict v refused words made .reply ≡ reply → v ≡ Accepted
 reply-accepted Accepted refused words made reply n e = refl
 reply-accepted (Refused r) refused words made reply n e = absurd (n r e)
+
+-- and a reply that is one of a refusal comes of a verdict that refuses
+pub reply-refused : {Reply : Type 0} (v : Verdict) (refused : Refusal → Reply) (words : List ℤ) (made : Outcome Reply) (r : Refusal)
+    → ((q : Refusal) → refused q ≡ refused r → q ≡ r) → (made .reply ≡ refused r → ⊥) → byVerdict v refused words made .reply ≡ refused r → v ≡ Refused r
+reply-refused Accepted refused words made r same n e = absurd (n e)
+reply-refused (Refused q) refused words made r same n e = ap Refused (same q e)

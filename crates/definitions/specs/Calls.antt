@@ -1,7 +1,10 @@
 -- "Calls" of document 01: one macroblock, and the picture. Each tests its refusals in rising order, and refused leaves what it was lent.
-use Prim.Native.Nat.{ℕ, _+_, _*_, _/_, _%_}
+use Prim.Native.Nat.{ℕ, _+_, _*_, _/_, _%_, _<_}
+use mathlib.Core.Path.{_≡_}
+use mathlib.Core.Bool.{Bool, true, false}
 use mathlib.Core.List.{List, [], _∷_, _++_}
-use lib.IntN.{ℤ, natAbs}
+use lib.IntN.{ℤ, pos, natAbs}
+use lib.ListN.{length}
 use Rattle.definitions.specs.declared.Axes.{Axes}
 use Rattle.definitions.specs.declared.Numbers.{Numbers}
 use Rattle.definitions.specs.declared.Answer.{Answer}
@@ -14,10 +17,11 @@ use Rattle.definitions.specs.declared.MacroblockReply.{MacroblockReply}
 use Rattle.definitions.specs.declared.MacroblockReply.the-variants.{Answered, Refused as Declined}
 use Rattle.definitions.specs.declared.PictureReply.{PictureReply}
 use Rattle.definitions.specs.declared.PictureReply.the-variants.{Counted, Refused as NotMade}
-use Rattle.definitions.specs.Tests.{upTo, forEach}
+use Rattle.definitions.specs.Tests.{howMany, upTo, forEach}
 use Rattle.definitions.specs.Geometry.{axesOf, fullSize, macroblocks}
+use Rattle.definitions.specs.Record.{recordWords, recordAt}
 use Rattle.definitions.specs.Answer.{Made, madeOf}
-use Rattle.definitions.specs.Refusals.{Test, verdictOf, geometryTests, baseTest, outputTest, positionTest, recordTests, addressesRead, allAddresses}
+use Rattle.definitions.specs.Refusals.{Test, verdictOf, geometryTests, baseTest, outputTest, positionTest, recordTests, addressesRead, allAddresses, LowestMalformed}
 
 -- what a call hands back, and the words that it was lent, afterwards
 pub record Outcome (Reply : Type 0) : Type 0 where
@@ -75,3 +79,52 @@ pictureCall n base words =
     let g = axesOf n in
     let made = upTo (fullCount g) (madeAt g base) in
     byVerdict (verdictOf (pictureTests n base words)) NotMade words (record { reply = Counted (countsOf made); words = forEach made (λ m. m .written) })
+
+-- Refusal 8 of either call has the lowest malformed address among the records that it checks.
+pub record LowestRefused : Type 0 where
+  pub singly : (n : Numbers) (base : List ℤ) (column row : ℤ) (words : List ℤ) (r : Refusal) → macroblockCall n base column row words .reply ≡ Declined r → r .number ≡ 8
+      → LowestMalformed base (addressesRead (axesOf n) (natAbs column) (natAbs row)) r
+  pub picture : (n : Numbers) (base words : List ℤ) (r : Refusal) → pictureCall n base words .reply ≡ NotMade r → r .number ≡ 8
+      → LowestMalformed base (allAddresses (axesOf n)) r
+
+-- The picture by one-macroblock calls. The call at an address of the picture
+abbrev pub callAt : Numbers → List ℤ → ℕ → List ℤ → Outcome MacroblockReply
+callAt n base address words =
+    let width = macroblocks (fullSize (axesOf n .horizontal)) in
+    macroblockCall n base (pos (address % width)) (pos (address / width)) words
+
+-- a reply is an answer of a sort
+abbrev pub repliesInherited : MacroblockReply → Bool
+repliesInherited (Answered Outside) = false
+repliesInherited (Answered (Intra n)) = false
+repliesInherited (Answered (Inherited n s)) = true
+repliesInherited (Declined r) = false
+
+abbrev pub repliesIntra : MacroblockReply → Bool
+repliesIntra (Answered Outside) = false
+repliesIntra (Answered (Intra n)) = true
+repliesIntra (Answered (Inherited n s)) = false
+repliesIntra (Declined r) = false
+
+abbrev pub repliesOutside : MacroblockReply → Bool
+repliesOutside (Answered Outside) = true
+repliesOutside (Answered (Intra n)) = false
+repliesOutside (Answered (Inherited n s)) = false
+repliesOutside (Declined r) = false
+
+-- Each macroblock's words are those that the one-macroblock call writes for it, and each count is the number of macroblocks for which that call's answer
+-- is of its sort. (lent a: the 77 words lent to the call at address a, whatever they hold. Each macroblock is counted, so that each call answers.)
+pub record AsSingly (n : Numbers) (base words : List ℤ) (counts : Counts) (lent : ℕ → List ℤ) : Type 0 where
+  pub inherited : counts .inherited ≡ howMany (fullCount (axesOf n)) (λ a. repliesInherited (callAt n base a (lent a) .reply))
+  pub intra : counts .intra ≡ howMany (fullCount (axesOf n)) (λ a. repliesIntra (callAt n base a (lent a) .reply))
+  pub outside : counts .outside ≡ howMany (fullCount (axesOf n)) (λ a. repliesOutside (callAt n base a (lent a) .reply))
+  pub sum : sumOf counts ≡ fullCount (axesOf n)
+  pub words-length : length (pictureCall n base words .words) ≡ recordWords * fullCount (axesOf n)
+  pub words-same : (a : ℕ) → a < fullCount (axesOf n) → recordAt (pictureCall n base words .words) a ≡ callAt n base a (lent a) .words
+
+abbrev pub PictureBySingly : Type 0
+PictureBySingly =
+    (n : Numbers) (base words : List ℤ) (counts : Counts) (lent : ℕ → List ℤ)
+    → pictureCall n base words .reply ≡ Counted counts
+    → ((a : ℕ) → a < fullCount (axesOf n) → length (lent a) ≡ recordWords)
+    → AsSingly n base words counts lent

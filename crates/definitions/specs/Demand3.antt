@@ -20,7 +20,7 @@ use Rattle.definitions.specs.declared.MacroblockReply.the-variants.{Answ
 use Rattle.definitions.specs.declared.PictureReply.the-variants.{Counted}
 use Rattle.definitions.specs.Tests.{pick}
 use Rattle.definitions.specs.Geometry.{axesOf, baseSize, fullSize, macroblocks, inside}
-use Rattle.definitions.specs.Splits.{Covers, pieces, oneEach, count, splits}
+use Rattle.definitions.specs.Splits.{Covers, pieces, oneEach, count}
 use Rattle.definitions.specs.Record.{recordWords, recordAt, motionOf, typeNumber, wellFormed}
 use Rattle.definitions.specs.Inheriting.{intraSet, inheritedMotions, motionAt}
 use Rattle.definitions.specs.Answer.{namedAt, answerClass, answerColumn, answerRow, columnsNamed, rowsNamed, addressesNamed, subTypes, unusedMotion}
@@ -56,8 +56,8 @@ pub record Demand3 (g : Axes) (column row : ℕ) (base : List ℤ) (answer : Ans
   pub one-motion : (n : Named) (s : Split) → answer ≡ Inherited n s → oneEach (motionOf written) s ≡ true
   -- each block has the motion that document 01's block map and steps fix;
   pub motions : (n : Named) (s : Split) → answer ≡ Inherited n s → (i : ℕ) → i < 16 → motionOf written i ≡ motionAt (inheritedMotions g base column row) i
-  -- and every other of the 259 splits whose pieces each carry one motion has more pieces.
-  pub rivals : (n : Named) (s : Split) → answer ≡ Inherited n s → (t : Split) → List·Memᴰ t splits → oneEach (motionOf written) t ≡ true → t ≢ s → count s < count t
+  -- and every other of the 259 splits whose pieces each carry one motion has more pieces. (The type has no split but those: proofs/Pieces, all-listed.)
+  pub rivals : (n : Named) (s : Split) → answer ≡ Inherited n s → (t : Split) → oneEach (motionOf written) t ≡ true → t ≢ s → count s < count t
   -- Inherited, words 0 to 4 of the written record say the answer's split.
   pub says-split : (n : Named) (s : Split) → answer ≡ Inherited n s → take 5 written ≡ pos (typeNumber s) ∷ map pos (subTypes s)
 

@@ -46,7 +46,7 @@ pub data Example : Type 0 where
 abbrev axisFor : ℕ → ℕ → ℤ → AxisNumbers
 axisFor b s o = record { base = pos b; scaled = pos s; offset = o; full = pos 64 }
 
-abbrev centred : Numbers
+abbrev pub centred : Numbers
 centred = record { horizontal = axisFor 32 32 (pos 4); vertical = axisFor 32 32 (pos 4) }
 
 abbrev setFor : List ℤ → ℕ
@@ -77,7 +77,7 @@ holds (fill base i k) = eqb (source (clearOf (setFor base) (quadrantOf i)) (plac
 holds (merge p k) = allBelow 4 (λ j. samePrediction (getD (mergedList p) j zeroPrediction) (getD p k zeroPrediction))
 
 -- an intra record, and one of type 1
-abbrev intraRecord : List ℤ
+abbrev pub intraRecord : List ℤ
 intraRecord = laidOut 0 (λ q. 0) (λ b. unusedMotion)
 
 abbrev pub wholeRecord : List ℤ
@@ -86,7 +86,7 @@ wholeRecord = laidOut 1 (λ q. 0) (λ b. record { list0 = record { reference = p
 abbrev onlyLast : List ℤ
 onlyLast = intraRecord ++ (intraRecord ++ (intraRecord ++ wholeRecord))
 
-abbrev allButLast : List ℤ
+abbrev pub allButLast : List ℤ
 allButLast = wholeRecord ++ (wholeRecord ++ (wholeRecord ++ intraRecord))
 
 abbrev predicts : ℕ → ℤ → Prediction

@@ -15,3 +15,4 @@ pub mod Text
 pub mod Log
 pub mod Demand3
 pub mod Examples
+pub mod Cases

@@ -1,7 +1,9 @@
 -- "From the input" of document 01: the refusals of the calls on records, 1 to 8, each with the test of where it applies.
-use Prim.Native.Nat.{ℕ, _*_, _%_}
-use mathlib.Core.Bool.{Bool, not, _&&_}
-use mathlib.Core.List.{List, [], _∷_, map}
+use Prim.Native.Nat.{ℕ, _*_, _%_, _≤_, _<_}
+use mathlib.Core.Path.{_≡_}
+use mathlib.Core.Logic.{_↔_}
+use mathlib.Core.Bool.{Bool, true, false, not, _&&_}
+use mathlib.Core.List.{List, [], _∷_, map, List·Memᴰ}
 use lib.Dec.{eqb}
 use lib.IntN.{ℤ, pos, natAbs, _*ℤ_}
 use lib.ListN.{length}
@@ -12,7 +14,7 @@ use Rattle.definitions.specs.declared.Refusal.{Refusal}
 use Rattle.definitions.specs.declared.Verdict.{Verdict}
 use Rattle.definitions.specs.declared.Verdict.the-variants.{Accepted, Refused}
 use Rattle.definitions.specs.Tests.{pick, minus, between, upTo}
-use Rattle.definitions.specs.Geometry.{baseSize, fullSize, macroblocks, inside}
+use Rattle.definitions.specs.Geometry.{axesOf, baseSize, fullSize, macroblocks, inside}
 use Rattle.definitions.specs.Record.{recordWords, recordAt, wellFormed, firstBroken}
 use Rattle.definitions.specs.Answer.{namedAt, addressesOf}
 
@@ -79,7 +81,7 @@ abbrev pub positionTest : Axes → ℤ → ℤ → Test
 positionTest g column row = test (not (withinAxis (fullSize (g .horizontal)) column && withinAxis (fullSize (g .vertical)) row)) (refusal 7)
 
 -- 8: a malformed record; the place is, among the records checked, the lowest malformed address, and in it the first broken rule as a further number.
--- (The addresses are in rising order.)
+-- (The addresses are in rising order: RecordsJudged below.)
 abbrev pub recordTest : List ℤ → ℕ → Test
 recordTest base a = test (not (wellFormed (recordAt base a))) (record { number = 8; place = a; rule = firstBroken (recordAt base a) })
 
@@ -93,3 +95,25 @@ addressesRead g column row = pick (inside g column row) (addressesOf g (namedAt 
 -- all addresses of the base
 abbrev pub allAddresses : Axes → List ℕ
 allAddresses g = upTo (baseCount g) (λ a. a)
+
+-- What 8 says of the records checked, whichever they are: its place is one of their addresses, malformed, and none of them that is malformed is lower.
+pub record LowestMalformed (base : List ℤ) (addresses : List ℕ) (r : Refusal) : Type 0 where
+  pub number : r .number ≡ 8
+  pub checked : List·Memᴰ (r .place) addresses
+  pub malformed : wellFormed (recordAt base (r .place)) ≡ false
+  pub lowest : (a : ℕ) → List·Memᴰ a addresses → wellFormed (recordAt base a) ≡ false → r .place ≤ a
+  pub rule : r .rule ≡ firstBroken (recordAt base (r .place))
+
+-- addresses rise: each is below all that follow
+abbrev pub Rising : List ℕ → Type 0
+Rising [] = Unit
+Rising (a ∷ rest) = ((b : ℕ) → List·Memᴰ b rest → a < b) × Rising rest
+
+-- The tests of records, one after the other, say just that, for the addresses that the calls check rise.
+pub record RecordsJudged : Type 0 where
+  pub accepted : (base : List ℤ) (addresses : List ℕ)
+      → (verdictOf (recordTests base addresses) ≡ Accepted) ↔ ((a : ℕ) → List·Memᴰ a addresses → wellFormed (recordAt base a) ≡ true)
+  pub refused : (base : List ℤ) (addresses : List ℕ) → Rising addresses → (r : Refusal) → verdictOf (recordTests base addresses) ≡ Refused r
+      → LowestMalformed base addresses r
+  pub all-rise : (g : Axes) → Rising (allAddresses g)
+  pub read-rise : (n : Numbers) (column row : ℕ) → geometryVerdict n ≡ Accepted → Rising (addressesRead (axesOf n) column row)

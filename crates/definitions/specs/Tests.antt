@@ -1,5 +1,5 @@
 -- Tests on numbers, and lists made by an index: the words that the other files are written in.
-use Prim.Native.Nat.{ℕ, zero, suc}
+use Prim.Native.Nat.{ℕ, zero, suc, _+_}
 use mathlib.Core.Bool.{Bool, true, false, _&&_}
 use mathlib.Core.List.{List, [], _∷_, _++_}
 use lib.Dec.{eqb}
@@ -35,6 +35,11 @@ signed (negsuc z) n = minus n
 unfoldable pub allBelow : ℕ → (ℕ → Bool) → Bool
 allBelow zero f = true
 allBelow (suc n) f = allBelow n f && f n
+
+-- at how many of 0..n−1 the test holds
+unfoldable pub howMany : ℕ → (ℕ → Bool) → ℕ
+howMany zero f = 0
+howMany (suc n) f = howMany n f + pick (f n) 1 0
 
 -- the test holds of each member
 unfoldable pub allOf : {A : Type 0} → (A → Bool) → List A → Bool

@@ -1,0 +1,104 @@
+-- The concrete cases of specs/Cases, by computation. Assumes nothing.
+use Prim.Native.Nat.{ℕ, _*_}
+use mathlib.Core.Path.{_≡_, refl, sym, ap, _∙_}
+use mathlib.Core.Bool.{true}
+use mathlib.Core.List.{List, List·Memᴰ·not-nil}
+use lib.Count.{ones, onesIn}
+use lib.Dec.{ltb}
+use lib.IntN.{ℤ, pos}
+use lib.ListN.{length}
+use borrow.Author.Tests.{ltb-true}
+use Rattle.definitions.specs.declared.Numbers.{Numbers}
+use Rattle.definitions.specs.declared.Counts.{Counts}
+use Rattle.definitions.specs.declared.Verdict.the-variants.{Accepted}
+use Rattle.definitions.specs.declared.Class.the-variants.{Corner, Center}
+use Rattle.definitions.specs.declared.Split.the-variants.{S16x16}
+use Rattle.definitions.specs.declared.Answer.{Answer}
+use Rattle.definitions.specs.declared.Answer.the-variants.{Outside, Intra, Inherited}
+use Rattle.definitions.specs.declared.MacroblockReply.{MacroblockReply}
+use Rattle.definitions.specs.declared.PictureReply.the-variants.{Counted}
+use Rattle.definitions.specs.Tests.{pick, allBelow, allOf, upTo}
+use Rattle.definitions.specs.Geometry.{axesOf, fullSize, macroblocks, insideAxis, mOf, nOf, fOf, twoOf, columnsRead}
+use Rattle.definitions.specs.BlockMap.{digitsOf, coordinateOf, stepOf, addressRead, blockRead}
+use Rattle.definitions.specs.Splits.{sameMotion, samePrediction, alike, oneEach, fewestIn}
+use Rattle.definitions.specs.Record.{recordWords, recordAt, wellFormed, motionOf, splitSaid, rule1, rule2, rule3, rule4, rule5, rule6, firstBroken, laidOut}
+use Rattle.definitions.specs.Inheriting.{setOf, intraSet, gathered, source, clearOf, filled, lower, lowest, having, mergedList, merged, someOf, liveOf, copiedFrom, copied, resolved, scaledPrediction, scaledMotion, inheritedMotions}
+use Rattle.definitions.specs.Answer.{namedAt, answerOf, addressesOf, writtenFor, madeOf}
+use Rattle.definitions.specs.Refusals.{geometryTests, geometryVerdict, baseCount, recordTests, addressesRead}
+use Rattle.definitions.specs.Calls.{Outcome, macroblockTests, macroblockCall, fullCount, pictureTests, madeAt, countsOf, pictureCall}
+use Rattle.definitions.specs.Demand3.{SinglyGives}
+use Rattle.definitions.specs.Examples.{centred, intraRecord, wholeRecord, allButLast, wholeCase}
+use Rattle.definitions.specs.Cases.{blank, Concrete, first, doubledRecord, outsideRecord, counts, Cases}
+use Rattle.definitions.proofs.Choices.{below-true}
+use Rattle.definitions.proofs.Demand.{call-accepted, gives-made, counted-accepted, record-made, demand3}
+use Rattle.definitions.proofs.Singly.{picture-by-singly}
+
+-- a concrete case by equations that compute
+concrete : (n : Numbers) (column row : ℕ) (base : List ℤ) (answer : Answer) (written : List ℤ) (counts : Counts)
+    → geometryVerdict n ≡ Accepted
+    → length base ≡ recordWords * baseCount (axesOf n)
+    → allBelow (baseCount (axesOf n)) (λ a. wellFormed (recordAt base a)) ≡ true
+    → ltb column (macroblocks (fullSize (axesOf n .horizontal))) ≡ true
+    → ltb row (macroblocks (fullSize (axesOf n .vertical))) ≡ true
+    → SinglyGives n column row (blank 1) base answer written
+    → pictureCall n base (blank (fullCount (axesOf n))) .reply ≡ Counted counts
+    → Concrete n column row base answer written counts
+concrete n column row base answer written counts accepted size formed x y singly counted =
+    let words = blank (fullCount (axesOf n)) in
+    let within-x = ltb-true column _ x in
+    let within-y = ltb-true row _ y in
+    let replied = ap (λ (o : Outcome MacroblockReply). o .reply) singly in
+    let given = gives-made n column row (blank 1) base (call-accepted n base (pos column) (pos row) (blank 1) answer replied) in
+    let there = record-made n words base column row within-x within-y (counted-accepted n words base counts counted) in
+    record {
+      case = record {
+        geometry = accepted;
+        base-length = size;
+        formed = below-true (baseCount (axesOf n)) (λ a. wellFormed (recordAt base a)) formed;
+        column-within = within-x;
+        row-within = within-y;
+      };
+      singly = singly;
+      picture = record { counts = counts; accepted = counted; answered = replied; at-address = there ∙ ap (λ (o : Outcome MacroblockReply). o .words) (sym given ∙ singly) };
+      counted = refl;
+    }
+
+-- ---- document 01's whole case
+whole-formed : allBelow 1 (λ a. wellFormed (recordAt wholeRecord a)) ≡ true
+unfolding allOf allBelow pick upTo sameMotion samePrediction alike oneEach recordAt motionOf splitSaid rule1 rule2 rule3 rule4 rule5 rule6 firstBroken laidOut
+whole-formed = refl
+
+whole-first : SinglyGives wholeCase 0 0 (blank 1) wholeRecord (Inherited (first Corner) S16x16) doubledRecord
+unfolding allOf allBelow pick upTo insideAxis mOf nOf fOf twoOf columnsRead digitsOf coordinateOf stepOf addressRead blockRead sameMotion samePrediction alike oneEach fewestIn recordAt motionOf splitSaid rule1 rule2 rule3 rule4 rule5 rule6 firstBroken laidOut setOf intraSet gathered source clearOf filled lower lowest having mergedList merged someOf liveOf copiedFrom copied resolved scaledPrediction scaledMotion inheritedMotions namedAt answerOf addressesOf writtenFor madeOf geometryTests recordTests addressesRead macroblockTests macroblockCall ones onesIn
+whole-first = refl
+
+whole-outside : SinglyGives wholeCase 2 0 (blank 1) wholeRecord Outside outsideRecord
+unfolding pick upTo insideAxis laidOut answerOf writtenFor madeOf geometryTests recordTests addressesRead macroblockTests macroblockCall
+whole-outside = refl
+
+pub whole-counted : pictureCall wholeCase wholeRecord (blank 6) .reply ≡ Counted (counts 4 0 2)
+unfolding allOf allBelow pick upTo insideAxis mOf nOf fOf twoOf columnsRead digitsOf coordinateOf stepOf addressRead blockRead sameMotion samePrediction alike oneEach fewestIn recordAt motionOf splitSaid rule1 rule2 rule3 rule4 rule5 rule6 firstBroken laidOut setOf intraSet gathered source clearOf filled lower lowest having mergedList merged someOf liveOf copiedFrom copied resolved scaledPrediction scaledMotion inheritedMotions namedAt answerOf addressesOf writtenFor madeOf geometryTests recordTests pictureTests madeAt countsOf pictureCall ones onesIn
+whole-counted = refl
+
+-- ---- the starred macroblock
+centred-formed : allBelow 4 (λ a. wellFormed (recordAt allButLast a)) ≡ true
+unfolding allOf allBelow pick upTo sameMotion samePrediction alike oneEach recordAt motionOf splitSaid rule1 rule2 rule3 rule4 rule5 rule6 firstBroken laidOut
+centred-formed = refl
+
+centred-intra : SinglyGives centred 1 1 (blank 1) allButLast (Intra (first Center)) intraRecord
+unfolding allOf allBelow pick upTo insideAxis mOf nOf fOf twoOf columnsRead digitsOf coordinateOf stepOf addressRead blockRead sameMotion samePrediction alike oneEach fewestIn recordAt motionOf splitSaid rule1 rule2 rule3 rule4 rule5 rule6 firstBroken laidOut setOf intraSet gathered source clearOf filled lower lowest having mergedList merged someOf liveOf copiedFrom copied resolved scaledPrediction scaledMotion inheritedMotions namedAt answerOf addressesOf writtenFor madeOf geometryTests recordTests addressesRead macroblockTests macroblockCall ones onesIn
+centred-intra = refl
+
+centred-counted : pictureCall centred allButLast (blank 16) .reply ≡ Counted (counts 0 1 15)
+unfolding allOf allBelow pick upTo insideAxis mOf nOf fOf twoOf columnsRead digitsOf coordinateOf stepOf addressRead blockRead sameMotion samePrediction alike oneEach fewestIn recordAt motionOf splitSaid rule1 rule2 rule3 rule4 rule5 rule6 firstBroken laidOut setOf intraSet gathered source clearOf filled lower lowest having mergedList merged someOf liveOf copiedFrom copied resolved scaledPrediction scaledMotion inheritedMotions namedAt answerOf addressesOf writtenFor madeOf geometryTests recordTests pictureTests madeAt countsOf pictureCall ones onesIn
+centred-counted = refl
+
+pub cases : Cases
+unfolding pick upTo laidOut geometryTests
+cases = record {
+  inherited = concrete wholeCase 0 0 wholeRecord _ _ _ refl refl whole-formed refl refl whole-first whole-counted;
+  outside = concrete wholeCase 2 0 wholeRecord _ _ _ refl refl whole-formed refl refl whole-outside whole-counted;
+  others = λ base l. demand3 .singly wholeCase 2 0 (blank 1) wholeRecord Outside outsideRecord whole-outside .others base l (λ a m. absurd (List·Memᴰ·not-nil m));
+  by-calls = picture-by-singly wholeCase wholeRecord (blank 6) (counts 4 0 2) (λ a. blank 1) whole-counted (λ a h. refl);
+  intra = concrete centred 1 1 allButLast _ _ _ refl refl centred-formed refl refl centred-intra centred-counted;
+}
