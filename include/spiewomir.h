@@ -4,10 +4,11 @@
  *
  * "Document 01" is the project's scope paper. Every call ends, asks nothing of
  * its numbers, and judges what it is lent; the caller only has to lend
- * `base_len` words at `base` to read and, apart from them, `out_len` words at
- * `out` to write. A refused call leaves every lent word as it was. `base` is
- * never written. Calls keep nothing between them: a session is handed over and
- * back by value.
+ * `base_len` words at `base` (or `text_len` bytes at `text`) to read and, apart
+ * from them, `out_len` words at `out` (`words_len` at `words`, `log_len` bytes at
+ * `log`) to write. A refused call leaves every word and byte lent to it as it was.
+ * `base` and `text` are never written. Calls keep nothing between them: a session
+ * is handed over and back by value.
  */
 #ifndef SPIEWOMIR_H
 #define SPIEWOMIR_H
@@ -23,19 +24,34 @@ extern "C" {
  * 64 vector words (13 + 4b + 2l and the next). */
 #define SPIEWOMIR_WORDS 77
 
+/* A sync text: the most bytes, the most record lines, and the words to lend for
+ * these. */
+#define SPIEWOMIR_TEXT_BYTES 65536
+#define SPIEWOMIR_TEXT_RECORDS 99
+#define SPIEWOMIR_TEXT_WORDS 7623
+
+/* The bytes that every log fits: 65,536 lines of at most 18, and a last one of at
+ * most 31. */
+#define SPIEWOMIR_LOG_BYTES 1179679
+
 /* Refusals, judged in rising order, but 20 to 22 (sessions only) before the
- * others. 0 means answered. */
+ * others; a text's are judged in the order given at the call. 0 means answered. */
 #define SPIEWOMIR_ANSWERED 0
 #define SPIEWOMIR_REFUSED_BASE_SIZE 1     /* base size no multiple of 16 in 16..4096 */
 #define SPIEWOMIR_REFUSED_FULL_SIZE 2     /* the same for the full picture's size */
 #define SPIEWOMIR_REFUSED_SCALED_SIZE 3   /* scaled size odd, below the base's or above twice that */
 #define SPIEWOMIR_REFUSED_OFFSET 4        /* offset odd or outside -8192..8190 */
 #define SPIEWOMIR_REFUSED_BASE_LENGTH 5   /* base_len is not 77 for each base macroblock */
-#define SPIEWOMIR_REFUSED_OUTPUT_LENGTH 6 /* out_len is not what the call writes */
+#define SPIEWOMIR_REFUSED_OUTPUT_LENGTH 6 /* out_len is not what the call writes; words_len is not 7623;
+                                             log_len is below 1179679 */
 #define SPIEWOMIR_REFUSED_POSITION 7      /* column or row outside the picture (one macroblock only) */
 #define SPIEWOMIR_REFUSED_RECORD 8        /* a malformed record: `place` is the lowest malformed
                                              address among the records checked, `rule` the first of
                                              document 01's rules 1 to 6 that it breaks */
+#define SPIEWOMIR_REFUSED_GRAMMAR 9       /* a text that breaks the grammar: `place` is the first byte
+                                             offset at which no text of the grammar, however long, can
+                                             go on, and the text's length if it ends early */
+#define SPIEWOMIR_REFUSED_LIMIT 10        /* a text above 65,536 bytes or 99 record lines */
 #define SPIEWOMIR_REFUSED_NOTHING_BEGUN 20 /* next or abandon with nothing begun */
 #define SPIEWOMIR_REFUSED_FINISHED 21      /* next or abandon after the last macroblock */
 #define SPIEWOMIR_REFUSED_UNFINISHED 22    /* begin while a picture is unfinished */
@@ -99,6 +115,17 @@ typedef struct {
     uint32_t inherited, intra, outside;
 } SpiewomirTotals;
 
+typedef struct {
+    uint32_t refusal, place, rule; /* place is 0 but for refusal 9, rule is 0 */
+    SpiewomirGeometry geometry;    /* as it stands in the text, not judged; zeros in a refusal */
+    uint32_t lines;                /* record lines; 0 in a refusal */
+} SpiewomirText;
+
+typedef struct {
+    uint32_t refusal; /* 6 or 0 */
+    size_t bytes;     /* the log's length; 0 if refused */
+} SpiewomirLog;
+
 /* One macroblock. `base` has the base picture's records in raster order, `out`
  * has 77 words. Refusals 1 to 8; only the records that the macroblock reads are
  * checked by 8, none of them outside the window. Answered, all 77 words at `out`
@@ -135,6 +162,22 @@ SpiewomirJudged spiewomir_session_abandon(SpiewomirSession session);
 /* The answered next calls of each sort since the last begin or abandon that was not
  * refused. */
 SpiewomirTotals spiewomir_session_totals(SpiewomirSession session);
+
+/* Reads a sync text. `words` has 7623 words, those of 99 records. Refusals 6, then
+ * 10 by length, then 9, then 10 by lines; nothing else is judged: the geometry's
+ * numbers and the records' words are those that stand in the text, fit for
+ * spiewomir_picture or not. Read, the words of the record lines stand first in
+ * `words`, 77 for each line in the text's order, and the rest is as it was. */
+SpiewomirText spiewomir_text(const uint8_t *text, size_t text_len, int16_t *words, size_t words_len);
+
+/* Writes the log of a sync text. `log` has 1179679 bytes or more; fewer are refused
+ * by 6, which is judged first. Every text then has a log: a line (mb column row
+ * type pieces) for each macroblock in raster order and (sync macroblocks inherited
+ * intra outside), or only (refused number place) by 10 for the length, 9, 10 for
+ * the lines, 1 to 5, and 8 on all records. Each line ends in a line feed. The log
+ * stands first in `log`, `bytes` long with no zero after it, and the rest is as it
+ * was. */
+SpiewomirLog spiewomir_log(const uint8_t *text, size_t text_len, uint8_t *log, size_t log_len);
 
 #ifdef __cplusplus
 }

@@ -1,5 +1,7 @@
 //! Speed of the picture call: the proved library, the second implementation and
-//! a plain copy of the words that they write, in turns.
+//! a plain copy of the words that they write, in turns; and of texts and logs.
+
+mod texts;
 
 use compare::generate::{base_macroblocks, full_macroblocks, library, Eight, Mood};
 use compare::random::Random;
@@ -49,6 +51,12 @@ fn seconds(repeats: usize, mut call: impl FnMut()) -> f64 {
         call();
     }
     start.elapsed().as_secs_f64()
+}
+
+fn median(times: &[f64]) -> f64 {
+    let mut times = times.to_vec();
+    times.sort_by(|a, b| a.total_cmp(b));
+    times[times.len() / 2]
 }
 
 /// Not inlined, so that each copy is made.
@@ -121,9 +129,7 @@ impl Timed {
 
     /// Median of the rounds in nanoseconds per macroblock.
     fn median(&self, times: &[f64]) -> f64 {
-        let mut times = times.to_vec();
-        times.sort_by(|a, b| a.total_cmp(b));
-        1e9 * times[times.len() / 2] / (self.repeats * full_macroblocks(&self.eight)) as f64
+        1e9 * median(times) / (self.repeats * full_macroblocks(&self.eight)) as f64
     }
 
     fn medians(&self) -> [f64; 3] {
@@ -145,7 +151,13 @@ fn time(pictures: Vec<Eight>) -> Vec<Timed> {
 }
 
 fn main() {
-    println!("Medians of {ROUNDS} rounds, in turns. Mixed well-formed records.");
+    println!("Medians of {ROUNDS} rounds, in turns.");
+    texts::report();
+    pictures();
+}
+
+fn pictures() {
+    println!("Pictures of mixed well-formed records.");
     println!("Every buffer was touched before: no page is new, small pictures are in the cache.");
     let bytes = 2.0 * WORDS as f64;
     let timed = time(PICTURES.iter().map(|picture| picture.1).collect());

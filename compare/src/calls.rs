@@ -3,6 +3,7 @@
 use crate::coverage::{map_row, Counts, Coverage, Inside};
 use crate::lent::Lent;
 use crate::sessions::Happened;
+use crate::texts::Met;
 use compare::generate::{library, Eight};
 use second::geometry::Geometry;
 use second::map::{reading, Reading};
@@ -22,6 +23,8 @@ pub struct Calls {
     pub coverage: Coverage,
     /// What happened in sessions.
     pub happened: Happened,
+    /// What happened to texts.
+    pub met: Met,
     /// What is being tried, for messages.
     pub at: String,
     pub pictures: u64,
@@ -173,6 +176,7 @@ impl Calls {
         Calls {
             coverage: Coverage::new(),
             happened: Happened::default(),
+            met: Met::default(),
             at: String::new(),
             pictures: 0,
             singles: 0,

@@ -1,4 +1,5 @@
-//! Random pictures, which the comparison and the benchmark share.
+//! Random pictures and sync texts, which the comparison and the benchmark share.
 
 pub mod generate;
 pub mod random;
+pub mod sync;

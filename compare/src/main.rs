@@ -1,5 +1,5 @@
 //! Compares the proved library with the second implementation: every written
-//! word, answer, count and refusal, and what a call must leave alone. The last
+//! word and byte, answer, count and refusal, and what a call must leave alone. The last
 //! line is 'N passed, M failed'; the exit status is 0 only if M is 0.
 //!
 //!     compare                 every test
@@ -13,6 +13,7 @@ mod lent;
 mod pictures;
 mod sessions;
 mod sweeps;
+mod texts;
 
 use calls::Calls;
 
@@ -24,6 +25,9 @@ const PICTURES: u64 = 25_000;
 const LISTS: u64 = 40_000;
 const SESSION_PICTURES: u64 = 5_000;
 const FORGED: u64 = 100_000;
+
+/// Random texts, each with six others made of it.
+const TEXTS: u64 = 4_000;
 
 /// Counts each test as passed or failed.
 struct Tests {
@@ -39,6 +43,7 @@ impl Tests {
             self.calls.pictures,
             self.calls.singles,
             self.calls.sessions,
+            self.calls.met.texts,
             self.calls.differences,
         );
         self.calls.at = name.to_string();
@@ -46,8 +51,9 @@ impl Tests {
         let pictures = self.calls.pictures - before.0;
         let singles = self.calls.singles - before.1;
         let sessions = self.calls.sessions - before.2;
-        let differences = self.calls.differences - before.3;
-        println!("{name}: {pictures} picture calls, {singles} one-macroblock calls, {sessions} session calls, {differences} differences");
+        let texts = self.calls.met.texts - before.3;
+        let differences = self.calls.differences - before.4;
+        println!("{name}: {pictures} picture calls, {singles} one-macroblock calls, {sessions} session calls, {texts} texts, {differences} differences");
         self.verdict(name, differences == 0);
     }
 
@@ -127,6 +133,28 @@ fn everything(tests: &mut Tests) {
             sessions::forged(calls, number);
         }
     });
+    tests.compare("texts with a byte replaced", texts::replaced);
+    tests.compare(
+        "texts with bytes or lines removed, doubled, moved, or ended early",
+        texts::moved,
+    );
+    tests.compare(
+        "texts with each number at the edges of its range",
+        texts::edges,
+    );
+    tests.compare("texts with lists to depth 10", texts::depths);
+    tests.compare("texts of 98 to 101 record lines", texts::counts);
+    tests.compare("texts of 65,535 to 65,537 bytes", texts::lengths);
+    tests.compare(
+        "texts with words and bytes of wrong length lent",
+        texts::buffers,
+    );
+    tests.compare(
+        "texts with a geometry's numbers at their limits",
+        texts::numbers_at_limits,
+    );
+    tests.compare("texts of the largest pictures", texts::largest);
+    tests.compare("random texts", |calls| texts::random(calls, TEXTS));
 
     println!();
     println!("Coverage, in calls that were compared:");
@@ -136,10 +164,19 @@ fn everything(tests: &mut Tests) {
     for (name, good) in tests.calls.happened.report() {
         tests.verdict(name, good);
     }
+    for (name, good) in tests.calls.met.report() {
+        tests.verdict(name, good);
+    }
     println!();
     let calls = &tests.calls;
     println!(
-        "{} picture calls, {} one-macroblock calls and {} session calls, {} written words compared, {} differences",
-        calls.pictures, calls.singles, calls.sessions, calls.words, calls.differences
+        "{} picture calls, {} one-macroblock calls, {} session calls and {} texts, {} written words and {} bytes of logs compared, {} differences",
+        calls.pictures,
+        calls.singles,
+        calls.sessions,
+        calls.met.texts,
+        calls.words,
+        calls.met.log_bytes,
+        calls.differences
     );
 }

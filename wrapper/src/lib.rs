@@ -1,9 +1,9 @@
-//! Safe calls of the proved motion upsampler: one macroblock, a picture, and a
-//! session over one picture.
+//! Safe calls of the proved motion upsampler: one macroblock, a picture, a
+//! session over one picture, a sync text and its log.
 //!
 //! Records, refusals and answers are those of document 01. No call asks
 //! anything of its caller: it judges what it is lent, and a refused call leaves
-//! every lent word as it was. `numbers` has the same calls with plain numbers.
+//! every lent word and byte as it was. `numbers` has the same calls with plain numbers.
 
 pub mod numbers;
 
@@ -12,12 +12,22 @@ pub use numbers::Geometry;
 /// Words of a motion record.
 pub const WORDS: usize = 77;
 
+/// Longest sync text, in bytes.
+pub const TEXT_BYTES: usize = 65_536;
+
+/// Most record lines of a sync text, and their words.
+pub const TEXT_RECORDS: usize = 99;
+pub const TEXT_WORDS: usize = TEXT_RECORDS * WORDS;
+
+/// Bytes that every log fits.
+pub const LOG_BYTES: usize = 1_179_679;
+
 /// Why a call was refused.
 #[derive(Clone, Copy, Debug, PartialEq, Eq)]
 pub struct Refusal {
-    /// 1 to 8, and of a session 20 to 22.
+    /// 1 to 8, of a session 20 to 22, and of a text 6, 9 and 10.
     pub number: u32,
-    /// For 8 the lowest malformed address, otherwise 0.
+    /// For 8 the lowest malformed address, for 9 a byte offset, otherwise 0.
     pub place: u32,
     /// For 8 the first broken rule, 1 to 6, otherwise 0.
     pub rule: u32,
@@ -91,6 +101,21 @@ pub fn macroblock(
 /// Makes the records of all macroblocks of the picture in raster order.
 pub fn picture(geometry: Geometry, base: &[i16], out: &mut [i16]) -> Result<Counts, Refusal> {
     numbers::picture(geometry, base, out).result()
+}
+
+/// Reads a sync text: the geometry's numbers and the count of record lines,
+/// whose words stand first in `words`, which has `TEXT_WORDS`. Neither numbers
+/// nor words are judged. Refusals 6, 10 by length, 9, 10 by lines.
+pub fn text(text: &[u8], words: &mut [i16]) -> Result<(Geometry, u32), Refusal> {
+    numbers::text(text, words).result()
+}
+
+/// The log of a sync text, of which `(refused number place)` is one.
+pub fn log(text: &[u8]) -> Vec<u8> {
+    let mut log = vec![0; LOG_BYTES];
+    let written = numbers::log(text, &mut log);
+    log.truncate(written.bytes);
+    log
 }
 
 /// A session: one picture made macroblock by macroblock. Each call hands it
@@ -196,6 +221,19 @@ impl numbers::Picture {
             intra: self.intra,
             outside: self.outside,
         })
+    }
+}
+
+impl numbers::Text {
+    pub fn result(self) -> Result<(Geometry, u32), Refusal> {
+        match self.refusal {
+            0 => Ok((self.geometry, self.lines)),
+            number => Err(Refusal {
+                number,
+                place: self.place,
+                rule: self.rule,
+            }),
+        }
     }
 }
 

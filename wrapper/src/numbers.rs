@@ -87,6 +87,27 @@ pub struct Totals {
     pub outside: u32,
 }
 
+/// What a sync text has; `refusal` 0 means read.
+#[repr(C)]
+#[derive(Clone, Copy, Debug, Default, PartialEq, Eq)]
+pub struct Text {
+    pub refusal: u32,
+    pub place: u32,
+    pub rule: u32,
+    pub geometry: Geometry,
+    /// Record lines.
+    pub lines: u32,
+}
+
+/// What the log call hands back; `refusal` 0 means written.
+#[repr(C)]
+#[derive(Clone, Copy, Debug, Default, PartialEq, Eq)]
+pub struct Log {
+    pub refusal: u32,
+    /// The log's length.
+    pub bytes: usize,
+}
+
 extern "C" {
     fn spiewomir_macroblock(
         geometry: Geometry,
@@ -121,6 +142,10 @@ extern "C" {
     fn spiewomir_session_abandon(session: Session) -> Judged;
 
     fn spiewomir_session_totals(session: Session) -> Totals;
+
+    fn spiewomir_text(text: *const u8, text_len: usize, words: *mut i16, words_len: usize) -> Text;
+
+    fn spiewomir_log(text: *const u8, text_len: usize, log: *mut u8, log_len: usize) -> Log;
 }
 
 /// The one-macroblock call.
@@ -159,6 +184,18 @@ pub fn picture(geometry: Geometry, base: &[i16], out: &mut [i16]) -> Picture {
             out.len(),
         )
     }
+}
+
+/// The text call.
+pub fn text(text: &[u8], words: &mut [i16]) -> Text {
+    // SAFETY: as in `macroblock`, with bytes to read.
+    unsafe { spiewomir_text(text.as_ptr(), text.len(), words.as_mut_ptr(), words.len()) }
+}
+
+/// The log call.
+pub fn log(text: &[u8], log: &mut [u8]) -> Log {
+    // SAFETY: as in `macroblock`, with bytes to read and to write.
+    unsafe { spiewomir_log(text.as_ptr(), text.len(), log.as_mut_ptr(), log.len()) }
 }
 
 impl Session {

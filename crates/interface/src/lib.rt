@@ -3,16 +3,19 @@ ghost use Rattle.definitions.specs.Calls.{macroblockCall, pictureCall};
 ghost use Rattle.definitions.specs.Session.{abandon, abandonVerdict, begin, beginVerdict, next, nextCall, totalsOf};
 ghost use Rattle.interface.specs.Interface.{answerResult, answered, classNumber, macroblockResult, numbersOf, pictureResult};
 ghost use Rattle.interface.specs.Sessions.{advancedResult, flag, judgedResult, numbersFor, sessionFor, sessionOf, totalsResult};
+ghost use Rattle.interface.specs.Texts.{LogGiven, TextGiven};
 ghost use Rattle.session.specs.Values.{freshSession, handedBack, stateOf};
 ghost use mathlib.Core.Path.{_≡_};
 use definitions::Answer;
 use definitions::AxisNumbers;
 use definitions::Class;
 use definitions::Counts;
+use definitions::LogReply;
 use definitions::MacroblockReply;
 use definitions::Named;
 use definitions::Numbers;
 use definitions::PictureReply;
+use definitions::TextReply;
 use definitions::Verdict;
 use macroblock::sub_types;
 use macroblock::type_number;
@@ -20,6 +23,7 @@ use picture::upsample_picture;
 use session::Advanced;
 use session::Judged;
 use session::Session;
+use sync_text::read_text;
 use upsample::upsample_macroblock;
 
 // Width and height of the base, the scaled base, the window's offset, and the full picture: any numbers.
@@ -91,6 +95,23 @@ pub struct TotalsResult {
     pub inherited: u32,
     pub intra: u32,
     pub outside: u32,
+}
+
+// A refusal's number, place and rule, or 0, 0, 0, the geometry's numbers and the count of record lines.
+#[repr(C)]
+pub struct TextResult {
+    pub refusal: u32,
+    pub place: u32,
+    pub rule: u32,
+    pub geometry: GeometryNumbers,
+    pub lines: u32,
+}
+
+// Refusal 6, or 0 and the log's count of bytes.
+#[repr(C)]
+pub struct LogResult {
+    pub refusal: u32,
+    pub bytes: usize,
 }
 
 fn numbers_of(g: GeometryNumbers) -> Numbers
@@ -366,5 +387,56 @@ pub extern "C" fn spiewomir_session_totals(s: SessionNumbers) -> TotalsResult
         inherited: t.counts.inherited,
         intra: t.counts.intra,
         outside: t.counts.outside,
+    }
+}
+
+// ---- The sync text and its log
+#[no_mangle]
+pub extern "C" fn spiewomir_text(text: &[u8], words: &mut [i16]) -> TextResult
+    ensures { λ r. ⌜ TextGiven (now (text .entry)) (now (words .entry)) r (now (words .exit)) ⌝ }
+{
+    match read_text(text, words) {
+        TextReply::Read(t) => {
+            let numbers = t.numbers;
+            TextResult {
+                refusal: 0,
+                place: 0,
+                rule: 0,
+                geometry: geometry_for(numbers),
+                lines: t.lines,
+            }
+        }
+        TextReply::Refused(r) => TextResult {
+            refusal: r.number,
+            place: r.place,
+            rule: r.rule,
+            geometry: GeometryNumbers {
+                bw: 0,
+                bh: 0,
+                sw: 0,
+                sh: 0,
+                x: 0,
+                y: 0,
+                fw: 0,
+                fh: 0,
+            },
+            lines: 0,
+        },
+    }
+}
+
+#[no_mangle]
+pub extern "C" fn spiewomir_log(text: &[u8], out: &mut [u8]) -> LogResult
+    ensures { λ r. ⌜ LogGiven (now (text .entry)) (now (out .entry)) r (now (out .exit)) ⌝ }
+{
+    match log::log(text, out) {
+        LogReply::Written(n) => LogResult {
+            refusal: 0,
+            bytes: n,
+        },
+        LogReply::Refused(r) => LogResult {
+            refusal: r.number,
+            bytes: 0,
+        },
     }
 }

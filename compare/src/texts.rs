@@ -1,0 +1,637 @@
+//! The text and the log call made in both implementations, on texts that
+//! belong to the grammar and on damaged ones.
+
+use crate::calls::{Calls, FILL, FILL_SECOND};
+use crate::lent::Lent;
+use compare::generate::{base_macroblocks, break_record, Mood};
+use compare::random::Random;
+use compare::sync::{
+    head, lines, long_notes, long_records, mb, note, noted, text_geometry, whole, INTRA,
+};
+use second::{TEXT_WORDS, WORDS};
+use spiewomir::numbers;
+use spiewomir::{LOG_BYTES, TEXT_BYTES};
+
+/// What the bytes for the log hold before a call. No log has such a byte.
+const FILL_BYTE: u8 = 0xc3;
+
+/// Bytes of the grammar, their neighbours, and some others.
+const BYTES: &[u8] = b"()- \n0123456789abefhilmnostwz',./:@`{AZ\r\t\0\x7f\x80\xff+_*";
+
+/// Numbers at the edges of their range, and what only looks like a number.
+const EDGES: &[&str] = &[
+    "-32768",
+    "32767",
+    "32768",
+    "-32769",
+    "-0",
+    "00",
+    "01",
+    "0",
+    "-1",
+    "-",
+    "",
+    "--1",
+    "+1",
+    "-01",
+    "-00",
+    "32760",
+    "32770",
+    "-32770",
+    "33000",
+    "99999",
+    "9999",
+    "10000",
+    "100000",
+    "-9999",
+    "-10000",
+    "327670",
+    "1-",
+    "1a",
+    "65536",
+    "4294967296",
+    "18446744073709551616",
+];
+
+/// Sizes and offsets at their limits, for refusals 1 to 4.
+const LIMITS: [i32; 20] = [
+    -8194, -8193, -8192, -16, -1, 0, 1, 8, 15, 16, 17, 32, 47, 4080, 4095, 4096, 4112, 8190, 8192,
+    32752,
+];
+
+const WHOLE_CASE: &str =
+    "(base 16 16)\n(scaled 32 32)\n(at 0 0)\n(full 48 32)\n(whole (0 -1) (4 -8 0 0))\n";
+
+/// How often what can happen to a text did happen.
+#[derive(Default)]
+pub struct Met {
+    pub texts: u64,
+    pub log_bytes: u64,
+    /// Of the text call: read, then its refusals.
+    text: [u64; 6],
+    /// Refusals of the log: 1 to 5, 8, then those of the text, and 6.
+    log: [u64; 12],
+    /// Lines of texts that were read.
+    forms: [u64; 4],
+    /// Lines of logs by the type of their macroblock.
+    types: [u64; 6],
+}
+
+const TEXT_MET: [&str; 6] = [
+    "read",
+    "6",
+    "10 by length",
+    "9 within",
+    "9 at the end",
+    "10 by lines",
+];
+const LOG_MET: [&str; 12] = [
+    "made",
+    "1",
+    "2",
+    "3",
+    "4",
+    "5",
+    "6",
+    "8",
+    "10 by length",
+    "9 within",
+    "9 at the end",
+    "10 by lines",
+];
+const FORMS: [&str; 4] = ["(intra)", "(whole ..)", "(mb ..)", "(note ..)"];
+const TYPES: [&str; 6] = ["0", "1", "2", "3", "4", "5"];
+
+impl Met {
+    /// Prints the tables. For each, its name and whether everything that it
+    /// lists did happen.
+    pub fn report(&self) -> [(&'static str, bool); 4] {
+        [
+            (
+                "each refusal of the text call",
+                print("text call", &TEXT_MET, &self.text),
+            ),
+            ("each refusal of the log", print("log", &LOG_MET, &self.log)),
+            (
+                "each form of a line in texts that are read",
+                print("lines of texts that are read", &FORMS, &self.forms),
+            ),
+            (
+                "each type of macroblock in logs",
+                print("lines of logs, by type", &TYPES, &self.types),
+            ),
+        ]
+    }
+
+    /// Where refusal 9 or 10 of a text stands among the last four of a table.
+    fn by_text(number: u32, place: u32, text: &[u8]) -> usize {
+        match number {
+            10 if text.len() > TEXT_BYTES => 0,
+            9 if (place as usize) < text.len() => 1,
+            9 => 2,
+            _ => 3,
+        }
+    }
+
+    fn read(&mut self, text: &[u8]) {
+        for line in text.split(|&byte| byte == b'\n') {
+            match line.get(1) {
+                Some(b'i') => self.forms[0] += 1,
+                Some(b'w') => self.forms[1] += 1,
+                Some(b'm') => self.forms[2] += 1,
+                Some(b'n') => self.forms[3] += 1,
+                _ => {}
+            }
+        }
+    }
+
+    fn logged(&mut self, text: &[u8], log: &[u8]) {
+        self.log_bytes += log.len() as u64;
+        if let Some(refusal) = log.strip_prefix(b"(refused ") {
+            let refusal = std::str::from_utf8(refusal).expect("a line of a log");
+            let mut numbers = refusal.split([' ', ')']).map(|number| number.parse());
+            let mut next = || numbers.next().and_then(Result::ok).expect("a number");
+            let (number, place) = (next(), next());
+            let at = match number {
+                1..=5 => number as usize,
+                8 => 7,
+                _ => 8 + Met::by_text(number, place, text),
+            };
+            self.log[at] += 1;
+            return;
+        }
+        self.log[0] += 1;
+        for line in log.split(|&byte| byte == b'\n') {
+            if line.starts_with(b"(mb ") {
+                let kind = line.split(|&byte| byte == b' ').nth(3);
+                let kind = kind.and_then(|kind| kind.first()).expect("a type");
+                self.types[(kind - b'0') as usize] += 1;
+            }
+        }
+    }
+}
+
+fn print(name: &str, names: &[&str], counts: &[u64]) -> bool {
+    let cells: Vec<String> = names
+        .iter()
+        .zip(counts)
+        .map(|(name, count)| format!("{name}: {count}"))
+        .collect();
+    println!("{name}: {}", cells.join(", "));
+    counts.iter().all(|&count| count > 0)
+}
+
+/// The beginning of a text, for messages.
+fn shown(text: &[u8]) -> String {
+    let start = String::from_utf8_lossy(&text[..text.len().min(400)]);
+    format!("{} bytes {start:?}", text.len())
+}
+
+/// The interface's numbers for what the second implementation answers.
+fn text_numbers(result: Result<(second::Numbers, u32), second::Refusal>) -> numbers::Text {
+    match result {
+        Err(refusal) => numbers::Text {
+            refusal: refusal.number,
+            place: refusal.place,
+            rule: refusal.rule,
+            ..numbers::Text::default()
+        },
+        Ok((second, lines)) => numbers::Text {
+            geometry: spiewomir::Geometry {
+                base_width: second.base_width,
+                base_height: second.base_height,
+                scaled_width: second.scaled_width,
+                scaled_height: second.scaled_height,
+                offset_x: second.offset_x,
+                offset_y: second.offset_y,
+                full_width: second.full_width,
+                full_height: second.full_height,
+            },
+            lines,
+            ..numbers::Text::default()
+        },
+    }
+}
+
+/// The calls of one test, and what it lends to them.
+struct Texts<'a> {
+    calls: &'a mut Calls,
+    words: Lent,
+    by_second: Vec<i16>,
+    log: Lent<u8>,
+}
+
+impl Texts<'_> {
+    fn new(calls: &mut Calls) -> Texts<'_> {
+        Texts::lending(calls, TEXT_WORDS, LOG_BYTES)
+    }
+
+    fn lending(calls: &mut Calls, words: usize, bytes: usize) -> Texts<'_> {
+        Texts {
+            calls,
+            words: Lent::filled(words, FILL),
+            by_second: vec![FILL_SECOND; words],
+            log: Lent::filled(bytes, FILL_BYTE),
+        }
+    }
+
+    fn differs(&mut self, text: &[u8], what: &str) {
+        self.calls.differs(|| format!("{what}: {}", shown(text)));
+    }
+
+    /// Both calls on a text.
+    fn compare(&mut self, text: impl AsRef<[u8]>) {
+        let text = text.as_ref();
+        let lent = Lent::of(text);
+        self.calls.met.texts += 1;
+        self.text(text, &lent);
+        self.log(text, &lent);
+        if !lent.untouched() {
+            self.differs(text, "the text or a byte beside it was written");
+        }
+    }
+
+    fn text(&mut self, text: &[u8], lent: &Lent<u8>) {
+        let library = numbers::text(lent.words(), self.words.words_mut());
+        let second = text_numbers(second::text(text, &mut self.by_second));
+        if library != second {
+            self.differs(text, &format!("library {library:?}, second {second:?}"));
+        }
+        let written = second.lines as usize * WORDS;
+        if self.words.words()[..written] != self.by_second[..written] {
+            self.differs(text, "the records' words differ");
+        }
+        if !self.words.untouched_but(written) {
+            self.differs(text, "a word that is no record's was written");
+        }
+        if self.by_second[written..]
+            .iter()
+            .any(|&word| word != FILL_SECOND)
+        {
+            self.differs(text, "the second implementation wrote such a word");
+        }
+        self.words.restore(written);
+        self.by_second[..written].fill(FILL_SECOND);
+        self.calls.words += written as u64;
+        let met = &mut self.calls.met;
+        match second.refusal {
+            0 => {
+                met.text[0] += 1;
+                met.read(text);
+            }
+            6 => met.text[1] += 1,
+            number => met.text[2 + Met::by_text(number, second.place, text)] += 1,
+        }
+    }
+
+    fn log(&mut self, text: &[u8], lent: &Lent<u8>) {
+        let library = numbers::log(lent.words(), self.log.words_mut());
+        if self.log.words().len() < LOG_BYTES {
+            // The second implementation has the program's log only.
+            let refused = numbers::Log {
+                refusal: 6,
+                bytes: 0,
+            };
+            if library != refused || !self.log.untouched() {
+                self.differs(text, &format!("log: library {library:?}, not refused by 6"));
+            }
+            self.calls.met.log[6] += 1;
+            return;
+        }
+        let second = second::log(text);
+        let written = numbers::Log {
+            refusal: 0,
+            bytes: second.len(),
+        };
+        if library != written || self.log.words()[..second.len()] != second {
+            self.differs(
+                text,
+                &format!("log: library {library:?}, second {written:?}"),
+            );
+        }
+        if !self.log.untouched_but(second.len()) {
+            self.differs(text, "a byte that is no log's was written");
+        }
+        self.log.restore(second.len());
+        self.calls.met.logged(text, &second);
+    }
+}
+
+/// A text with every form of a line, in and between which stand notes.
+fn every_form() -> String {
+    let record: Vec<i16> = (0..WORDS as i16).map(|at| at % 3 - 1).collect();
+    [
+        "(note)\n(base 16 48)\n(note a -32768 (b (0) 327))\n(scaled 24 72)\n(at -2 6)\n(full 48 80)\n",
+        "(whole (0 -1) (4 -8 0 0))\n(note zz)\n",
+        INTRA,
+        &mb(&record),
+        "(note ((((((((1))))) 0) -7) x))\n",
+    ]
+    .concat()
+}
+
+/// The Whole case with each byte replaced by every other one, and every form
+/// with each byte replaced by each of the grammar's and some others.
+pub fn replaced(calls: &mut Calls) {
+    let texts = &mut Texts::new(calls);
+    let every: Vec<u8> = (0..=255).collect();
+    for (text, bytes) in [(WHOLE_CASE.to_string(), &every[..]), (every_form(), BYTES)] {
+        let mut text = text.into_bytes();
+        texts.compare(&text);
+        for at in 0..text.len() {
+            let was = text[at];
+            for &byte in bytes {
+                text[at] = byte;
+                texts.compare(&text);
+            }
+            text[at] = was;
+        }
+    }
+}
+
+/// Each byte removed, doubled, exchanged with the next, put after by another
+/// one; the text ended at every offset; each line removed, doubled, exchanged.
+pub fn moved(calls: &mut Calls) {
+    let texts = &mut Texts::new(calls);
+    for text in [WHOLE_CASE.to_string(), every_form()] {
+        let bytes = text.as_bytes();
+        for at in 0..=bytes.len() {
+            let (before, after) = bytes.split_at(at);
+            texts.compare(before);
+            for byte in b"() -0a\n" {
+                texts.compare([before, &[*byte], after].concat());
+            }
+            if let [byte, rest @ ..] = after {
+                texts.compare([before, rest].concat());
+                texts.compare([before, &[*byte], after].concat());
+                if let [next, rest @ ..] = rest {
+                    texts.compare([before, &[*next, *byte], rest].concat());
+                }
+            }
+        }
+        let lines: Vec<&str> = text.split_inclusive('\n').collect();
+        for at in 0..lines.len() {
+            for other in 0..lines.len() {
+                let mut lines = lines.clone();
+                lines.swap(at, other);
+                texts.compare(lines.concat());
+                lines[at] = "";
+                texts.compare(lines.concat());
+                lines[at] = lines[other];
+                texts.compare(lines.concat());
+            }
+        }
+    }
+}
+
+/// Each number of every form at the edges of the range, and beyond.
+pub fn edges(calls: &mut Calls) {
+    let texts = &mut Texts::new(calls);
+    let text = every_form();
+    let is_number = |byte: u8| byte == b'-' || byte.is_ascii_digit();
+    let bytes = text.as_bytes();
+    let mut at = 0;
+    while at < bytes.len() {
+        let end = at
+            + bytes[at..]
+                .iter()
+                .take_while(|&&byte| is_number(byte))
+                .count();
+        if end > at {
+            for edge in EDGES {
+                texts.compare([&text[..at], edge, &text[end..]].concat());
+            }
+        }
+        at = end + 1;
+    }
+}
+
+/// Lists to depth 10 in notes at every place for a note, closed or not, with
+/// an item or nothing in the innermost.
+pub fn depths(calls: &mut Calls) {
+    let texts = &mut Texts::new(calls);
+    let lines: Vec<&str> = WHOLE_CASE.split_inclusive('\n').collect();
+    for place in 0..=lines.len() {
+        let (before, after) = (lines[..place].concat(), lines[place..].concat());
+        for depth in 1..=10 {
+            let open = "(".repeat(depth - 1);
+            for inner in ["", "a", "-1", "a 0", "a ", " a", "A", "32768", "()"] {
+                for closed in 0..=depth {
+                    let close = ")".repeat(closed);
+                    texts.compare(format!("{before}(note {open}{inner}{close})\n{after}"));
+                    texts.compare(format!("{before}(note x {open}{inner}{close} 7)\n{after}"));
+                }
+            }
+        }
+    }
+}
+
+/// 98 to 101 record lines of each form and mixed, with and without notes, for
+/// bases of so many macroblocks and others, and with a bad byte at the end.
+pub fn counts(calls: &mut Calls) {
+    let texts = &mut Texts::new(calls);
+    let random = &mut Random::new(21);
+    for (count, base) in [
+        (98, [224, 112]),
+        (99, [144, 176]),
+        (100, [160, 160]),
+        (101, [16, 1616]),
+    ] {
+        for form in 0..4 {
+            for other in [false, true] {
+                let [width, height] = if other { [144, 192] } else { base };
+                let eight = [width, height, width, height, 0, 0, 64, 48];
+                let mood = match form {
+                    0 => Mood::mixed(random),
+                    _ => Mood::without_intra(random),
+                };
+                let base = mood.base(random, count);
+                let mut lines = lines(random, &eight, &base);
+                for line in &mut lines[4..] {
+                    match form {
+                        1 => *line = INTRA.to_string(),
+                        2 => *line = whole(&[3, -1], &[random.word() / 4, -1, 0, 0]),
+                        3 => *line = mb(&mood.record(random)),
+                        _ => {}
+                    }
+                }
+                let text = lines.concat();
+                texts.compare(&text);
+                texts.compare(&text[..text.len() - 1]);
+                texts.compare(text.clone() + "x");
+                texts.compare(text.clone() + "(");
+                texts.compare(text + &note(random));
+                texts.compare(noted(random, &lines));
+            }
+        }
+    }
+}
+
+/// 65,535 to 65,537 bytes, and some others, of notes and of long records, with
+/// a bad byte near the end or none.
+pub fn lengths(calls: &mut Calls) {
+    let texts = &mut Texts::new(calls);
+    let random = &mut Random::new(22);
+    for bytes in [
+        65_000, 65_534, 65_535, 65_536, 65_537, 65_538, 70_000, 131_072,
+    ] {
+        let notes = long_notes(bytes, || note(random));
+        let records = long_records(64);
+        let padding = format!("(note {})\n", "z".repeat(bytes - records.len() - 8));
+        for text in [notes, padding.clone() + &records, records + &padding] {
+            assert_eq!(text.len(), bytes);
+            texts.compare(&text);
+            for at in [0, 1, bytes - 40, bytes - 2, bytes - 1] {
+                let mut text = text.clone().into_bytes();
+                text[at] = b'#';
+                texts.compare(&text);
+            }
+        }
+        texts.compare(vec![b'('; bytes]);
+    }
+    texts.compare(b"");
+}
+
+/// Words and bytes of wrong length are refused before the text is judged; more
+/// bytes than every log fits are not wrong.
+pub fn buffers(calls: &mut Calls) {
+    let tried = [
+        WHOLE_CASE.to_string(),
+        every_form(),
+        String::new(),
+        "x".repeat(65_537),
+        WHOLE_CASE.to_string() + &INTRA.repeat(100),
+        WHOLE_CASE.replace("(base 16", "(base 17"),
+        WHOLE_CASE.replace("(base", "(bass"),
+    ];
+    let words = [
+        0,
+        1,
+        77,
+        154,
+        TEXT_WORDS - 77,
+        TEXT_WORDS - 1,
+        TEXT_WORDS,
+        TEXT_WORDS + 1,
+        TEXT_WORDS + 77,
+    ];
+    let bytes = [
+        0,
+        1,
+        31,
+        4096,
+        LOG_BYTES - 31,
+        LOG_BYTES - 1,
+        LOG_BYTES,
+        LOG_BYTES + 1,
+        2 * LOG_BYTES,
+    ];
+    for (words, bytes) in words.into_iter().zip(bytes) {
+        let texts = &mut Texts::lending(calls, words, bytes);
+        for text in &tried {
+            texts.compare(text);
+        }
+    }
+}
+
+/// Every two of a geometry's numbers at every two limits, with a record that
+/// fits the Whole case.
+pub fn numbers_at_limits(calls: &mut Calls) {
+    let texts = &mut Texts::new(calls);
+    for first in 0..8 {
+        for second in first + 1..8 {
+            for a in LIMITS {
+                for b in LIMITS {
+                    let mut eight = [16, 16, 32, 32, 0, 0, 48, 32];
+                    eight[first] = a;
+                    eight[second] = b;
+                    // Of the largest pictures, only those that are refused.
+                    if eight[6].min(eight[7]) < 4080 {
+                        texts.compare(head(&eight).concat() + &whole(&[0, -1], &[4, -8, 0, 0]));
+                    }
+                }
+            }
+        }
+    }
+}
+
+/// Random texts: each right, with a record broken, with a geometry that may be
+/// refused, and four times damaged.
+pub fn random(calls: &mut Calls, count: u64) {
+    let texts = &mut Texts::new(calls);
+    for number in 0..count {
+        texts.calls.at = format!("random text {number}");
+        let random = &mut Random::new(number);
+        let eight = text_geometry(random);
+        let mut base = Mood::new(random).base(random, base_macroblocks(&eight));
+        let right = lines(random, &eight, &base);
+        let text = noted(random, &right);
+        texts.compare(&text);
+        for _ in 0..4 {
+            texts.compare(damaged(random, text.as_bytes()));
+        }
+
+        let mut wrong = eight;
+        wrong[random.below(8)] += random.pick(&[-4096, -16, -1, 1, 2, 16, 4096]);
+        texts.compare(head(&wrong).concat() + &right[4..].concat());
+
+        let at = random.below(base.len() / WORDS) * WORDS;
+        let rule = 1 + random.below(6);
+        break_record(random, &mut base[at..at + WORDS], rule);
+        let mut broken = head(&eight).to_vec();
+        broken.extend(base.chunks(WORDS).map(mb));
+        texts.compare(noted(random, &broken));
+    }
+}
+
+/// A text with one to three faults.
+fn damaged(random: &mut Random, text: &[u8]) -> Vec<u8> {
+    let mut text = text.to_vec();
+    for _ in 0..random.within(1, 3) {
+        if text.is_empty() {
+            break;
+        }
+        let at = random.below(text.len());
+        match random.below(7) {
+            0 => text[at] = random.pick(BYTES),
+            1 => text.insert(at, random.pick(BYTES)),
+            2 => drop(text.remove(at)),
+            3 => text.insert(at, text[at]),
+            4 => text.truncate(at),
+            5 => {
+                // A line again, or away.
+                let mut lines: Vec<&[u8]> = text.split_inclusive(|&byte| byte == b'\n').collect();
+                let at = random.below(lines.len());
+                if random.one_in(2) {
+                    lines.remove(at);
+                } else {
+                    lines.insert(at, lines[random.below(lines.len())]);
+                }
+                text = lines.concat();
+            }
+            _ => {
+                let edge = random.pick(EDGES);
+                let end = at
+                    + text[at..]
+                        .iter()
+                        .take_while(|byte| byte.is_ascii_digit())
+                        .count();
+                text.splice(at..end, edge.bytes());
+            }
+        }
+    }
+    text
+}
+
+/// The longest logs: 65,536 macroblocks, of 99 records and of one.
+pub fn largest(calls: &mut Calls) {
+    let texts = &mut Texts::new(calls);
+    let corner = WHOLE_CASE.replace("48 32", "4096 4096");
+    for text in [
+        long_records(4096),
+        corner.replace("at 0 0", "at 4064 4064"),
+        corner,
+    ] {
+        texts.compare(text);
+    }
+}
