@@ -1,0 +1,290 @@
+/* Damaged texts and wrong calls through the C interface, by numbers from a seed.
+ *
+ *     fuzz SEED COUNT TEXT..    the texts are sync texts to start from
+ *
+ * Every lent buffer ends where a page ends that may not be touched (with -m it is
+ * from malloc, for a memory checker). Of each input: a refused call leaves every
+ * lent word and byte; a second call gives the same; a text's log, its picture, its
+ * macroblocks one by one and its session say the same. The last line tells how many
+ * inputs were tried and how often each refusal came; the exit status is 0 if all held. */
+#define _DEFAULT_SOURCE
+#include "spiewomir.h"
+#include <stdio.h>
+#include <stdlib.h>
+#include <string.h>
+#include <sys/mman.h>
+#include <unistd.h>
+
+static int from_malloc;
+static unsigned long long state;
+static unsigned long calls[256];
+static unsigned long refusals[32];
+
+static unsigned below(unsigned n) {
+    state ^= state << 13;
+    state ^= state >> 7;
+    state ^= state << 17;
+    return (unsigned)((state >> 20) % n);
+}
+
+static void fail(const char *what) {
+    printf("fuzz: %s\n", what);
+    exit(1);
+}
+
+#define HOLDS(test) ((test) ? (void)0 : fail(#test))
+
+/* ---- lent buffers */
+typedef struct {
+    void *at;
+    size_t size;
+    void *pages;
+    size_t mapped;
+} Lent;
+
+static Lent lend(size_t size) {
+    Lent l = {NULL, size, NULL, 0};
+    if (from_malloc) {
+        l.at = malloc(size ? size : 1);
+        if (!l.at) fail("no memory");
+        return l;
+    }
+    size_t page = (size_t)sysconf(_SC_PAGESIZE);
+    l.mapped = (size + page - 1) / page * page + page;
+    l.pages = mmap(NULL, l.mapped, PROT_READ | PROT_WRITE, MAP_PRIVATE | MAP_ANONYMOUS, -1, 0);
+    if (l.pages == MAP_FAILED) fail("no memory");
+    char *end = (char *)l.pages + l.mapped - page;
+    if (mprotect(end, page, PROT_NONE)) fail("mprotect");
+    l.at = end - size;
+    return l;
+}
+
+static void back(Lent l) {
+    if (from_malloc) free(l.at);
+    else munmap(l.pages, l.mapped);
+}
+
+static void scribble(void *at, size_t size) {
+    unsigned char *p = at;
+    unsigned char c = (unsigned char)below(256);
+    for (size_t i = 0; i < size; i++) p[i] = (unsigned char)(c + i * 7);
+}
+
+static void *copy_of(const void *at, size_t size) {
+    void *c = malloc(size ? size : 1);
+    if (!c) fail("no memory");
+    memcpy(c, at, size);
+    return c;
+}
+
+/* ---- texts */
+#define MOST 70000
+static unsigned char text[2 * MOST];
+static size_t length;
+
+static void put(size_t at, const void *bytes, size_t n, size_t instead) {
+    if (length - instead + n > MOST) return;
+    memmove(text + at + n, text + at + instead, length - at - instead);
+    memcpy(text + at, bytes, n);
+    length = length - instead + n;
+}
+
+static void damage(const unsigned char *other, size_t other_length) {
+    static const char *const bits[] = {"-32769", "-32768", "32767", "32768", "-0", "00", "01", "4096", "4112", "16", "5", "-1", "(note)\n", "(note a (1 (b)))\n", "((((((((a))))))))", "(intra)\n", " ", "(", ")", "\n"};
+    size_t at = below((unsigned)length + 1);
+    size_t some = 1 + below(6);
+    if (some > length - at) some = length - at;
+    switch (below(7)) {
+    case 0: if (at < length) text[at] = (unsigned char)below(256); break;
+    case 1: put(at, "", 0, some); break;
+    case 2: put(at, text + at, some, 0); break;
+    case 3: length = at; break;
+    case 4: {
+        const char *b = bits[below(sizeof bits / sizeof *bits)];
+        put(at, b, strlen(b), 0);
+        break;
+    }
+    case 5: { /* a number replaced */
+        const char *b = bits[below(12)];
+        while (at < length && (text[at] < '0' || text[at] > '9')) at++;
+        size_t n = 0;
+        while (at + n < length && text[at + n] >= '0' && text[at + n] <= '9') n++;
+        if (n) put(at, b, strlen(b), n);
+        break;
+    }
+    default: { /* part of another text */
+        size_t from = below((unsigned)other_length + 1), n = below((unsigned)(other_length - from) + 1);
+        put(at, other + from, n, 0);
+    }
+    }
+}
+
+/* ---- a picture: the calls on records */
+static void records(SpiewomirGeometry g, const int16_t *words, size_t count, const SpiewomirPicture *logged) {
+    Lent base = lend(count * sizeof(int16_t));
+    memcpy(base.at, words, count * sizeof(int16_t));
+    if (!logged && count) ((int16_t *)base.at)[below((unsigned)count)] = (int16_t)(below(65536) - 32768);
+    size_t full = 16;
+    if (g.full_width > 0 && g.full_width <= 4096 && g.full_height > 0 && g.full_height <= 4096)
+        full = (size_t)(g.full_width / 16) * (size_t)(g.full_height / 16);
+    if (full > 4096) full = 4096;
+    size_t words_out = full * SPIEWOMIR_WORDS;
+    if (!logged && below(8) == 0) words_out += below(3) - 1u;
+    Lent out = lend(words_out * sizeof(int16_t));
+    scribble(out.at, out.size);
+    void *before = copy_of(out.at, out.size);
+    SpiewomirPicture p = spiewomir_picture(g, base.at, count, out.at, words_out);
+    calls[1]++;
+    refusals[p.refusal]++;
+    if (p.refusal) HOLDS(memcmp(out.at, before, out.size) == 0);
+    if (logged && full < 4096) {
+        HOLDS(p.refusal == 0);
+        HOLDS(p.inherited == logged->inherited && p.intra == logged->intra && p.outside == logged->outside);
+    }
+
+    /* one by one, and in a session */
+    SpiewomirJudged begun = spiewomir_session_begin(spiewomir_session_fresh(), g);
+    SpiewomirSession session = begun.session;
+    Lent one = lend(SPIEWOMIR_WORDS * sizeof(int16_t));
+    size_t tries = p.refusal ? 3 : full < 64 ? full + 1 : 64;
+    for (size_t a = 0; a < tries; a++) {
+        int32_t across = g.full_width >= 16 ? g.full_width / 16 : 1;
+        int32_t column = (int32_t)a % across, row = (int32_t)a / across;
+        if (p.refusal && a == 2) column = -1 - (int32_t)below(9);
+        scribble(one.at, one.size);
+        void *was = copy_of(one.at, one.size);
+        SpiewomirMacroblock m = spiewomir_macroblock(g, base.at, count, column, row, one.at, SPIEWOMIR_WORDS);
+        calls[2]++;
+        refusals[m.refusal]++;
+        if (m.refusal) HOLDS(memcmp(one.at, was, one.size) == 0);
+        if (!p.refusal && a < full) {
+            HOLDS(m.refusal == 0);
+            HOLDS(memcmp(one.at, (int16_t *)out.at + a * SPIEWOMIR_WORDS, one.size) == 0);
+        }
+        scribble(one.at, one.size);
+        free(was);
+        was = copy_of(one.at, one.size);
+        SpiewomirAdvanced n = spiewomir_session_next(session, base.at, count, one.at, SPIEWOMIR_WORDS);
+        calls[3]++;
+        refusals[n.macroblock.refusal]++;
+        if (n.macroblock.refusal) {
+            HOLDS(memcmp(one.at, was, one.size) == 0);
+            HOLDS(memcmp(&n.session, &session, sizeof session) == 0);
+        } else if (!p.refusal && a < full) {
+            HOLDS(memcmp(one.at, (int16_t *)out.at + a * SPIEWOMIR_WORDS, one.size) == 0);
+        }
+        session = n.session;
+        free(was);
+    }
+    SpiewomirTotals t = spiewomir_session_totals(session);
+    if (!p.refusal && full < 64) HOLDS(t.inherited == p.inherited && t.intra == p.intra && t.outside == p.outside);
+    refusals[spiewomir_session_abandon(session).refusal]++;
+    refusals[spiewomir_session_begin(session, g).refusal]++;
+    back(one);
+    free(before);
+    back(out);
+    back(base);
+}
+
+/* ---- a text: the text call, and the log */
+static int number_after(const char *s, const char *end, unsigned *n) {
+    *n = 0;
+    if (s == end || *s < '0' || *s > '9') return 0;
+    while (s != end && *s >= '0' && *s <= '9') *n = *n * 10 + (unsigned)(*s++ - '0');
+    return 1;
+}
+
+static void try_text(void) {
+    Lent t = lend(length);
+    memcpy(t.at, text, length);
+    size_t words = SPIEWOMIR_TEXT_WORDS;
+    if (below(16) == 0) words += below(3) - 1u;
+    Lent w = lend(words * sizeof(int16_t));
+    scribble(w.at, w.size);
+    int16_t *before = copy_of(w.at, w.size);
+    SpiewomirText r = spiewomir_text(t.at, length, w.at, words);
+    calls[0]++;
+    refusals[r.refusal]++;
+    if (r.refusal) {
+        HOLDS(memcmp(w.at, before, w.size) == 0);
+    } else {
+        size_t used = (size_t)r.lines * SPIEWOMIR_WORDS;
+        HOLDS(used <= words);
+        HOLDS(memcmp((int16_t *)w.at + used, before + used, w.size - used * sizeof(int16_t)) == 0);
+    }
+    HOLDS(memcmp(t.at, text, length) == 0);
+
+    size_t room = SPIEWOMIR_LOG_BYTES;
+    if (below(16) == 0) room -= 1 + below(100);
+    Lent l = lend(room);
+    memset(l.at, 0xa5, room);
+    SpiewomirLog g = spiewomir_log(t.at, length, l.at, room);
+    calls[4]++;
+    size_t end = g.refusal ? 0 : g.bytes;
+    HOLDS(end <= room);
+    for (size_t i = end; i < room; i++)
+        if (((unsigned char *)l.at)[i] != 0xa5) fail("a byte after the log is written");
+    if (g.refusal) {
+        HOLDS(g.refusal == 6 && room < SPIEWOMIR_LOG_BYTES);
+    } else if (words == SPIEWOMIR_TEXT_WORDS) {
+        const char *log = l.at;
+        HOLDS(end > 0 && log[end - 1] == '\n');
+        if (r.refusal) {
+            char line[64];
+            int n = snprintf(line, sizeof line, "(refused %u %u)\n", r.refusal, r.place);
+            HOLDS((size_t)n == end && memcmp(line, log, end) == 0);
+        } else if (log[1] == 'r') {
+            unsigned number;
+            HOLDS(number_after(log + 9, log + end, &number));
+            refusals[number]++;
+            records(r.geometry, w.at, (size_t)r.lines * SPIEWOMIR_WORDS, NULL);
+        } else {
+            size_t last = end - 1;
+            while (last && log[last - 1] != '\n') last--;
+            unsigned total, inherited, intra, outside;
+            char line[64];
+            HOLDS(end - last < sizeof line);
+            memcpy(line, log + last, end - last);
+            line[end - last] = 0;
+            HOLDS(sscanf(line, "(sync %u %u %u %u)", &total, &inherited, &intra, &outside) == 4);
+            SpiewomirPicture p = {0, 0, 0, inherited, intra, outside};
+            records(r.geometry, w.at, (size_t)r.lines * SPIEWOMIR_WORDS, &p);
+            records(r.geometry, w.at, (size_t)r.lines * SPIEWOMIR_WORDS, NULL);
+        }
+    }
+    back(l);
+    free(before);
+    back(w);
+    back(t);
+}
+
+static size_t load(const char *name, unsigned char *to) {
+    FILE *f = fopen(name, "rb");
+    if (!f) fail(name);
+    size_t n = fread(to, 1, MOST, f);
+    fclose(f);
+    return n;
+}
+
+int main(int argc, char **argv) {
+    int i = 1;
+    if (i < argc && strcmp(argv[i], "-m") == 0) from_malloc = 1, i++;
+    if (argc - i < 3) {
+        puts("usage: fuzz [-m] SEED COUNT TEXT..");
+        return 2;
+    }
+    state = strtoull(argv[i++], NULL, 10) * 2654435769u + 88172645463325252u;
+    unsigned long count = strtoul(argv[i++], NULL, 10);
+    static unsigned char other[MOST];
+    for (unsigned long k = 0; k < count; k++) {
+        length = load(argv[i + (int)below((unsigned)(argc - i))], text);
+        size_t n = load(argv[i + (int)below((unsigned)(argc - i))], other);
+        for (unsigned d = below(4); d > 0; d--) damage(other, n);
+        try_text();
+    }
+    printf("fuzz: %lu inputs: %lu text calls, %lu logs, %lu pictures, %lu macroblocks, %lu session calls; refusals", count, calls[0], calls[4], calls[1], calls[2], calls[3]);
+    for (int r = 1; r < 32; r++)
+        if (refusals[r]) printf(" %d:%lu", r, refusals[r]);
+    puts("");
+    return 0;
+}
