@@ -27,6 +27,12 @@ static unsigned below(unsigned n) {
     return (unsigned)((state >> 20) % n);
 }
 
+/* one less, the same, or one more */
+static size_t about(size_t n) {
+    unsigned k = below(3);
+    return k == 0 ? n + 1 : k == 1 && n > 0 ? n - 1 : n;
+}
+
 static void fail(const char *what) {
     printf("fuzz: %s\n", what);
     exit(1);
@@ -129,7 +135,7 @@ static void records(SpiewomirGeometry g, const int16_t *words, size_t count, con
         full = (size_t)(g.full_width / 16) * (size_t)(g.full_height / 16);
     if (full > 4096) full = 4096;
     size_t words_out = full * SPIEWOMIR_WORDS;
-    if (!logged && below(8) == 0) words_out += below(3) - 1u;
+    if (!logged && below(8) == 0) words_out = about(words_out);
     Lent out = lend(words_out * sizeof(int16_t));
     scribble(out.at, out.size);
     void *before = copy_of(out.at, out.size);
@@ -198,7 +204,7 @@ static void try_text(void) {
     Lent t = lend(length);
     memcpy(t.at, text, length);
     size_t words = SPIEWOMIR_TEXT_WORDS;
-    if (below(16) == 0) words += below(3) - 1u;
+    if (below(16) == 0) words = about(words);
     Lent w = lend(words * sizeof(int16_t));
     scribble(w.at, w.size);
     int16_t *before = copy_of(w.at, w.size);
