@@ -17,8 +17,8 @@ use Rattle.definitions.specs.Geometry.{axesOf, fullSize, macroblocks}
 use Rattle.definitions.specs.Record.{recordWords}
 use Rattle.definitions.specs.Answer.{Made}
 use Rattle.definitions.specs.Refusals.{geometryVerdict}
-use Rattle.definitions.specs.Calls.{macroblockCall, fullCount, madeAt, noCounts, countsOf, sumOf}
-use Rattle.definitions.specs.Session.{Call, begin, next, totals, State, begun, finished, unfinished, columnAt, rowAt, callAtNext, beginVerdict, Exchange, beginGave, nextGave, totalsGave, exchange, stateBy, stateNext, exchanges, stateAfter, acceptedIn, wordsAfter, PictureBySession}
+use Rattle.definitions.specs.Calls.{macroblockCall, fullCount, columnAt, rowAt, madeAt, noCounts, countsOf, sumOf}
+use Rattle.definitions.specs.Session.{Call, begin, next, totals, State, begun, finished, unfinished, callAtNext, beginVerdict, Exchange, beginGave, nextGave, totalsGave, exchange, stateBy, stateNext, exchanges, stateAfter, acceptedIn, wordsAfter, PictureBySession}
 use Rattle.definitions.proofs.Choices.{no, of-each, upTo-length, upTo-at}
 use Rattle.definitions.proofs.Accepted.{accepted-axes}
 use Rattle.definitions.proofs.RecordLists.{each-same}
@@ -52,10 +52,10 @@ module _ (n : Numbers) (accepted : geometryVerdict n ≡ Accepted) where
   some-columns : 0 < macroblocks (fullSize (axesOf n .horizontal))
   some-columns = omega (arith, accepted-axes n accepted .0 .full-low)
 
-  pub column-within : (address : ℕ) → columnAt n address < macroblocks (fullSize (axesOf n .horizontal))
+  pub column-within : (address : ℕ) → columnAt (axesOf n) address < macroblocks (fullSize (axesOf n .horizontal))
   column-within address = mod-lt address some-columns
 
-  pub row-within : (address : ℕ) → address < fullCount (axesOf n) → rowAt n address < macroblocks (fullSize (axesOf n .vertical))
+  pub row-within : (address : ℕ) → address < fullCount (axesOf n) → rowAt (axesOf n) address < macroblocks (fullSize (axesOf n .vertical))
   row-within address h = div-lt-iff-lt-mul some-columns .1 (omega arith)
 
 -- ---- next
@@ -79,8 +79,8 @@ module _ (n : Numbers) (base words : List ℤ) (lent : ℕ → List ℤ) (p : Pa
   answers-at : (k : ℕ) → k < fullCount g → callAtNext (at k) base (lent k) ≡ record { reply = Answered (made k .answer); words = made k .written }
   unfolding madeAt
   answers-at k h =
-      ap (λ (a : ℕ). macroblockCall n base (pos (columnAt n a)) (pos (rowAt n a)) (lent k)) (counts-sum k made)
-      ∙ gives-made n (columnAt n k) (rowAt n k) (lent k) base (alone-accepted n words base (columnAt n k) (rowAt n k) (column-within n (p .geometry) k) (row-within n (p .geometry) k h) p (lent k) (l k h))
+      ap (λ (a : ℕ). macroblockCall n base (pos (columnAt (axesOf n) a)) (pos (rowAt (axesOf n) a)) (lent k)) (counts-sum k made)
+      ∙ gives-made n (columnAt (axesOf n) k) (rowAt (axesOf n) k) (lent k) base (alone-accepted n words base (columnAt (axesOf n) k) (rowAt (axesOf n) k) (column-within n (p .geometry) k) (row-within n (p .geometry) k h) p (lent k) (l k h))
 
   going-on : (k : ℕ) → k < fullCount g → finished (at k) ≡ false
   going-on k h = ne-eqb (sumOf (countsOf (upTo k made))) (fullCount g) (λ e. omega (arith, counts-sum k made))

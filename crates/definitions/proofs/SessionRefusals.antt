@@ -16,12 +16,12 @@ use Rattle.definitions.specs.declared.MacroblockReply.the-variants.{Answ
 use Rattle.definitions.specs.Tests.{pick}
 use Rattle.definitions.specs.Geometry.{axesOf, fullSize}
 use Rattle.definitions.specs.Refusals.{Test, refusal, verdictOf, geometryTests, geometryVerdict, baseTest, outputTest, positionTest, recordTests, addressesRead}
-use Rattle.definitions.specs.Calls.{Outcome, byVerdict, macroblockTests, macroblockCall, fullCount, sumOf}
-use Rattle.definitions.specs.Session.{State, fresh, begun, finished, columnAt, rowAt, nextCall, stateAfter, Sound, refusesNext, NextRefusals}
+use Rattle.definitions.specs.Calls.{Outcome, byVerdict, macroblockTests, macroblockCall, fullCount, columnAt, rowAt, sumOf}
+use Rattle.definitions.specs.Session.{State, fresh, begun, finished, nextCall, stateAfter, sound, refusesNext, NextRefusals}
 use Rattle.definitions.proofs.Choices.{no, and-intro}
 use Rattle.definitions.proofs.Verdicts.{then-verdict}
 use Rattle.definitions.proofs.Demand.{within}
-use Rattle.definitions.proofs.Sessions.{next-going, next-over, only-sound}
+use Rattle.definitions.proofs.Sessions.{next-going, next-over, sound-parts, only-sound}
 use Rattle.definitions.proofs.SessionPicture.{column-within, row-within}
 
 -- a verdict that refuses does so by one of these numbers
@@ -47,12 +47,12 @@ records-these base (a ∷ rest) = test-these _ (recordTests base rest) refl (rec
 
 -- the one-macroblock call at an address of an accepted geometry
 call-these : (n : Numbers) (base words : List ℤ) (address : ℕ) → geometryVerdict n ≡ Accepted → address < fullCount (axesOf n)
-    → ByThese (verdictOf (macroblockTests n base (pos (columnAt n address)) (pos (rowAt n address)) words))
+    → ByThese (verdictOf (macroblockTests n base (pos (columnAt (axesOf n) address)) (pos (rowAt (axesOf n) address)) words))
 unfolding macroblockTests
 call-these n base words address v h r e =
     let g = axesOf n in
-    let column = columnAt n address in
-    let row = rowAt n address in
+    let column = columnAt g address in
+    let row = rowAt g address in
     let records = recordTests base (addressesRead g column row) in
     let place = positionTest g (pos column) (pos row) in
     let inside : place .applies ≡ false = ap not (and-intro (within (fullSize (g .horizontal)) column (column-within n v address)) (within (fullSize (g .vertical)) row (row-within n v address h))) in
@@ -64,7 +64,7 @@ declined : (v : Verdict) (words written : List ℤ) (a : Answer) (r : Refusal) �
 declined Accepted words written a r e = absurd (let z : _≡_ {A = ℕ} 0 1 = cc in omega arith)
 declined (Refused q) words written a r e = cc
 
-state-these : (s : State) → Sound s → (base words : List ℤ) (r : Refusal) → nextCall s base words .reply ≡ Declined r → refusesNext (r .number) ≡ true
+state-these : (s : State) → sound s ≡ true → (base words : List ℤ) (r : Refusal) → nextCall s base words .reply ≡ Declined r → refusesNext (r .number) ≡ true
 unfolding nextCall pick macroblockCall
 state-these fresh h base words r e = let p : refusal 20 ≡ r = cc in ap (λ (q : Refusal). refusesNext (q .number)) (sym p)
 state-these (begun n c) h base words r e = by (finished (begun n c)) refl
@@ -74,9 +74,10 @@ state-these (begun n c) h base words r e = by (finished (begun n c)) refl
         let p : refusal 21 ≡ r = cc (sym (ap (λ (o : Outcome MacroblockReply). o .reply) (next-over n c base words f)) ∙ e) in
         ap (λ (q : Refusal). refusesNext (q .number)) (sym p)
     by false f =
+        let held = sound-parts n c h in
         let other = eqb-false (sumOf c) (fullCount (axesOf n)) f in
-        let room : sumOf c < fullCount (axesOf n) = omega (arith, h .1) in
-        call-these n base words (sumOf c) (h .0) room r
+        let room : sumOf c < fullCount (axesOf n) = omega (arith, held .1) in
+        call-these n base words (sumOf c) (held .0) room r
         (declined _ words _ _ r (sym (ap (λ (o : Outcome MacroblockReply). o .reply) (next-going n c base words f)) ∙ e))
 
 pub next-refusals : NextRefusals

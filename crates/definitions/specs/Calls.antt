@@ -49,9 +49,16 @@ pictureTests n base words =
     let g = axesOf n in
     geometryTests n ++ (baseTest g base ∷ outputTest (fullCount g) words ∷ recordTests base (allAddresses g))
 
+-- the column and row of an address of the picture: raster order
+abbrev pub columnAt : Axes → ℕ → ℕ
+columnAt g address = address % macroblocks (fullSize (g .horizontal))
+
+abbrev pub rowAt : Axes → ℕ → ℕ
+rowAt g address = address / macroblocks (fullSize (g .horizontal))
+
 -- the macroblock at an address of the picture
 unfoldable pub madeAt : Axes → List ℤ → ℕ → Made
-madeAt g base address = madeOf g base (address % macroblocks (fullSize (g .horizontal))) (address / macroblocks (fullSize (g .horizontal)))
+madeAt g base address = madeOf g base (columnAt g address) (rowAt g address)
 
 -- one more of an answer's sort
 abbrev pub counted : Answer → Counts → Counts

@@ -1,9 +1,9 @@
 -- The session of document 01 ("Calls"), and the refusals that come of its state ("From the state").
-use Prim.Native.Nat.{ℕ, _%_, _/_, _<_, _≤_}
+use Prim.Native.Nat.{ℕ, _<_}
 use mathlib.Core.Path.{_≡_}
-use mathlib.Core.Bool.{Bool, true, false, not, _||_}
+use mathlib.Core.Bool.{Bool, true, false, not, _&&_, _||_}
 use mathlib.Core.List.{List, [], _∷_, _++_}
-use lib.Dec.{eqb}
+use lib.Dec.{eqb, leb}
 use lib.IntN.{ℤ, pos}
 use lib.ListN.{length}
 use Rattle.definitions.specs.declared.Numbers.{Numbers}
@@ -15,11 +15,11 @@ use Rattle.definitions.specs.declared.MacroblockReply.{MacroblockReply}
 use Rattle.definitions.specs.declared.MacroblockReply.the-variants.{Answered, Refused as Declined}
 use Rattle.definitions.specs.declared.PictureReply.the-variants.{Counted}
 use Rattle.definitions.specs.Tests.{pick, allOf, upTo, forEach}
-use Rattle.definitions.specs.Geometry.{axesOf, fullSize, macroblocks}
+use Rattle.definitions.specs.Geometry.{axesOf}
 use Rattle.definitions.specs.Record.{recordWords}
 use Rattle.definitions.specs.Answer.{Made}
 use Rattle.definitions.specs.Refusals.{Test, test, refusal, verdictOf, geometryTests, geometryVerdict}
-use Rattle.definitions.specs.Calls.{Outcome, byVerdict, macroblockCall, fullCount, counted, noCounts, countsOf, sumOf, pictureCall}
+use Rattle.definitions.specs.Calls.{Outcome, byVerdict, macroblockCall, fullCount, columnAt, rowAt, counted, noCounts, countsOf, sumOf, pictureCall}
 
 -- ---- Session, handed over and back by value
 -- The calls: begin(geometry); next(base, 77 words); abandon; totals.
@@ -43,7 +43,7 @@ abbrev pub nothingBegun : State → Bool
 nothingBegun fresh = true
 nothingBegun (begun n c) = false
 
--- the last macroblock is made
+-- the last macroblock is made. (With nothing begun it is never read: nothingBegun comes first.)
 abbrev pub finished : State → Bool
 finished fresh = false
 finished (begun n c) = eqb (sumOf c) (fullCount (axesOf n))
@@ -68,17 +68,10 @@ beginVerdict s n = verdictOf (beginTests s ++ geometryTests n)
 unfoldable pub abandonVerdict : State → Verdict
 abandonVerdict s = verdictOf (onwardTests s)
 
--- the column and row of an address: raster order
-abbrev pub columnAt : Numbers → ℕ → ℕ
-columnAt n address = address % macroblocks (fullSize (axesOf n .horizontal))
-
-abbrev pub rowAt : Numbers → ℕ → ℕ
-rowAt n address = address / macroblocks (fullSize (axesOf n .horizontal))
-
--- the one-macroblock call for the next address, which is the number of macroblocks made (with nothing begun there is none, and 20 comes first)
+-- the one-macroblock call for the next address, which is the number of macroblocks made. (With nothing begun it is never read: 20 comes first.)
 abbrev pub callAtNext : State → List ℤ → List ℤ → Outcome MacroblockReply
 callAtNext fresh base words = record { reply = Declined (refusal 20); words = words }
-callAtNext (begun n c) base words = macroblockCall n base (pos (columnAt n (sumOf c))) (pos (rowAt n (sumOf c))) words
+callAtNext (begun n c) base words = macroblockCall n base (pos (columnAt (axesOf n) (sumOf c))) (pos (rowAt (axesOf n) (sumOf c))) words
 
 -- Next answers as the one-macroblock call does for the next address in raster order, refusals 5, 6 and 8 included.
 unfoldable pub nextCall : State → List ℤ → List ℤ → Outcome MacroblockReply
@@ -202,12 +195,12 @@ PictureBySession =
     → AsPicture s n base words counts lent
 
 -- ---- The states that lists of calls make: the geometry is accepted, and no more macroblocks are made than there are
-abbrev pub Sound : State → Type 0
-Sound fresh = Unit
-Sound (begun n c) = (geometryVerdict n ≡ Accepted) × (sumOf c ≤ fullCount (axesOf n))
+abbrev pub sound : State → Bool
+sound fresh = true
+sound (begun n c) = accepts (geometryVerdict n) && leb (sumOf c) (fullCount (axesOf n))
 
 abbrev pub OnlySound : Type 0
-OnlySound = (calls : List Call) → Sound (stateAfter fresh calls)
+OnlySound = (calls : List Call) → sound (stateAfter fresh calls) ≡ true
 
 -- so next is refused by 20 and 21, and of the one-macroblock call's refusals by 5, 6 and 8 only
 abbrev pub refusesNext : ℕ → Bool
