@@ -26,6 +26,7 @@ pub mod Ratios
 pub mod Overlap
 pub mod Counting
 pub mod Sessions
+pub mod SessionPlace
 pub mod SessionPicture
 pub mod SessionRefusals
 pub mod SessionExamples

@@ -19,7 +19,7 @@ use Rattle.definitions.specs.Geometry.{axesOf}
 use Rattle.definitions.specs.Answer.{Made}
 use Rattle.definitions.specs.Refusals.{refusal, verdictOf, geometryTests, geometryVerdict}
 use Rattle.definitions.specs.Calls.{Outcome, byVerdict, fullCount, counted, noCounts, countsOf, sumOf}
-use Rattle.definitions.specs.Session.{Call, begin, next, abandon, totals, State, fresh, begun, totalsOf, finished, onwardTests, beginTests, beginVerdict, abandonVerdict, callAtNext, nextCall, Exchange, totalsGave, exchange, ifAccepted, advanced, stateNext, exchanges, stateAfter, accepts, startsAnew, since, answeredWith, madeBy, madeSince, TotalsRight, sound, OnlySound}
+use Rattle.definitions.specs.Session.{Call, begin, next, abandon, totals, State, fresh, begun, totalsOf, finished, onwardTests, beginTests, beginVerdict, abandonVerdict, callAtNext, nextCall, Exchange, totalsGave, exchange, ifAccepted, advanced, stateNext, exchanges, stateAfter, accepts, startsAnew, noneAnew, since, answeredWith, madeBy, madeSince, TotalsRight, sound, OnlySound}
 use Rattle.definitions.proofs.Choices.{yes, no, and-true, and-intro, and-no}
 use Rattle.definitions.proofs.Verdicts.{both-passed}
 use Rattle.definitions.proofs.Counting.{counted-last, counted-sum, counts-length}
@@ -61,9 +61,6 @@ added (begun n c) (next base words) known e k = by (nextCall (begun n c) base wo
     by (Declined r) = nothing-added known k
 added s abandon known e k = refused-added (abandonVerdict s) fresh s known e k
 added s totals known e k = nothing-added known k
-
-abbrev noneAnew : List Exchange → Bool
-noneAnew es = allOf (λ x. not (startsAnew x)) es
 
 -- with no accepted begin or abandon, what is known of the totals at the start goes on
 kept : (s : State) (calls : List Call) (known : List Made) → noneAnew (exchanges s calls) ≡ true → totalsOf s ≡ countsOf known → totalsOf (stateAfter s calls) ≡ countsOf (known ++ forEach (exchanges s calls) madeBy)

@@ -1,8 +1,9 @@
 -- The session of document 01 ("Calls"), and the refusals that come of its state ("From the state").
-use Prim.Native.Nat.{ℕ, _<_}
+use Prim.Native.Nat.{ℕ, _<_, _≤_}
 use mathlib.Core.Path.{_≡_}
 use mathlib.Core.Bool.{Bool, true, false, not, _&&_, _||_}
 use mathlib.Core.List.{List, [], _∷_, _++_}
+use mathlib.Core.Option.{Option, none, some}
 use lib.Dec.{eqb, leb}
 use lib.IntN.{ℤ, pos}
 use lib.ListN.{length}
@@ -130,10 +131,28 @@ startsAnew (nextGave base words o) = false
 startsAnew (abandonGave v) = accepts v
 startsAnew (totalsGave c) = false
 
+abbrev pub noneAnew : List Exchange → Bool
+noneAnew es = allOf (λ x. not (startsAnew x)) es
+
 -- what follows the last accepted begin or abandon (all, where there is none)
 unfoldable pub since : List Exchange → List Exchange
 since [] = []
-since (e ∷ es) = pick (allOf (λ x. not (startsAnew x)) es) (pick (startsAnew e) es (e ∷ es)) (since es)
+since (e ∷ es) = pick (noneAnew es) (pick (startsAnew e) es (e ∷ es)) (since es)
+
+-- the geometry of the last accepted begin, unless an accepted abandon follows it (none, where nothing is begun)
+abbrev pub geometryIf : Verdict → Numbers → Option Numbers
+geometryIf Accepted n = some n
+geometryIf (Refused r) n = none
+
+abbrev pub geometryBy : Exchange → Option Numbers
+geometryBy (beginGave n v) = geometryIf v n
+geometryBy (nextGave base words o) = none
+geometryBy (abandonGave v) = none
+geometryBy (totalsGave c) = none
+
+unfoldable pub geometrySince : List Exchange → Option Numbers
+geometrySince [] = none
+geometrySince (e ∷ es) = pick (noneAnew es) (geometryBy e) (geometrySince es)
 
 -- what accepted next calls made: answers, each with its words
 abbrev pub answeredWith : MacroblockReply → List ℤ → List Made
@@ -155,6 +174,45 @@ madeSince calls = forEach (since (exchanges fresh calls)) madeBy
 pub record TotalsRight : Type 0 where
   pub counts : (calls : List Call) → exchange (stateAfter fresh calls) totals ≡ totalsGave (countsOf (madeSince calls))
   pub sum : (calls : List Call) → sumOf (countsOf (madeSince calls)) ≡ length (madeSince calls)
+
+-- After a list of calls from a fresh session: the geometry begun, the number of macroblocks made, and what one call more gives
+abbrev pub geometryAfter : List Call → Option Numbers
+geometryAfter calls = geometrySince (exchanges fresh calls)
+
+abbrev pub madeAfter : List Call → ℕ
+madeAfter calls = length (madeSince calls)
+
+abbrev pub gives : List Call → Call → Exchange
+gives calls c = exchange (stateAfter fresh calls) c
+
+-- next refused, its words as they were
+abbrev pub nextRefused : List ℤ → List ℤ → Refusal → Exchange
+nextRefused base words r = nextGave base words (record { reply = Declined r; words = words })
+
+-- For every list of these calls from a fresh one:
+pub record PlaceRight : Type 0 where
+  -- nothing begun: next and abandon are refused by 20, and begin by 1 to 4 only
+  pub next-nothing : (calls : List Call) → geometryAfter calls ≡ none → (base words : List ℤ) → gives calls (next base words) ≡ nextRefused base words (refusal 20)
+  pub abandon-nothing : (calls : List Call) → geometryAfter calls ≡ none → gives calls abandon ≡ abandonGave (Refused (refusal 20))
+  pub begin-nothing : (calls : List Call) → geometryAfter calls ≡ none → (m : Numbers) → gives calls (begin m) ≡ beginGave m (geometryVerdict m)
+  -- after the last macroblock: next and abandon are refused by 21, and begin by 1 to 4 only
+  pub next-last : (calls : List Call) (n : Numbers) → geometryAfter calls ≡ some n → madeAfter calls ≡ fullCount (axesOf n)
+      → (base words : List ℤ) → gives calls (next base words) ≡ nextRefused base words (refusal 21)
+  pub abandon-last : (calls : List Call) (n : Numbers) → geometryAfter calls ≡ some n → madeAfter calls ≡ fullCount (axesOf n)
+      → gives calls abandon ≡ abandonGave (Refused (refusal 21))
+  pub begin-last : (calls : List Call) (n : Numbers) → geometryAfter calls ≡ some n → madeAfter calls ≡ fullCount (axesOf n)
+      → (m : Numbers) → gives calls (begin m) ≡ beginGave m (geometryVerdict m)
+  -- unfinished: next is the one-macroblock call for the next address in raster order, abandon is accepted, and begin refused by 22
+  pub next-unfinished : (calls : List Call) (n : Numbers) → geometryAfter calls ≡ some n → madeAfter calls < fullCount (axesOf n)
+      → (base words : List ℤ)
+      → gives calls (next base words)
+      ≡ nextGave base words (macroblockCall n base (pos (columnAt (axesOf n) (madeAfter calls))) (pos (rowAt (axesOf n) (madeAfter calls))) words)
+  pub abandon-unfinished : (calls : List Call) (n : Numbers) → geometryAfter calls ≡ some n → madeAfter calls < fullCount (axesOf n)
+      → gives calls abandon ≡ abandonGave Accepted
+  pub begin-unfinished : (calls : List Call) (n : Numbers) → geometryAfter calls ≡ some n → madeAfter calls < fullCount (axesOf n)
+      → (m : Numbers) → gives calls (begin m) ≡ beginGave m (Refused (refusal 22))
+  -- there is no other case
+  pub no-more : (calls : List Call) (n : Numbers) → geometryAfter calls ≡ some n → madeAfter calls ≤ fullCount (axesOf n)
 
 -- ---- A whole picture: begin, and a next call for each macroblock on one base; lent a are the words lent to the one of address a
 abbrev pub pictureCalls : Numbers → List ℤ → (ℕ → List ℤ) → List Call
