@@ -123,11 +123,6 @@ of-at f [] e k d h = absurd (not-suc-le-zero h)
 of-at f (y ∷ ys) e zero d h = and-true (f y) (allOf f ys) e .0
 of-at f (y ∷ ys) e (suc k) d h = of-at f ys (and-true (f y) (allOf f ys) e .1) k d (le-of-suc-le-suc h)
 
-pub of-each : {A : Type 0} (f : A → Bool) (l : List A) (d : A) → ((k : ℕ) → k < length l → f (getD l k d) ≡ true) → allOf f l ≡ true
-unfolding allOf
-of-each f [] d h = refl
-of-each f (y ∷ ys) d h = and-intro (h 0 (omega arith)) (of-each f ys d (λ k l. h (suc k) (omega arith)))
-
 -- ---- upTo
 pub upTo-length : {A : Type 0} (n : ℕ) (f : ℕ → A) → length (upTo n f) ≡ n
 unfolding upTo

@@ -20,7 +20,7 @@ use Rattle.definitions.specs.Geometry.{axesOf}
 use Rattle.definitions.specs.Record.{recordWords}
 use Rattle.definitions.specs.Answer.{Made}
 use Rattle.definitions.specs.Refusals.{Test, test, refusal, verdictOf, geometryTests, geometryVerdict}
-use Rattle.definitions.specs.Calls.{Outcome, byVerdict, macroblockCall, fullCount, columnAt, rowAt, counted, noCounts, countsOf, sumOf, pictureCall}
+use Rattle.definitions.specs.Calls.{Outcome, byVerdict, macroblockCall, fullCount, columnAt, rowAt, madeAt, counted, noCounts, countsOf, sumOf, pictureCall}
 
 -- ---- Session, handed over and back by value
 -- The calls: begin(geometry); next(base, 77 words); abandon; totals.
@@ -218,15 +218,9 @@ pub record PlaceRight : Type 0 where
 abbrev pub pictureCalls : Numbers → List ℤ → (ℕ → List ℤ) → List Call
 pictureCalls n base lent = begin n ∷ upTo (fullCount (axesOf n)) (λ a. next base (lent a))
 
-abbrev pub answers : MacroblockReply → Bool
-answers (Answered a) = true
-answers (Declined r) = false
-
-abbrev pub acceptedIn : Exchange → Bool
-acceptedIn (beginGave n v) = accepts v
-acceptedIn (nextGave base words o) = answers (o .reply)
-acceptedIn (abandonGave v) = accepts v
-acceptedIn (totalsGave c) = true
+-- a next call accepted, with what is made: the answer, and the words lent afterwards
+abbrev pub nextMade : List ℤ → List ℤ → Made → Exchange
+nextMade base words m = nextGave base words (record { reply = Answered (m .answer); words = m .written })
 
 -- the words lent, afterwards
 abbrev pub wordsAfter : Exchange → List ℤ
@@ -235,10 +229,11 @@ wordsAfter (nextGave base words o) = o .words
 wordsAfter (abandonGave v) = []
 wordsAfter (totalsGave c) = []
 
--- Where the picture call accepts the base, and the session takes a begin, these calls do what it does: each is accepted, the words lent one after
--- another are those that it writes, the totals are its counts, and the session is finished after the last of them and not before.
+-- Where the picture call accepts the base, and the session takes a begin, these calls do what it does: each is accepted, next with the answer and
+-- the words of the macroblock at its address, the words lent one after another are those that it writes, the totals are its counts, and the session is
+-- finished after the last of them and not before.
 pub record AsPicture (s : State) (n : Numbers) (base words : List ℤ) (counts : Counts) (lent : ℕ → List ℤ) : Type 0 where
-  pub accepted : allOf acceptedIn (exchanges s (pictureCalls n base lent)) ≡ true
+  pub accepted : exchanges s (pictureCalls n base lent) ≡ beginGave n Accepted ∷ upTo (fullCount (axesOf n)) (λ a. nextMade base (lent a) (madeAt (axesOf n) base a))
   pub words-same : forEach (exchanges s (pictureCalls n base lent)) wordsAfter ≡ pictureCall n base words .words
   pub totals-same : exchange (stateAfter s (pictureCalls n base lent)) totals ≡ totalsGave counts
   pub finished-then : finished (stateAfter s (pictureCalls n base lent)) ≡ true

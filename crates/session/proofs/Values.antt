@@ -8,11 +8,11 @@ use Rattle.definitions.specs.declared.MacroblockReply.{MacroblockReply}
 use Rattle.definitions.specs.declared.MacroblockReply.the-variants.{Answered, Refused as Declined}
 use Rattle.definitions.specs.Tests.{pick}
 use Rattle.definitions.specs.Calls.{noCounts}
-use Rattle.definitions.specs.Session.{Call, State, fresh, begun, totalsOf, Exchange, beginGave, nextGave, abandonGave, totalsGave, exchange, ifAccepted, advanced, stateBy, stateNext, stateAfter, accepts, answers, sound}
+use Rattle.definitions.specs.Session.{Call, State, fresh, begun, totalsOf, Exchange, beginGave, nextGave, abandonGave, totalsGave, exchange, ifAccepted, advanced, stateBy, stateNext, stateAfter, accepts, sound}
 use Rattle.definitions.proofs.Choices.{yes, no, pick-cases, and-true}
 use Rattle.definitions.proofs.Sessions.{totals-right, sound-next, only-sound}
 use Rattle.session.specs.declared.Session.{Session}
-use Rattle.session.specs.Values.{freshSession, valueOf, stateOf, changes, handedBy, handedBack, HandsBack, valueAfter, OnlyValues}
+use Rattle.session.specs.Values.{freshSession, valueOf, stateOf, answers, changes, handedBy, handedBack, HandsBack, valueAfter, OnlyValues}
 
 -- a value stands for a sound state, and the value of a sound state for that state
 pub state-sound : (v : Session) → sound (stateOf v) ≡ true

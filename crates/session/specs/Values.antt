@@ -8,7 +8,7 @@ use Rattle.definitions.specs.declared.MacroblockReply.{MacroblockReply}
 use Rattle.definitions.specs.declared.MacroblockReply.the-variants.{Answered, Refused as Declined}
 use Rattle.definitions.specs.Tests.{pick}
 use Rattle.definitions.specs.Calls.{counted, noCounts, countsOf}
-use Rattle.definitions.specs.Session.{Call, State, fresh, begun, totalsOf, Exchange, beginGave, nextGave, abandonGave, totalsGave, exchange, stateBy, stateNext, stateAfter, accepts, answers, madeSince, sound}
+use Rattle.definitions.specs.Session.{Call, State, fresh, begun, totalsOf, Exchange, beginGave, nextGave, abandonGave, totalsGave, exchange, stateBy, stateNext, stateAfter, accepts, madeSince, sound}
 use Rattle.session.specs.declared.Session.{Session}
 
 -- the value of a state
@@ -28,6 +28,11 @@ unfoldable pub stateOf : Session → State
 stateOf v = pick (v .begun && sound (begun (v .numbers) (v .counts))) (begun (v .numbers) (v .counts)) fresh
 
 -- The value that a call hands back: the very one where the call is refused, and of totals; else the value of the state after it.
+-- (next is accepted where it answers)
+abbrev pub answers : MacroblockReply → Bool
+answers (Answered a) = true
+answers (Declined r) = false
+
 abbrev pub changes : Exchange → Bool
 changes (beginGave n v) = accepts v
 changes (nextGave base words o) = answers (o .reply)
