@@ -2,7 +2,7 @@
 use Prim.Native.Nat.{ℕ, _<_, _≤_}
 use mathlib.Core.Path.{_≡_}
 use mathlib.Core.Bool.{Bool, true, false, not, _&&_, _||_}
-use mathlib.Core.List.{List, [], _∷_, _++_}
+use mathlib.Core.List.{List, [], _∷_, _++_, List·Memᴰ}
 use mathlib.Core.Option.{Option, none, some}
 use lib.Dec.{eqb, leb}
 use lib.IntN.{ℤ, pos}
@@ -256,9 +256,9 @@ abbrev pub OnlySound : Type 0
 OnlySound = (calls : List Call) → sound (stateAfter fresh calls) ≡ true
 
 -- so next is refused by 20 and 21, and of the one-macroblock call's refusals by 5, 6 and 8 only
-abbrev pub refusesNext : ℕ → Bool
-refusesNext number = eqb number 20 || (eqb number 21 || (eqb number 5 || (eqb number 6 || eqb number 8)))
+abbrev pub refusesNext : List ℕ
+refusesNext = 20 ∷ 21 ∷ 5 ∷ 6 ∷ 8 ∷ []
 
 abbrev pub NextRefusals : Type 0
 NextRefusals =
-    (calls : List Call) (base words : List ℤ) (r : Refusal) → nextCall (stateAfter fresh calls) base words .reply ≡ Declined r → refusesNext (r .number) ≡ true
+    (calls : List Call) (base words : List ℤ) (r : Refusal) → nextCall (stateAfter fresh calls) base words .reply ≡ Declined r → List·Memᴰ (r .number) refusesNext
