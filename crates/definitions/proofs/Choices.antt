@@ -1,14 +1,13 @@
 -- Laws of the tests and of the lists made by an index (specs/Tests), and of Boolean and, or. Assumes nothing.
 use Prim.Native.Nat.{ℕ, zero, suc, _<_}
-use mathlib.Core.Path.{_≡_, refl, sym, ap, _∙_}
+use mathlib.Core.Path.{_≡_, refl, ap, _∙_}
 use mathlib.Core.Bool.{Bool, true, false, _&&_, _||_}
 use mathlib.Core.List.{List, [], _∷_, _++_, List·Memᴰ, List·Memᴰ·head, List·Memᴰ·tail, List·Memᴰ·cases-cons, List·Memᴰ·not-nil}
 use mathlib.Core.Logic.{_⊎_, inl, inr, ⊎-elim}
 use native.Mathlib.Nat.{eq-or-lt-of-le, le-of-suc-le-suc, not-suc-le-zero}
 use native.Mathlib.Omega.{arith}
 use lib.IntN.{ℤ, pos, negsuc}
-use lib.ListN.{length, getD, length-append, List·getD-append}
-use lib.Seq.{getD-at}
+use lib.ListN.{length, getD, length-append}
 use borrow.Author.Tests.{eqb-true, eq-eqb}
 use Rattle.definitions.specs.Tests.{pick, eqZ, allBelow, allOf, upTo, four}
 
@@ -123,24 +122,11 @@ of-at f [] e k d h = absurd (not-suc-le-zero h)
 of-at f (y ∷ ys) e zero d h = and-true (f y) (allOf f ys) e .0
 of-at f (y ∷ ys) e (suc k) d h = of-at f ys (and-true (f y) (allOf f ys) e .1) k d (le-of-suc-le-suc h)
 
-pub of-each : {A : Type 0} (f : A → Bool) (l : List A) (d : A) → ((k : ℕ) → k < length l → f (getD l k d) ≡ true) → allOf f l ≡ true
-unfolding allOf
-of-each f [] d h = refl
-of-each f (y ∷ ys) d h = and-intro (h 0 (omega arith)) (of-each f ys d (λ k l. h (suc k) (omega arith)))
-
 -- ---- upTo
 pub upTo-length : {A : Type 0} (n : ℕ) (f : ℕ → A) → length (upTo n f) ≡ n
 unfolding upTo
 upTo-length zero f = refl
 upTo-length (suc n) f = omega (arith, length-append (upTo n f) (f n ∷ []), upTo-length n f)
-
-pub upTo-at : {A : Type 0} (n : ℕ) (f : ℕ → A) (k : ℕ) (d : A) → k < n → getD (upTo n f) k d ≡ f k
-unfolding upTo
-upTo-at zero f k d h = absurd (not-suc-le-zero h)
-upTo-at (suc n) f k d h =
-    ⊎-elim (λ i. getD-at (upTo n f) (f n) [] d k (upTo-length n f ∙ sym i) ∙ ap f (sym i))
-    (λ l. List·getD-append (upTo n f) (f n ∷ []) d k (omega (arith, upTo-length n f)) ∙ upTo-at n f k d l)
-    (below-last h)
 
 pub upTo-same : {A : Type 0} (n : ℕ) (f g : ℕ → A) → ((k : ℕ) → k < n → f k ≡ g k) → upTo n f ≡ upTo n g
 unfolding upTo

@@ -30,6 +30,7 @@ pub mod Why
 pub mod Counting
 pub mod Singly
 pub mod Sessions
+pub mod SessionPlace
 pub mod SessionPicture
 pub mod SessionRefusals
 pub mod SessionExamples

@@ -1,7 +1,7 @@
 -- A session's begin and all its next calls on one base do what the picture call does (PictureBySession of specs/Session). Assumes nothing.
 use Prim.Native.Nat.{ℕ, zero, suc, _≤_, _<_}
 use mathlib.Core.Path.{_≡_, refl, sym, ap, _∙_}
-use mathlib.Core.Bool.{true, false, not}
+use mathlib.Core.Bool.{false, not}
 use mathlib.Core.List.{List, [], _∷_, _++_}
 use native.Mathlib.Omega.{arith}
 use lib.IntN.{ℤ}
@@ -11,14 +11,14 @@ use Rattle.definitions.specs.declared.Axes.{Axes}
 use Rattle.definitions.specs.declared.Numbers.{Numbers}
 use Rattle.definitions.specs.declared.Verdict.the-variants.{Accepted}
 use Rattle.definitions.specs.declared.MacroblockReply.the-variants.{Answered}
-use Rattle.definitions.specs.Tests.{allOf, upTo, forEach}
+use Rattle.definitions.specs.Tests.{upTo, forEach}
 use Rattle.definitions.specs.Geometry.{axesOf}
 use Rattle.definitions.specs.Record.{recordWords}
 use Rattle.definitions.specs.Answer.{Made}
 use Rattle.definitions.specs.Refusals.{geometryVerdict}
 use Rattle.definitions.specs.Calls.{callAt, fullCount, madeAt, noCounts, countsOf, sumOf}
-use Rattle.definitions.specs.Session.{Call, begin, next, totals, State, begun, finished, unfinished, callAtNext, beginVerdict, Exchange, beginGave, nextGave, totalsGave, exchange, stateBy, stateNext, exchanges, stateAfter, acceptedIn, wordsAfter, PictureBySession}
-use Rattle.definitions.proofs.Choices.{no, of-each, upTo-length, upTo-at}
+use Rattle.definitions.specs.Session.{Call, begin, next, totals, State, begun, finished, unfinished, callAtNext, beginVerdict, Exchange, beginGave, nextGave, totalsGave, exchange, stateBy, stateNext, exchanges, stateAfter, nextMade, wordsAfter, PictureBySession}
+use Rattle.definitions.proofs.Choices.{no}
 use Rattle.definitions.proofs.RecordLists.{each-same}
 use Rattle.definitions.proofs.Counting.{counts-more, counts-sum}
 use Rattle.definitions.proofs.Demand.{Passed, passed, counted-accepted, counted-made, picture-words}
@@ -59,7 +59,7 @@ module _ (n : Numbers) (base words : List ℤ) (lent : ℕ → List ℤ) (p : Pa
 
   -- a call that is answered with what is made at its address
   abbrev given : ℕ → Exchange
-  given a = nextGave base (lent a) (record { reply = Answered (made a .answer); words = made a .written })
+  given a = nextMade base (lent a) (made a)
 
   abbrev at : ℕ → State
   at k = begun n (countsOf (upTo k made))
@@ -93,9 +93,6 @@ module _ (n : Numbers) (base words : List ℤ) (lent : ℕ → List ℤ) (p : Pa
       ∙ ((λ i. gives-all k (omega arith) i ++ (exchange (state-at k (omega arith) i) (calls k) ∷ []))
       ∙ ap (λ (e : Exchange). upTo k given ++ (e ∷ [])) (gives-next k (omega arith)))
 
-  all-accepted : (k : ℕ) → allOf acceptedIn (upTo k given) ≡ true
-  all-accepted k = of-each acceptedIn (upTo k given) (given 0) (λ a h. ap acceptedIn (upTo-at k given a (given 0) (omega (arith, upTo-length k given))))
-
   -- ---- begin, and then next
   module _ (s : State) (free : unfinished s ≡ false) where
     state-from : (k : ℕ) → k ≤ fullCount g → stateAfter s (begin n ∷ upTo k calls) ≡ at k
@@ -109,7 +106,7 @@ module _ (n : Numbers) (base words : List ℤ) (lent : ℕ → List ℤ) (p : Pa
         ∙ ap (λ (l : List Exchange). beginGave n Accepted ∷ l) (gives-all k h)
 
 pub picture-by-session : PictureBySession
-unfolding exchange allOf
+unfolding exchange
 picture-by-session s n base words counts lent free e l =
     let g = axesOf n in
     let v = counted-accepted n words base counts e in
@@ -120,7 +117,7 @@ picture-by-session s n base words counts lent free e l =
     let state = state-from n base words lent p l s free total (omega arith) in
     let same : countsOf (upTo total made) ≡ counts = cc (sym (counted-made n words base v) ∙ e) in
     record {
-      accepted = ap (allOf acceptedIn) gives ∙ all-accepted n base words lent p l total;
+      accepted = gives;
       words-same = ap (λ (x : List Exchange). forEach x wordsAfter) gives ∙ (each-same (given n base words lent p l) made wordsAfter (λ m. m .written) (λ k. refl) total ∙ sym (picture-words n words base v));
       totals-same = ap (λ (t : State). exchange t totals) state ∙ ap totalsGave same;
       finished-then = ap finished state ∙ eq-eqb (sumOf (countsOf (upTo total made))) total (counts-sum total made);

@@ -1,11 +1,12 @@
 -- Sessions over lists of calls: totals are right, and every state is sound (specs/Session). Assumes nothing.
-use Prim.Native.Nat.{ℕ}
+use Prim.Native.Nat.{ℕ, _≤_}
 use mathlib.Core.Path.{_≡_, refl, sym, ap, _∙_}
 use mathlib.Core.Bool.{Bool, true, false, not}
 use mathlib.Core.List.{List, [], _∷_, _++_, append-nil, append-assoc}
 use native.Mathlib.Omega.{arith}
 use lib.IntN.{ℤ}
-use borrow.Author.Tests.{eqb-false, not-true}
+use lib.Dec.{leb}
+use borrow.Author.Tests.{eqb-false, not-true, leb-true, le-leb}
 use Rattle.definitions.specs.declared.Numbers.{Numbers}
 use Rattle.definitions.specs.declared.Answer.{Answer}
 use Rattle.definitions.specs.declared.Counts.{Counts}
@@ -16,9 +17,9 @@ use Rattle.definitions.specs.declared.MacroblockReply.the-variants.{Answ
 use Rattle.definitions.specs.Tests.{pick, allOf, forEach}
 use Rattle.definitions.specs.Geometry.{axesOf}
 use Rattle.definitions.specs.Answer.{Made}
-use Rattle.definitions.specs.Refusals.{refusal, verdictOf, geometryTests}
+use Rattle.definitions.specs.Refusals.{refusal, verdictOf, geometryTests, geometryVerdict}
 use Rattle.definitions.specs.Calls.{Outcome, byVerdict, fullCount, counted, noCounts, countsOf, sumOf}
-use Rattle.definitions.specs.Session.{Call, begin, next, abandon, totals, State, fresh, begun, totalsOf, finished, onwardTests, beginTests, beginVerdict, abandonVerdict, callAtNext, nextCall, Exchange, totalsGave, exchange, ifAccepted, advanced, stateNext, exchanges, stateAfter, accepts, startsAnew, since, answeredWith, madeBy, madeSince, TotalsRight, Sound, OnlySound}
+use Rattle.definitions.specs.Session.{Call, begin, next, abandon, totals, State, fresh, begun, totalsOf, finished, onwardTests, beginTests, beginVerdict, abandonVerdict, callAtNext, nextCall, Exchange, totalsGave, exchange, ifAccepted, advanced, stateNext, exchanges, stateAfter, accepts, startsAnew, noneAnew, since, answeredWith, madeBy, madeSince, TotalsRight, sound, OnlySound}
 use Rattle.definitions.proofs.Choices.{yes, no, and-true, and-intro, and-no}
 use Rattle.definitions.proofs.Verdicts.{both-passed}
 use Rattle.definitions.proofs.Counting.{counted-last, counted-sum, counts-length}
@@ -60,9 +61,6 @@ added (begun n c) (next base words) known e k = by (nextCall (begun n c) base wo
     by (Declined r) = nothing-added known k
 added s abandon known e k = refused-added (abandonVerdict s) fresh s known e k
 added s totals known e k = nothing-added known k
-
-abbrev noneAnew : List Exchange → Bool
-noneAnew es = allOf (λ x. not (startsAnew x)) es
 
 -- with no accepted begin or abandon, what is known of the totals at the start goes on
 kept : (s : State) (calls : List Call) (known : List Made) → noneAnew (exchanges s calls) ≡ true → totalsOf s ≡ countsOf known → totalsOf (stateAfter s calls) ≡ countsOf (known ++ forEach (exchanges s calls) madeBy)
@@ -118,6 +116,19 @@ totals-right = record {
     by calls false e = last fresh calls e
 
 -- ---- soundness
+accepted-true : (v : Verdict) → accepts v ≡ true → v ≡ Accepted
+accepted-true Accepted e = refl
+accepted-true (Refused r) e = cc
+
+pub sound-parts : (n : Numbers) (c : Counts) → sound (begun n c) ≡ true → (geometryVerdict n ≡ Accepted) × (sumOf c ≤ fullCount (axesOf n))
+sound-parts n c e =
+    let both = and-true (accepts (geometryVerdict n)) (leb (sumOf c) (fullCount (axesOf n))) e in
+    (accepted-true (geometryVerdict n) (both .0), leb-true (sumOf c) (fullCount (axesOf n)) (both .1))
+
+sound-from : (n : Numbers) (c : Counts) → geometryVerdict n ≡ Accepted → sumOf c ≤ fullCount (axesOf n) → sound (begun n c) ≡ true
+sound-from n c v h =
+    and-intro {a = accepts (geometryVerdict n)} {b = leb (sumOf c) (fullCount (axesOf n))} (ap accepts v) (le-leb (sumOf c) (fullCount (axesOf n)) h)
+
 module _ (n : Numbers) (c : Counts) (base words : List ℤ) where
   abbrev calls : Outcome MacroblockReply
   calls = callAtNext (begun n c) base words
@@ -140,32 +151,33 @@ module _ (n : Numbers) (c : Counts) (base words : List ℤ) where
       by true p = absurd (let q = ap (λ (o : Outcome MacroblockReply). o .reply) (next-over p) in let z : _≡_ {A = ℕ} 0 1 = cc in omega arith)
       by false p = refl
 
-  sound-advanced : (reply : MacroblockReply) → nextCall (begun n c) base words .reply ≡ reply → Sound (begun n c) → Sound (advanced reply (begun n c))
+  sound-advanced : (reply : MacroblockReply) → nextCall (begun n c) base words .reply ≡ reply → sound (begun n c) ≡ true → sound (advanced reply (begun n c)) ≡ true
   sound-advanced (Answered a) e s =
+      let h = sound-parts n c s in
       let other = eqb-false (sumOf c) (fullCount (axesOf n)) (next-room a e) in
-      (s .0, omega (arith, counted-sum a c, s .1))
+      sound-from n (counted a c) (h .0) (omega (arith, counted-sum a c, h .1))
   sound-advanced (Declined r) e s = s
 
-pub sound-next : (s : State) (c : Call) → Sound s → Sound (stateNext s c)
+pub sound-next : (s : State) (c : Call) → sound s ≡ true → sound (stateNext s c) ≡ true
 unfolding exchange stateNext beginVerdict
 sound-next s (begin n) h = by (beginVerdict s n) refl
   where
-    by : (v : Verdict) → beginVerdict s n ≡ v → Sound (ifAccepted v (begun n noCounts) s)
-    by Accepted e = (both-passed (beginTests s) (geometryTests n) e .1, omega arith)
+    by : (v : Verdict) → beginVerdict s n ≡ v → sound (ifAccepted v (begun n noCounts) s) ≡ true
+    by Accepted e = sound-from n noCounts (both-passed (beginTests s) (geometryTests n) e .1) (omega arith)
     by (Refused r) e = h
-sound-next fresh (next base words) h = tt
+sound-next fresh (next base words) h = refl
 sound-next (begun n c) (next base words) h = sound-advanced n c base words (nextCall (begun n c) base words .reply) refl h
 sound-next s abandon h = by (abandonVerdict s)
   where
-    by : (v : Verdict) → Sound (ifAccepted v fresh s)
-    by Accepted = tt
+    by : (v : Verdict) → sound (ifAccepted v fresh s) ≡ true
+    by Accepted = refl
     by (Refused r) = h
 sound-next s totals h = h
 
-pub sound-after : (s : State) (calls : List Call) → Sound s → Sound (stateAfter s calls)
+sound-after : (s : State) (calls : List Call) → sound s ≡ true → sound (stateAfter s calls) ≡ true
 unfolding stateAfter
 sound-after s [] h = h
 sound-after s (c ∷ cs) h = sound-after (stateNext s c) cs (sound-next s c h)
 
 pub only-sound : OnlySound
-only-sound calls = sound-after fresh calls tt
+only-sound calls = sound-after fresh calls refl

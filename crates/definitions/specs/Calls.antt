@@ -53,9 +53,16 @@ pictureTests n base words =
     let g = axesOf n in
     geometryTests n ++ (baseTest g base ∷ outputTest (fullCount g) words ∷ recordTests base (allAddresses g))
 
+-- the column and row of an address of the picture: raster order
+abbrev pub columnAt : Axes → ℕ → ℕ
+columnAt g address = address % macroblocks (fullSize (g .horizontal))
+
+abbrev pub rowAt : Axes → ℕ → ℕ
+rowAt g address = address / macroblocks (fullSize (g .horizontal))
+
 -- the macroblock at an address of the picture
 unfoldable pub madeAt : Axes → List ℤ → ℕ → Made
-madeAt g base address = madeOf g base (address % macroblocks (fullSize (g .horizontal))) (address / macroblocks (fullSize (g .horizontal)))
+madeAt g base address = madeOf g base (columnAt g address) (rowAt g address)
 
 -- one more of an answer's sort
 abbrev pub counted : Answer → Counts → Counts
@@ -89,9 +96,7 @@ pub record LowestRefused : Type 0 where
 
 -- The picture by one-macroblock calls. The call at an address of the picture
 abbrev pub callAt : Numbers → List ℤ → ℕ → List ℤ → Outcome MacroblockReply
-callAt n base address words =
-    let width = macroblocks (fullSize (axesOf n .horizontal)) in
-    macroblockCall n base (pos (address % width)) (pos (address / width)) words
+callAt n base address words = macroblockCall n base (pos (columnAt (axesOf n) address)) (pos (rowAt (axesOf n) address)) words
 
 -- a reply is an answer of a sort
 abbrev pub repliesInherited : MacroblockReply → Bool

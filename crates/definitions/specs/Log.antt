@@ -16,11 +16,11 @@ use Rattle.definitions.specs.declared.Verdict.the-variants.{Accepted, Re
 use Rattle.definitions.specs.declared.LogReply.{LogReply}
 use Rattle.definitions.specs.declared.LogReply.the-variants.{Written, Refused as NotWritten}
 use Rattle.definitions.specs.Tests.{pick, upTo, forEach}
-use Rattle.definitions.specs.Geometry.{axesOf, fullSize, macroblocks}
+use Rattle.definitions.specs.Geometry.{axesOf}
 use Rattle.definitions.specs.Splits.{count}
 use Rattle.definitions.specs.Answer.{answerType}
 use Rattle.definitions.specs.Refusals.{refusal, Test, test, verdictOf, geometryTests, baseCount, recordTests, allAddresses}
-use Rattle.definitions.specs.Calls.{fullCount, madeAt, countsOf}
+use Rattle.definitions.specs.Calls.{fullCount, columnAt, rowAt, madeAt, countsOf}
 use Rattle.definitions.specs.Text.{Entry, Text, BreaksAt, wordsOf, textRecords, textBytes}
 
 -- ---- Lines
@@ -56,9 +56,8 @@ answerPieces (Inherited n s) = count s
 -- (mb column row type pieces), of the macroblock at an address
 unfoldable pub macroblockLine : Axes → List ℤ → ℕ → List ℕ
 macroblockLine g base address =
-    let width = macroblocks (fullSize (g .horizontal)) in
     let answer = madeAt g base address .answer in
-    lineOf mbWord (address % width ∷ address / width ∷ answerType answer ∷ answerPieces answer ∷ [])
+    lineOf mbWord (columnAt g address ∷ rowAt g address ∷ answerType answer ∷ answerPieces answer ∷ [])
 
 -- (sync macroblocks inherited intra outside)
 unfoldable pub syncLine : Axes → List ℤ → List ℕ

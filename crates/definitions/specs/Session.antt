@@ -1,10 +1,11 @@
 -- The session of document 01 ("Calls"), and the refusals that come of its state ("From the state").
-use Prim.Native.Nat.{ℕ, _%_, _/_, _<_, _≤_}
+use Prim.Native.Nat.{ℕ, _<_, _≤_}
 use mathlib.Core.Path.{_≡_}
-use mathlib.Core.Bool.{Bool, true, false, not, _||_}
-use mathlib.Core.List.{List, [], _∷_, _++_}
-use lib.Dec.{eqb}
-use lib.IntN.{ℤ, pos}
+use mathlib.Core.Bool.{Bool, true, false, not, _&&_, _||_}
+use mathlib.Core.List.{List, [], _∷_, _++_, List·Memᴰ}
+use mathlib.Core.Option.{Option, none, some}
+use lib.Dec.{eqb, leb}
+use lib.IntN.{ℤ}
 use lib.ListN.{length}
 use Rattle.definitions.specs.declared.Numbers.{Numbers}
 use Rattle.definitions.specs.declared.Counts.{Counts}
@@ -15,11 +16,11 @@ use Rattle.definitions.specs.declared.MacroblockReply.{MacroblockReply}
 use Rattle.definitions.specs.declared.MacroblockReply.the-variants.{Answered, Refused as Declined}
 use Rattle.definitions.specs.declared.PictureReply.the-variants.{Counted}
 use Rattle.definitions.specs.Tests.{pick, allOf, upTo, forEach}
-use Rattle.definitions.specs.Geometry.{axesOf, fullSize, macroblocks}
+use Rattle.definitions.specs.Geometry.{axesOf}
 use Rattle.definitions.specs.Record.{recordWords}
 use Rattle.definitions.specs.Answer.{Made}
 use Rattle.definitions.specs.Refusals.{Test, test, refusal, verdictOf, geometryTests, geometryVerdict}
-use Rattle.definitions.specs.Calls.{Outcome, byVerdict, macroblockCall, fullCount, counted, noCounts, countsOf, sumOf, pictureCall}
+use Rattle.definitions.specs.Calls.{Outcome, byVerdict, callAt, fullCount, madeAt, counted, noCounts, countsOf, sumOf, pictureCall}
 
 -- ---- Session, handed over and back by value
 -- The calls: begin(geometry); next(base, 77 words); abandon; totals.
@@ -43,7 +44,7 @@ abbrev pub nothingBegun : State → Bool
 nothingBegun fresh = true
 nothingBegun (begun n c) = false
 
--- the last macroblock is made
+-- the last macroblock is made. (With nothing begun it is never read: nothingBegun comes first.)
 abbrev pub finished : State → Bool
 finished fresh = false
 finished (begun n c) = eqb (sumOf c) (fullCount (axesOf n))
@@ -68,17 +69,10 @@ beginVerdict s n = verdictOf (beginTests s ++ geometryTests n)
 unfoldable pub abandonVerdict : State → Verdict
 abandonVerdict s = verdictOf (onwardTests s)
 
--- the column and row of an address: raster order
-abbrev pub columnAt : Numbers → ℕ → ℕ
-columnAt n address = address % macroblocks (fullSize (axesOf n .horizontal))
-
-abbrev pub rowAt : Numbers → ℕ → ℕ
-rowAt n address = address / macroblocks (fullSize (axesOf n .horizontal))
-
--- the one-macroblock call for the next address, which is the number of macroblocks made (with nothing begun there is none, and 20 comes first)
+-- the one-macroblock call for the next address, which is the number of macroblocks made. (With nothing begun it is never read: 20 comes first.)
 abbrev pub callAtNext : State → List ℤ → List ℤ → Outcome MacroblockReply
 callAtNext fresh base words = record { reply = Declined (refusal 20); words = words }
-callAtNext (begun n c) base words = macroblockCall n base (pos (columnAt n (sumOf c))) (pos (rowAt n (sumOf c))) words
+callAtNext (begun n c) base words = callAt n base (sumOf c) words
 
 -- Next answers as the one-macroblock call does for the next address in raster order, refusals 5, 6 and 8 included.
 unfoldable pub nextCall : State → List ℤ → List ℤ → Outcome MacroblockReply
@@ -137,10 +131,28 @@ startsAnew (nextGave base words o) = false
 startsAnew (abandonGave v) = accepts v
 startsAnew (totalsGave c) = false
 
+abbrev pub noneAnew : List Exchange → Bool
+noneAnew es = allOf (λ x. not (startsAnew x)) es
+
 -- what follows the last accepted begin or abandon (all, where there is none)
 unfoldable pub since : List Exchange → List Exchange
 since [] = []
-since (e ∷ es) = pick (allOf (λ x. not (startsAnew x)) es) (pick (startsAnew e) es (e ∷ es)) (since es)
+since (e ∷ es) = pick (noneAnew es) (pick (startsAnew e) es (e ∷ es)) (since es)
+
+-- the geometry of the last accepted begin, unless an accepted abandon follows it (none, where nothing is begun)
+abbrev pub geometryIf : Verdict → Numbers → Option Numbers
+geometryIf Accepted n = some n
+geometryIf (Refused r) n = none
+
+abbrev pub geometryBy : Exchange → Option Numbers
+geometryBy (beginGave n v) = geometryIf v n
+geometryBy (nextGave base words o) = none
+geometryBy (abandonGave v) = none
+geometryBy (totalsGave c) = none
+
+unfoldable pub geometrySince : List Exchange → Option Numbers
+geometrySince [] = none
+geometrySince (e ∷ es) = pick (noneAnew es) (geometryBy e) (geometrySince es)
 
 -- what accepted next calls made: answers, each with its words
 abbrev pub answeredWith : MacroblockReply → List ℤ → List Made
@@ -163,19 +175,52 @@ pub record TotalsRight : Type 0 where
   pub counts : (calls : List Call) → exchange (stateAfter fresh calls) totals ≡ totalsGave (countsOf (madeSince calls))
   pub sum : (calls : List Call) → sumOf (countsOf (madeSince calls)) ≡ length (madeSince calls)
 
+-- After a list of calls from a fresh session: the geometry begun, the number of macroblocks made, and what one call more gives
+abbrev pub geometryAfter : List Call → Option Numbers
+geometryAfter calls = geometrySince (exchanges fresh calls)
+
+abbrev pub madeAfter : List Call → ℕ
+madeAfter calls = length (madeSince calls)
+
+abbrev pub gives : List Call → Call → Exchange
+gives calls c = exchange (stateAfter fresh calls) c
+
+-- next refused, its words as they were
+abbrev pub nextRefused : List ℤ → List ℤ → Refusal → Exchange
+nextRefused base words r = nextGave base words (record { reply = Declined r; words = words })
+
+-- For every list of these calls from a fresh one:
+pub record PlaceRight : Type 0 where
+  -- nothing begun: next and abandon are refused by 20, and begin by 1 to 4 only
+  pub next-nothing : (calls : List Call) → geometryAfter calls ≡ none → (base words : List ℤ) → gives calls (next base words) ≡ nextRefused base words (refusal 20)
+  pub abandon-nothing : (calls : List Call) → geometryAfter calls ≡ none → gives calls abandon ≡ abandonGave (Refused (refusal 20))
+  pub begin-nothing : (calls : List Call) → geometryAfter calls ≡ none → (m : Numbers) → gives calls (begin m) ≡ beginGave m (geometryVerdict m)
+  -- after the last macroblock: next and abandon are refused by 21, and begin by 1 to 4 only
+  pub next-last : (calls : List Call) (n : Numbers) → geometryAfter calls ≡ some n → madeAfter calls ≡ fullCount (axesOf n)
+      → (base words : List ℤ) → gives calls (next base words) ≡ nextRefused base words (refusal 21)
+  pub abandon-last : (calls : List Call) (n : Numbers) → geometryAfter calls ≡ some n → madeAfter calls ≡ fullCount (axesOf n)
+      → gives calls abandon ≡ abandonGave (Refused (refusal 21))
+  pub begin-last : (calls : List Call) (n : Numbers) → geometryAfter calls ≡ some n → madeAfter calls ≡ fullCount (axesOf n)
+      → (m : Numbers) → gives calls (begin m) ≡ beginGave m (geometryVerdict m)
+  -- unfinished: next is the one-macroblock call for the next address in raster order, abandon is accepted, and begin refused by 22
+  pub next-unfinished : (calls : List Call) (n : Numbers) → geometryAfter calls ≡ some n → madeAfter calls < fullCount (axesOf n)
+      → (base words : List ℤ)
+      → gives calls (next base words)
+      ≡ nextGave base words (callAt n base (madeAfter calls) words)
+  pub abandon-unfinished : (calls : List Call) (n : Numbers) → geometryAfter calls ≡ some n → madeAfter calls < fullCount (axesOf n)
+      → gives calls abandon ≡ abandonGave Accepted
+  pub begin-unfinished : (calls : List Call) (n : Numbers) → geometryAfter calls ≡ some n → madeAfter calls < fullCount (axesOf n)
+      → (m : Numbers) → gives calls (begin m) ≡ beginGave m (Refused (refusal 22))
+  -- there is no other case
+  pub no-more : (calls : List Call) (n : Numbers) → geometryAfter calls ≡ some n → madeAfter calls ≤ fullCount (axesOf n)
+
 -- ---- A whole picture: begin, and a next call for each macroblock on one base; lent a are the words lent to the one of address a
 abbrev pub pictureCalls : Numbers → List ℤ → (ℕ → List ℤ) → List Call
 pictureCalls n base lent = begin n ∷ upTo (fullCount (axesOf n)) (λ a. next base (lent a))
 
-abbrev pub answers : MacroblockReply → Bool
-answers (Answered a) = true
-answers (Declined r) = false
-
-abbrev pub acceptedIn : Exchange → Bool
-acceptedIn (beginGave n v) = accepts v
-acceptedIn (nextGave base words o) = answers (o .reply)
-acceptedIn (abandonGave v) = accepts v
-acceptedIn (totalsGave c) = true
+-- a next call accepted, with what is made: the answer, and the words lent afterwards
+abbrev pub nextMade : List ℤ → List ℤ → Made → Exchange
+nextMade base words m = nextGave base words (record { reply = Answered (m .answer); words = m .written })
 
 -- the words lent, afterwards
 abbrev pub wordsAfter : Exchange → List ℤ
@@ -184,10 +229,11 @@ wordsAfter (nextGave base words o) = o .words
 wordsAfter (abandonGave v) = []
 wordsAfter (totalsGave c) = []
 
--- Where the picture call accepts the base, and the session takes a begin, these calls do what it does: each is accepted, the words lent one after
--- another are those that it writes, the totals are its counts, and the session is finished after the last of them and not before.
+-- Where the picture call accepts the base, and the session takes a begin, these calls do what it does: each is accepted, next with the answer and
+-- the words of the macroblock at its address, the words lent one after another are those that it writes, the totals are its counts, and the session is
+-- finished after the last of them and not before.
 pub record AsPicture (s : State) (n : Numbers) (base words : List ℤ) (counts : Counts) (lent : ℕ → List ℤ) : Type 0 where
-  pub accepted : allOf acceptedIn (exchanges s (pictureCalls n base lent)) ≡ true
+  pub accepted : exchanges s (pictureCalls n base lent) ≡ beginGave n Accepted ∷ upTo (fullCount (axesOf n)) (λ a. nextMade base (lent a) (madeAt (axesOf n) base a))
   pub words-same : forEach (exchanges s (pictureCalls n base lent)) wordsAfter ≡ pictureCall n base words .words
   pub totals-same : exchange (stateAfter s (pictureCalls n base lent)) totals ≡ totalsGave counts
   pub finished-then : finished (stateAfter s (pictureCalls n base lent)) ≡ true
@@ -202,17 +248,17 @@ PictureBySession =
     → AsPicture s n base words counts lent
 
 -- ---- The states that lists of calls make: the geometry is accepted, and no more macroblocks are made than there are
-abbrev pub Sound : State → Type 0
-Sound fresh = Unit
-Sound (begun n c) = (geometryVerdict n ≡ Accepted) × (sumOf c ≤ fullCount (axesOf n))
+abbrev pub sound : State → Bool
+sound fresh = true
+sound (begun n c) = accepts (geometryVerdict n) && leb (sumOf c) (fullCount (axesOf n))
 
 abbrev pub OnlySound : Type 0
-OnlySound = (calls : List Call) → Sound (stateAfter fresh calls)
+OnlySound = (calls : List Call) → sound (stateAfter fresh calls) ≡ true
 
 -- so next is refused by 20 and 21, and of the one-macroblock call's refusals by 5, 6 and 8 only
-abbrev pub refusesNext : ℕ → Bool
-refusesNext number = eqb number 20 || (eqb number 21 || (eqb number 5 || (eqb number 6 || eqb number 8)))
+abbrev pub refusesNext : List ℕ
+refusesNext = 20 ∷ 21 ∷ 5 ∷ 6 ∷ 8 ∷ []
 
 abbrev pub NextRefusals : Type 0
 NextRefusals =
-    (calls : List Call) (base words : List ℤ) (r : Refusal) → nextCall (stateAfter fresh calls) base words .reply ≡ Declined r → refusesNext (r .number) ≡ true
+    (calls : List Call) (base words : List ℤ) (r : Refusal) → nextCall (stateAfter fresh calls) base words .reply ≡ Declined r → List·Memᴰ (r .number) refusesNext

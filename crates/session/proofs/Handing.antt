@@ -18,10 +18,10 @@ use Rattle.definitions.specs.Tests.{pick}
 use Rattle.definitions.specs.Geometry.{axesOf, fullSize, macroblocks}
 use Rattle.definitions.specs.Refusals.{refusal, geometryVerdict}
 use Rattle.definitions.specs.Calls.{Outcome, macroblockCall, fullCount, noCounts, sumOf}
-use Rattle.definitions.specs.Session.{begin, next, abandon, totals, State, begun, totalsOf, unfinished, beginVerdict, abandonVerdict, nextCall, beginGave, nextGave, abandonGave, exchange, advanced, Sound}
+use Rattle.definitions.specs.Session.{begin, next, abandon, totals, State, begun, totalsOf, unfinished, beginVerdict, abandonVerdict, nextCall, beginGave, nextGave, abandonGave, exchange, advanced, sound}
 use Rattle.definitions.proofs.Choices.{yes, no}
 use Rattle.definitions.proofs.Accepted.{accepted-axes}
-use Rattle.definitions.proofs.Sessions.{next-going, next-over}
+use Rattle.definitions.proofs.Sessions.{next-going, next-over, sound-parts}
 use Rattle.upsample.proofs.Sizes.{full-small}
 use Rattle.session.specs.declared.Session.{Session}
 use Rattle.session.specs.declared.Stage.the-variants.{Nothing}
@@ -147,7 +147,7 @@ module _ (v : Session) where
   -- what is counted, and the next macroblock's column and row, are small
   pub going-small : {x y : ℕ} → Going v x y → (sumOf (v .counts) < 65536) × (x < 65536) × (y < 65536)
   going-small g =
-      let s = subst Sound (g .state) (state-sound v) in
+      let s = sound-parts (v .numbers) (v .counts) (subst (λ (t : State). sound t ≡ true) (g .state) (state-sound v)) in
       let axes = accepted-axes (v .numbers) (s .0) in
       let few = full-small (axesOf (v .numbers)) (record { horizontal = axes .0; vertical = axes .1 }) in
       let other = eqb-false (sumOf (v .counts)) (fullCount (axesOf (v .numbers))) (g .on) in

@@ -1,5 +1,5 @@
 -- Where a session stands (specs/Stage): what the code finds, and what each stage says of the state. Assumes nothing.
-use Prim.Native.Nat.{ℕ, _-_, _/_, _%_, _≤_, _<_}
+use Prim.Native.Nat.{ℕ, _-_, _≤_, _<_}
 use mathlib.Core.Path.{_≡_, refl, sym, ap, _∙_}
 use mathlib.Core.Bool.{Bool, true, false, _&&_}
 use native.Mathlib.Omega.{arith}
@@ -10,19 +10,19 @@ use Rattle.definitions.specs.declared.Refusal.{Refusal}
 use Rattle.definitions.specs.declared.Verdict.{Verdict}
 use Rattle.definitions.specs.declared.Verdict.the-variants.{Accepted, Refused}
 use Rattle.definitions.specs.Tests.{pick}
-use Rattle.definitions.specs.Geometry.{axesOf, fullSize, macroblocks}
+use Rattle.definitions.specs.Geometry.{axesOf}
 use Rattle.definitions.specs.Refusals.{geometryVerdict}
-use Rattle.definitions.specs.Calls.{fullCount, sumOf}
-use Rattle.definitions.specs.Session.{State, fresh, begun, finished, columnAt, rowAt, accepts}
+use Rattle.definitions.specs.Calls.{fullCount, columnAt, rowAt, sumOf}
+use Rattle.definitions.specs.Session.{State, fresh, begun, finished, accepts, sound}
 use Rattle.definitions.proofs.Choices.{yes, no, and-intro, and-no}
 use Rattle.session.specs.declared.Session.{Session}
 use Rattle.session.specs.declared.Stage.the-variants.{Nothing, Unfinished, Finished}
-use Rattle.session.specs.Values.{sound, stateOf}
+use Rattle.session.specs.Values.{stateOf}
 use Rattle.session.specs.Stage.{stageOf, stageIn}
 
 -- ---- what the code finds
 module _ (v : Session) where
-  pub stands-fresh : (v .begun && sound (v .numbers) (v .counts)) ≡ false → stateOf v ≡ fresh
+  pub stands-fresh : (v .begun && sound (begun (v .numbers) (v .counts))) ≡ false → stateOf v ≡ fresh
   unfolding stateOf
   stands-fresh e = no _ _ e
 
@@ -44,7 +44,7 @@ module _ (v : Session) where
           yes _ _ p ∙ sym (ap stageOf (stands-fresh (and-no (v .begun) (and-no (accepts (geometryVerdict (v .numbers))) low))))
       by false p =
           let low : leb (sumOf (v .counts)) (fullCount (axesOf (v .numbers))) ≡ true = le-leb _ _ (ltb-false (fullCount (axesOf (v .numbers))) (sumOf (v .counts)) p) in
-          no _ _ p ∙ sym (ap stageOf (yes (begun (v .numbers) (v .counts)) fresh (and-intro {a = v .begun} {b = sound (v .numbers) (v .counts)} b (and-intro {a = accepts (geometryVerdict (v .numbers))} {b = leb (sumOf (v .counts)) (fullCount (axesOf (v .numbers)))} (ap accepts a) low))))
+          no _ _ p ∙ sym (ap stageOf (yes (begun (v .numbers) (v .counts)) fresh (and-intro {a = v .begun} {b = sound (begun (v .numbers) (v .counts))} b (and-intro {a = accepts (geometryVerdict (v .numbers))} {b = leb (sumOf (v .counts)) (fullCount (axesOf (v .numbers)))} (ap accepts a) low))))
 
 -- ---- what a stage says
 pub nothing-begun : (s : State) → stageOf s ≡ Nothing → s ≡ fresh
@@ -52,24 +52,24 @@ unfolding pick
 nothing-begun fresh e = refl
 nothing-begun (begun n c) e = absurd (by (finished (begun n c)) e)
   where
-    by : (b : Bool) → pick b Finished (Unfinished (columnAt n (sumOf c)) (rowAt n (sumOf c))) ≡ Nothing → ⊥
+    by : (b : Bool) → pick b Finished (Unfinished (columnAt (axesOf n) (sumOf c)) (rowAt (axesOf n) (sumOf c))) ≡ Nothing → ⊥
     by true p = let z : _≡_ {A = ℕ} 0 1 = cc in omega arith
     by false p = let z : _≡_ {A = ℕ} 0 1 = cc in omega arith
 
 -- a value that stands for no fresh session stands for what it holds
 stands-begun : (v : Session) → (stageOf (stateOf v) ≡ Nothing → ⊥) → stateOf v ≡ begun (v .numbers) (v .counts)
 unfolding stateOf
-stands-begun v n = by (v .begun && sound (v .numbers) (v .counts)) refl
+stands-begun v n = by (v .begun && sound (begun (v .numbers) (v .counts))) refl
   where
-    by : (b : Bool) → (v .begun && sound (v .numbers) (v .counts)) ≡ b → stateOf v ≡ begun (v .numbers) (v .counts)
+    by : (b : Bool) → (v .begun && sound (begun (v .numbers) (v .counts))) ≡ b → stateOf v ≡ begun (v .numbers) (v .counts)
     by true e = yes _ _ e
     by false e = absurd (n (ap stageOf (stands-fresh v e)))
 
 pub record Going (v : Session) (column row : ℕ) : Type 0 where
   pub state : stateOf v ≡ begun (v .numbers) (v .counts)
   pub on : finished (begun (v .numbers) (v .counts)) ≡ false
-  pub column-is : column ≡ columnAt (v .numbers) (sumOf (v .counts))
-  pub row-is : row ≡ rowAt (v .numbers) (sumOf (v .counts))
+  pub column-is : column ≡ columnAt (axesOf (v .numbers)) (sumOf (v .counts))
+  pub row-is : row ≡ rowAt (axesOf (v .numbers)) (sumOf (v .counts))
 
 pub going : (v : Session) (column row : ℕ) → stageOf (stateOf v) ≡ Unfinished column row → Going v column row
 unfolding pick
@@ -78,7 +78,7 @@ going v column row e =
     by s (finished (begun (v .numbers) (v .counts))) refl (sym (ap stageOf s) ∙ e)
   where
     by : stateOf v ≡ begun (v .numbers) (v .counts) → (b : Bool) → finished (begun (v .numbers) (v .counts)) ≡ b
-        → pick b Finished (Unfinished (columnAt (v .numbers) (sumOf (v .counts))) (rowAt (v .numbers) (sumOf (v .counts)))) ≡ Unfinished column row → Going v column row
+        → pick b Finished (Unfinished (columnAt (axesOf (v .numbers)) (sumOf (v .counts))) (rowAt (axesOf (v .numbers)) (sumOf (v .counts)))) ≡ Unfinished column row → Going v column row
     by s true p q = absurd (let z : _≡_ {A = ℕ} 0 1 = cc in omega arith)
     by s false p q = record { state = s; on = p; column-is = cc; row-is = cc }
 
@@ -93,7 +93,7 @@ over-of v e =
     by s (finished (begun (v .numbers) (v .counts))) refl (sym (ap stageOf s) ∙ e)
   where
     by : stateOf v ≡ begun (v .numbers) (v .counts) → (b : Bool) → finished (begun (v .numbers) (v .counts)) ≡ b
-        → pick b Finished (Unfinished (columnAt (v .numbers) (sumOf (v .counts))) (rowAt (v .numbers) (sumOf (v .counts)))) ≡ Finished → Over v
+        → pick b Finished (Unfinished (columnAt (axesOf (v .numbers)) (sumOf (v .counts))) (rowAt (axesOf (v .numbers)) (sumOf (v .counts)))) ≡ Finished → Over v
     by s true p q = record { state = s; over = p }
     by s false p q = absurd (let z : _≡_ {A = ℕ} 0 1 = cc in omega arith)
 
@@ -107,8 +107,8 @@ module _ (g : Axes) (made total at : ℕ) (t : total ≡ fullCount g) (a : at �
   unfolding stageIn
   stage-last h e = sym (no _ _ (le-ltb (fullCount g) made (omega arith)) ∙ yes _ _ (eq-eqb made (fullCount g) (omega arith)))
 
-  pub stage-on : at ≤ total → (total - at ≡ 0 → ⊥) → Unfinished (at % macroblocks (fullSize (g .horizontal))) (at / macroblocks (fullSize (g .horizontal))) ≡ stageIn g made
+  pub stage-on : at ≤ total → (total - at ≡ 0 → ⊥) → Unfinished (columnAt g at) (rowAt g at) ≡ stageIn g made
   unfolding stageIn
   stage-on h n =
-      (λ i. Unfinished (a i % macroblocks (fullSize (g .horizontal))) (a i / macroblocks (fullSize (g .horizontal))))
+      (λ i. Unfinished (columnAt g (a i)) (rowAt g (a i)))
       ∙ sym (no _ _ (le-ltb (fullCount g) made (omega arith)) ∙ no _ _ (ne-eqb made (fullCount g) (λ e. n (omega arith))))

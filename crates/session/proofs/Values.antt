@@ -2,41 +2,29 @@
 use mathlib.Core.Path.{_≡_, refl, sym, ap, _∙_}
 use mathlib.Core.Bool.{true, false, _&&_}
 use mathlib.Core.List.{List, [], _∷_}
-use lib.Dec.{leb}
-use borrow.Author.Tests.{leb-true, le-leb}
 use Rattle.definitions.specs.declared.Verdict.{Verdict}
 use Rattle.definitions.specs.declared.Verdict.the-variants.{Accepted, Refused}
 use Rattle.definitions.specs.declared.MacroblockReply.{MacroblockReply}
 use Rattle.definitions.specs.declared.MacroblockReply.the-variants.{Answered, Refused as Declined}
 use Rattle.definitions.specs.Tests.{pick}
-use Rattle.definitions.specs.Geometry.{axesOf}
-use Rattle.definitions.specs.Refusals.{geometryVerdict}
-use Rattle.definitions.specs.Calls.{fullCount, noCounts, sumOf}
-use Rattle.definitions.specs.Session.{Call, State, fresh, begun, totalsOf, Exchange, beginGave, nextGave, abandonGave, totalsGave, exchange, ifAccepted, advanced, stateBy, stateNext, stateAfter, accepts, answers, Sound}
-use Rattle.definitions.proofs.Choices.{yes, no, pick-cases, and-true, and-intro}
+use Rattle.definitions.specs.Calls.{noCounts}
+use Rattle.definitions.specs.Session.{Call, State, fresh, begun, totalsOf, Exchange, beginGave, nextGave, abandonGave, totalsGave, exchange, ifAccepted, advanced, stateBy, stateNext, stateAfter, accepts, sound}
+use Rattle.definitions.proofs.Choices.{yes, no, pick-cases, and-true}
 use Rattle.definitions.proofs.Sessions.{totals-right, sound-next, only-sound}
 use Rattle.session.specs.declared.Session.{Session}
-use Rattle.session.specs.Values.{freshSession, valueOf, sound, stateOf, changes, handedBy, handedBack, HandsBack, valueAfter, OnlyValues}
-
-accepted-true : (v : Verdict) → accepts v ≡ true → v ≡ Accepted
-accepted-true Accepted e = refl
-accepted-true (Refused r) e = cc
+use Rattle.session.specs.Values.{freshSession, valueOf, stateOf, answers, changes, handedBy, handedBack, HandsBack, valueAfter, OnlyValues}
 
 -- a value stands for a sound state, and the value of a sound state for that state
-pub state-sound : (v : Session) → Sound (stateOf v)
+pub state-sound : (v : Session) → sound (stateOf v) ≡ true
 unfolding stateOf
-state-sound v = pick-cases Sound (v .begun && sound (v .numbers) (v .counts)) (begun (v .numbers) (v .counts)) fresh holds (λ e. tt)
-  where
-    holds : (v .begun && sound (v .numbers) (v .counts)) ≡ true → Sound (begun (v .numbers) (v .counts))
-    holds e =
-        let s = and-true (v .begun) (sound (v .numbers) (v .counts)) e .1 in
-        let both = and-true (accepts (geometryVerdict (v .numbers))) (leb (sumOf (v .counts)) (fullCount (axesOf (v .numbers)))) s in
-        (accepted-true (geometryVerdict (v .numbers)) (both .0), leb-true (sumOf (v .counts)) (fullCount (axesOf (v .numbers))) (both .1))
+state-sound v =
+    let held = sound (begun (v .numbers) (v .counts)) in
+    pick-cases (λ s. sound s ≡ true) (v .begun && held) (begun (v .numbers) (v .counts)) fresh (λ e. and-true (v .begun) held e .1) (λ e. refl)
 
-pub state-of-value : (s : State) → Sound s → stateOf (valueOf s) ≡ s
+pub state-of-value : (s : State) → sound s ≡ true → stateOf (valueOf s) ≡ s
 unfolding stateOf
 state-of-value fresh h = no {t = false} _ _ refl
-state-of-value (begun n c) h = yes _ _ (and-intro {a = accepts (geometryVerdict n)} {b = leb (sumOf c) (fullCount (axesOf n))} (ap accepts (h .0)) (le-leb (sumOf c) (fullCount (axesOf n)) (h .1)))
+state-of-value (begun n c) h = yes _ _ h
 
 not-accepted : (v : Verdict) (after s : State) → accepts v ≡ false → ifAccepted v after s ≡ s
 not-accepted Accepted after s e = cc
@@ -66,24 +54,24 @@ pub hands-back : (v : Session) (c : Call) (w : Session) → w ≡ handedBack v c
 hands-back v c w e = record { value = e; state = ap stateOf e ∙ handed-state v c }
 
 -- ---- lists of calls
-handed-value : (s : State) (c : Call) → Sound s → handedBack (valueOf s) c ≡ valueOf (stateNext s c)
+handed-value : (s : State) (c : Call) → sound s ≡ true → handedBack (valueOf s) c ≡ valueOf (stateNext s c)
 unfolding handedBy stateNext
 handed-value s c h =
     ap (λ (t : State). pick (changes (exchange t c)) (valueOf (stateBy t (exchange t c))) (valueOf s)) (state-of-value s h)
     ∙ pick-cases (λ w. w ≡ valueOf (stateNext s c)) (changes (exchange s c)) (valueOf (stateNext s c)) (valueOf s) (λ e. refl) (λ e. ap valueOf (sym (unchanged s (exchange s c) e)))
 
-values-after : (s : State) (calls : List Call) → Sound s → valueAfter (valueOf s) calls ≡ valueOf (stateAfter s calls)
+values-after : (s : State) (calls : List Call) → sound s ≡ true → valueAfter (valueOf s) calls ≡ valueOf (stateAfter s calls)
 unfolding valueAfter stateAfter
 values-after s [] h = refl
 values-after s (c ∷ cs) h = ap (λ (v : Session). valueAfter v cs) (handed-value s c h) ∙ values-after (stateNext s c) cs (sound-next s c h)
 
 stands-after : (calls : List Call) → stateOf (valueAfter freshSession calls) ≡ stateAfter fresh calls
-stands-after calls = ap stateOf (values-after fresh calls tt) ∙ state-of-value (stateAfter fresh calls) (only-sound calls)
+stands-after calls = ap stateOf (values-after fresh calls refl) ∙ state-of-value (stateAfter fresh calls) (only-sound calls)
 
 pub only-values : OnlyValues
 unfolding exchange
 only-values = record {
-  value = λ calls. values-after fresh calls tt;
+  value = λ calls. values-after fresh calls refl;
   state = stands-after;
   counts = λ calls. ap totalsOf (stands-after calls) ∙ cc (totals-right .counts calls);
 }

@@ -1,21 +1,21 @@
 -- Where a session stands, as the code tells it apart.
-use Prim.Native.Nat.{ℕ, _%_, _/_}
+use Prim.Native.Nat.{ℕ}
 use lib.Dec.{eqb, ltb}
 use Rattle.definitions.specs.declared.Axes.{Axes}
 use Rattle.definitions.specs.Tests.{pick}
-use Rattle.definitions.specs.Geometry.{fullSize, macroblocks}
-use Rattle.definitions.specs.Calls.{fullCount, sumOf}
-use Rattle.definitions.specs.Session.{State, fresh, begun, finished, columnAt, rowAt}
+use Rattle.definitions.specs.Geometry.{axesOf}
+use Rattle.definitions.specs.Calls.{fullCount, columnAt, rowAt, sumOf}
+use Rattle.definitions.specs.Session.{State, fresh, begun, finished}
 use Rattle.session.specs.declared.Stage.{Stage}
 use Rattle.session.specs.declared.Stage.the-variants.{Nothing, Unfinished, Finished}
 
 abbrev pub stageOf : State → Stage
 stageOf fresh = Nothing
-stageOf (begun n c) = pick (finished (begun n c)) Finished (Unfinished (columnAt n (sumOf c)) (rowAt n (sumOf c)))
+stageOf (begun n c) = pick (finished (begun n c)) Finished (Unfinished (columnAt (axesOf n) (sumOf c)) (rowAt (axesOf n) (sumOf c)))
 
 -- of an accepted geometry, and a number of macroblocks made
 unfoldable pub stageIn : Axes → ℕ → Stage
 stageIn g made =
     pick (ltb (fullCount g) made) Nothing
     (pick (eqb made (fullCount g)) Finished
-    (Unfinished (made % macroblocks (fullSize (g .horizontal))) (made / macroblocks (fullSize (g .horizontal)))))
+    (Unfinished (columnAt g made) (rowAt g made)))

@@ -2,18 +2,13 @@
 use mathlib.Core.Path.{_≡_}
 use mathlib.Core.Bool.{Bool, true, false, _&&_}
 use mathlib.Core.List.{List, [], _∷_}
-use lib.Dec.{leb}
 use lib.IntN.{pos}
 use Rattle.definitions.specs.declared.AxisNumbers.{AxisNumbers}
-use Rattle.definitions.specs.declared.Numbers.{Numbers}
-use Rattle.definitions.specs.declared.Counts.{Counts}
 use Rattle.definitions.specs.declared.MacroblockReply.{MacroblockReply}
 use Rattle.definitions.specs.declared.MacroblockReply.the-variants.{Answered, Refused as Declined}
 use Rattle.definitions.specs.Tests.{pick}
-use Rattle.definitions.specs.Geometry.{axesOf}
-use Rattle.definitions.specs.Refusals.{geometryVerdict}
-use Rattle.definitions.specs.Calls.{fullCount, counted, noCounts, countsOf, sumOf}
-use Rattle.definitions.specs.Session.{Call, State, fresh, begun, totalsOf, Exchange, beginGave, nextGave, abandonGave, totalsGave, exchange, stateBy, stateNext, stateAfter, accepts, answers, madeSince}
+use Rattle.definitions.specs.Calls.{counted, noCounts, countsOf}
+use Rattle.definitions.specs.Session.{Call, State, fresh, begun, totalsOf, Exchange, beginGave, nextGave, abandonGave, totalsGave, exchange, stateBy, stateNext, stateAfter, accepts, madeSince, sound}
 use Rattle.session.specs.declared.Session.{Session}
 
 -- the value of a state
@@ -29,13 +24,15 @@ valueOf (begun n c) = record { begun = true; numbers = n; counts = c }
 
 -- The state that a value stands for. A caller can hand over any value: one that is begun with a geometry that 1 to 4 refuse, or with more macroblocks
 -- counted than there are, or that is not begun and holds anything, stands for a fresh session.
-abbrev pub sound : Numbers → Counts → Bool
-sound n c = accepts (geometryVerdict n) && leb (sumOf c) (fullCount (axesOf n))
-
 unfoldable pub stateOf : Session → State
-stateOf v = pick (v .begun && sound (v .numbers) (v .counts)) (begun (v .numbers) (v .counts)) fresh
+stateOf v = pick (v .begun && sound (begun (v .numbers) (v .counts))) (begun (v .numbers) (v .counts)) fresh
 
 -- The value that a call hands back: the very one where the call is refused, and of totals; else the value of the state after it.
+-- (next is accepted where it answers)
+abbrev pub answers : MacroblockReply → Bool
+answers (Answered a) = true
+answers (Declined r) = false
+
 abbrev pub changes : Exchange → Bool
 changes (beginGave n v) = accepts v
 changes (nextGave base words o) = answers (o .reply)
