@@ -338,7 +338,9 @@ pub fn replaced(calls: &mut Calls) {
     for (text, bytes) in [(WHOLE_CASE.to_string(), &every[..]), (every_form(), BYTES)] {
         let mut text = text.into_bytes();
         texts.compare(&text);
-        assert!(second::log(&text).starts_with(b"(mb "), "it has a picture");
+        if !second::log(&text).starts_with(b"(mb ") {
+            texts.differs(&text, "a text that has a picture is refused");
+        }
         for at in 0..text.len() {
             let was = text[at];
             for &byte in bytes {
