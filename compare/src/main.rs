@@ -39,21 +39,25 @@ struct Tests {
 impl Tests {
     /// Passed if the calls that the test makes have no difference.
     fn compare(&mut self, name: &str, test: impl FnOnce(&mut Calls)) {
-        let before = (
-            self.calls.pictures,
-            self.calls.singles,
-            self.calls.sessions,
-            self.calls.met.texts,
-            self.calls.differences,
-        );
+        let made = |calls: &Calls| {
+            [
+                (calls.pictures, "picture calls"),
+                (calls.singles, "one-macroblock calls"),
+                (calls.sessions, "session calls"),
+                (calls.met.texts, "texts"),
+            ]
+        };
+        let (before, differences) = (made(&self.calls), self.calls.differences);
         self.calls.at = name.to_string();
         test(&mut self.calls);
-        let pictures = self.calls.pictures - before.0;
-        let singles = self.calls.singles - before.1;
-        let sessions = self.calls.sessions - before.2;
-        let texts = self.calls.met.texts - before.3;
-        let differences = self.calls.differences - before.4;
-        println!("{name}: {pictures} picture calls, {singles} one-macroblock calls, {sessions} session calls, {texts} texts, {differences} differences");
+        let differences = self.calls.differences - differences;
+        let counts: String = made(&self.calls)
+            .iter()
+            .zip(before)
+            .filter(|(after, before)| after.0 > before.0)
+            .map(|(after, before)| format!("{} {}, ", after.0 - before.0, after.1))
+            .collect();
+        println!("{name}: {counts}{differences} differences");
         self.verdict(name, differences == 0);
     }
 

@@ -3,7 +3,7 @@
 
 use crate::calls::{Calls, FILL, FILL_SECOND};
 use crate::lent::Lent;
-use compare::generate::{base_macroblocks, break_record, Mood};
+use compare::generate::{base_macroblocks, break_record, distinct, Mood};
 use compare::random::Random;
 use compare::sync::{
     head, lines, long_notes, long_records, mb, note, noted, text_geometry, whole, INTRA,
@@ -317,15 +317,15 @@ impl Texts<'_> {
     }
 }
 
-/// A text with every form of a line, in and between which stand notes.
+/// A text with every form of a line that is read and gives a picture's log. Its
+/// last note is as deep as can be.
 fn every_form() -> String {
-    let record: Vec<i16> = (0..WORDS as i16).map(|at| at % 3 - 1).collect();
     [
         "(note)\n(base 16 48)\n(note a -32768 (b (0) 327))\n(scaled 24 72)\n(at -2 6)\n(full 48 80)\n",
         "(whole (0 -1) (4 -8 0 0))\n(note zz)\n",
         INTRA,
-        &mb(&record),
-        "(note ((((((((1))))) 0) -7) x))\n",
+        &mb(&distinct(4, [0, 1, 2, 3], 1)),
+        "(note (((((((1)))) 0) -7) x))\n",
     ]
     .concat()
 }
@@ -338,6 +338,9 @@ pub fn replaced(calls: &mut Calls) {
     for (text, bytes) in [(WHOLE_CASE.to_string(), &every[..]), (every_form(), BYTES)] {
         let mut text = text.into_bytes();
         texts.compare(&text);
+        if !second::log(&text).starts_with(b"(mb ") {
+            texts.differs(&text, "a text that has a picture is refused");
+        }
         for at in 0..text.len() {
             let was = text[at];
             for &byte in bytes {
@@ -623,7 +626,8 @@ fn damaged(random: &mut Random, text: &[u8]) -> Vec<u8> {
     text
 }
 
-/// The longest logs: 65,536 macroblocks, of 99 records and of one.
+/// The longest logs: 65,536 macroblocks, of 99 records and of one. Also by the
+/// wrapper's own log.
 pub fn largest(calls: &mut Calls) {
     let texts = &mut Texts::new(calls);
     let corner = WHOLE_CASE.replace("48 32", "4096 4096");
@@ -632,6 +636,9 @@ pub fn largest(calls: &mut Calls) {
         corner.replace("at 0 0", "at 4064 4064"),
         corner,
     ] {
-        texts.compare(text);
+        texts.compare(&text);
+        if spiewomir::log(text.as_bytes()) != second::log(text.as_bytes()) {
+            texts.differs(text.as_bytes(), "the wrapper's log");
+        }
     }
 }
