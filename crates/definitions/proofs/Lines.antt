@@ -1,12 +1,12 @@
 -- Laws of the log's lines: numbers in decimal are as the grammar has them, and how long a line can be (specs/Log). Assumes nothing.
 use Prim.Native.Nat.{ℕ, zero, suc, _+_, _-_, _*_, _/_, _%_, _≤_, _<_}
-use mathlib.Core.Path.{_≡_, refl, ap, subst, _∙_}
+use mathlib.Core.Path.{_≡_, refl, sym, ap, subst, _∙_}
 use mathlib.Core.Bool.{Bool, true, false}
-use mathlib.Core.List.{List, [], _∷_, _++_}
+use mathlib.Core.List.{List, [], _∷_, _++_, append-assoc}
 use native.Mathlib.Omega.{arith}
 use lib.Dec.{ltb}
 use lib.IntN.{ℤ}
-use lib.ListN.{length, getD, length-append}
+use lib.ListN.{length, getD, drop, length-append}
 use borrow.Author.Tests.{ltb-true, ltb-false, lt-ltb, le-ltb}
 use Rattle.definitions.specs.declared.Axes.{Axes}
 use Rattle.definitions.specs.declared.Answer.{Answer}
@@ -155,3 +155,34 @@ no-r g base (x ∷ xs) e = omega arith
 pub lines-differ : (g : Axes) (base : List ℤ) (r : Refusal) → pictureLines g base ≡ refusedLine r → ⊥
 unfolding pictureLines refusedLine lineOf
 lines-differ g base r e = no-r g base (upTo (fullCount g) (λ a. a)) (ap (λ (l : List ℕ). getD l 1 0) e)
+
+-- ---- The line of a refusal tells its number
+-- digits end where the space stands
+digits-same : (s t u v : List ℕ) → All Digit s → All Digit t → s ++ (32 ∷ u) ≡ t ++ (32 ∷ v) → s ≡ t
+digits-same [] [] u v none none e = refl
+digits-same [] (y ∷ t) u v none (each q k) e = let z : 32 ≡ y = ap (λ (l : List ℕ). getD l 0 0) e in absurd (omega (arith, z, q .0))
+digits-same (x ∷ s) [] u v (each p h) none e = let z : x ≡ 32 = ap (λ (l : List ℕ). getD l 0 0) e in absurd (omega (arith, z, p .0))
+digits-same (x ∷ s) (y ∷ t) u v (each p h) (each q k) e =
+    let a : x ≡ y = ap (λ (l : List ℕ). getD l 0 0) e in
+    let b = digits-same s t u v h k (ap (drop 1) e) in
+    λ (i : 𝕀). a i ∷ b i
+
+plain-digits : {n : ℕ} {t : List ℕ} → Plain n t → All Digit t
+plain-digits nought = each {c = 48} (omega arith, omega arith) none
+plain-digits (digits {c = c} low high all) = each {c = c} (omega arith, omega arith) all
+
+plain-worth : {n : ℕ} {t : List ℕ} → Plain n t → valued 0 t ≡ n
+plain-worth nought = refl
+plain-worth (digits {c = c} {t = t} low high all) = let e : 10 * 0 + (c - 48) ≡ c - 48 = omega arith in ap (λ (a : ℕ). valued a t) e
+
+pub refused-number : (r s : Refusal) → refusedLine r ≡ refusedLine s → r .number ≡ s .number
+unfolding refusedLine lineOf
+refused-number r s e =
+    let a = decimal-plain (r .number) in
+    let b = decimal-plain (s .number) in
+    let f : decimal (r .number) ++ (32 ∷ tail r) ≡ decimal (s .number) ++ (32 ∷ tail s) =
+    sym (append-assoc (decimal (r .number)) _ _) ∙ (ap (drop 9) e ∙ append-assoc (decimal (s .number)) _ _) in
+    sym (plain-worth a) ∙ (ap (valued 0) (digits-same _ _ _ _ (plain-digits a) (plain-digits b) f) ∙ plain-worth b)
+  where
+    tail : Refusal → List ℕ
+    tail r = (decimal (r .place) ++ []) ++ (41 ∷ 10 ∷ [])

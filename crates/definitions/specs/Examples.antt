@@ -1,4 +1,5 @@
--- "Bench examples" of document 01: the starred ones, in one table, proved by one statement.
+-- "Bench examples" of document 01: the starred ones, in one table, proved by one statement; the Whole case; and a table of refusal 9's places. The Whole case from its
+-- text on, and the places, are proved in crate grammar (proofs/Examples).
 use Prim.Native.Nat.{ℕ}
 use mathlib.Core.Path.{_≡_, refl}
 use mathlib.Core.Bool.{Bool, true, false, not, _&&_}
@@ -22,7 +23,7 @@ use Rattle.definitions.specs.Inheriting.{setOf, intraSet, gathered, sour
 use Rattle.definitions.specs.Answer.{namedAt, answerOf, answerType, addressesOf, unusedMotion, writtenFor, madeOf}
 use Rattle.definitions.specs.Refusals.{geometryTests, recordTests, addressesRead}
 use Rattle.definitions.specs.Calls.{macroblockTests, macroblockCall, madeAt, countsOf}
-use Rattle.definitions.specs.Text.{Entry, whole}
+use Rattle.definitions.specs.Text.{Entry, whole, BreaksAt}
 use Rattle.definitions.specs.Log.{digitsIn, decimal, lineOf, macroblockLine, syncLine, pictureLines, programTests, judged, baseOf, makes}
 use Rattle.definitions.specs.Geometry.{columnsRead}
 
@@ -126,6 +127,14 @@ wholeCase = record { horizontal = wholeAxis 48; vertical = wholeAxis 32 }
 abbrev pub wholeEntries : List Entry
 wholeEntries = record { kind = whole; fields = pos 0 ∷ minus 1 ∷ pos 4 ∷ minus 8 ∷ pos 0 ∷ pos 0 ∷ [] } ∷ []
 
+abbrev pub wholeText : List ℕ
+wholeText =
+    (40 ∷ 98 ∷ 97 ∷ 115 ∷ 101 ∷ 32 ∷ 49 ∷ 54 ∷ 32 ∷ 49 ∷ 54 ∷ 41 ∷ 10 ∷ [])
+    ++ ((40 ∷ 115 ∷ 99 ∷ 97 ∷ 108 ∷ 101 ∷ 100 ∷ 32 ∷ 51 ∷ 50 ∷ 32 ∷ 51 ∷ 50 ∷ 41 ∷ 10 ∷ [])
+    ++ ((40 ∷ 97 ∷ 116 ∷ 32 ∷ 48 ∷ 32 ∷ 48 ∷ 41 ∷ 10 ∷ [])
+    ++ ((40 ∷ 102 ∷ 117 ∷ 108 ∷ 108 ∷ 32 ∷ 52 ∷ 56 ∷ 32 ∷ 51 ∷ 50 ∷ 41 ∷ 10 ∷ [])
+    ++ (40 ∷ 119 ∷ 104 ∷ 111 ∷ 108 ∷ 101 ∷ 32 ∷ 40 ∷ 48 ∷ 32 ∷ 45 ∷ 49 ∷ 41 ∷ 32 ∷ 40 ∷ 52 ∷ 32 ∷ 45 ∷ 56 ∷ 32 ∷ 48 ∷ 32 ∷ 48 ∷ 41 ∷ 41 ∷ 10 ∷ []))))
+
 abbrev pub wholeLog : List ℕ
 wholeLog =
     (40 ∷ 109 ∷ 98 ∷ 32 ∷ 48 ∷ 32 ∷ 48 ∷ 32 ∷ 49 ∷ 32 ∷ 49 ∷ 41 ∷ 10 ∷ [])
@@ -139,3 +148,37 @@ wholeLog =
 pub whole-holds : judged wholeCase 1 (baseOf wholeEntries) ≡ makes wholeLog
 unfolding allOf allBelow pick upTo insideAxis mOf nOf fOf twoOf columnsRead digitsOf coordinateOf stepOf addressRead blockRead sameMotion samePrediction alike oneEach fewestIn recordAt motionOf splitSaid rule1 rule2 rule3 rule4 rule5 rule6 firstBroken laidOut setOf intraSet gathered source clearOf filled lower lowest having mergedList merged someOf liveOf copiedFrom copied resolved scaledPrediction scaledMotion inheritedMotions namedAt answerOf addressesOf writtenFor madeOf geometryTests recordTests ones onesIn madeAt countsOf digitsIn decimal lineOf macroblockLine syncLine pictureLines programTests
 whole-holds = refl
+
+-- Refusal 9: a text, and its place
+pub record Broken : Type 0 where
+  pub text : List ℕ
+  pub place : ℕ
+
+abbrev row : List ℕ → ℕ → Broken
+row t p = record { text = t; place = p }
+
+-- `(note ` and then t
+abbrev inNote : List ℕ → List ℕ
+inNote t = 40 ∷ 110 ∷ 111 ∷ 116 ∷ 101 ∷ 32 ∷ t
+
+abbrev pub broken : List Broken
+broken =
+    row [] 0  -- the text ends early
+    ∷ row (40 ∷ 98 ∷ 97 ∷ []) 3  -- (ba
+    ∷ row (40 ∷ 105 ∷ 110 ∷ []) 1  -- (in, before the first four lines
+    ∷ row (40 ∷ 110 ∷ 111 ∷ 116 ∷ 101 ∷ 115 ∷ 41 ∷ []) 5  -- (notes)
+    ∷ row (inNote (41 ∷ [])) 6  -- (note )
+    ∷ row (inNote (48 ∷ 49 ∷ 41 ∷ [])) 7  -- (note 01)
+    ∷ row (inNote (45 ∷ 48 ∷ 41 ∷ [])) 7  -- (note -0)
+    ∷ row (inNote (51 ∷ 50 ∷ 55 ∷ 54 ∷ 55 ∷ [])) 11  -- (note 32767, which goes on
+    ∷ row (inNote (51 ∷ 50 ∷ 55 ∷ 54 ∷ 56 ∷ [])) 10  -- (note 32768
+    ∷ row (inNote (45 ∷ 51 ∷ 50 ∷ 55 ∷ 54 ∷ 56 ∷ [])) 12  -- (note -32768, which goes on
+    ∷ row (inNote (57 ∷ 57 ∷ 57 ∷ 57 ∷ 57 ∷ [])) 10  -- (note 99999
+    ∷ row (inNote (40 ∷ 41 ∷ 41 ∷ [])) 7  -- (note ())
+    ∷ row (inNote (40 ∷ 40 ∷ 40 ∷ 40 ∷ 40 ∷ 40 ∷ 40 ∷ 97 ∷ [])) 14  -- (note (((((((a, which goes on
+    ∷ row (inNote (40 ∷ 40 ∷ 40 ∷ 40 ∷ 40 ∷ 40 ∷ 40 ∷ 40 ∷ [])) 13  -- (note ((((((((
+    ∷ []
+
+abbrev pub PlacesRight : List Broken → Type 0
+PlacesRight [] = Unit {0}
+PlacesRight (r ∷ rs) = BreaksAt (r .text) (r .place) × PlacesRight rs

@@ -1,5 +1,5 @@
 -- "Sync text and log" of document 01: the log of a text. Bytes are as in Text.
-use Prim.Native.Nat.{ℕ, zero, suc, _+_, _/_, _%_, _≤_, _<_}
+use Prim.Native.Nat.{ℕ, zero, suc, _+_, _*_, _/_, _%_, _≤_, _<_}
 use mathlib.Core.Path.{_≡_}
 use mathlib.Core.Bool.{not}
 use mathlib.Core.List.{List, [], _∷_, _++_, List·Memᴰ}
@@ -21,7 +21,7 @@ use Rattle.definitions.specs.Splits.{count}
 use Rattle.definitions.specs.Answer.{answerType}
 use Rattle.definitions.specs.Refusals.{refusal, Test, test, verdictOf, geometryTests, baseCount, recordTests, allAddresses}
 use Rattle.definitions.specs.Calls.{fullCount, columnAt, rowAt, madeAt, countsOf}
-use Rattle.definitions.specs.Text.{Entry, Text, BreaksAt, wordsOf, textRecords, textBytes}
+use Rattle.definitions.specs.Text.{Entry, Text, BreaksAt, wordsOf, textRecords, textBytes, Demand2Text}
 
 -- ---- Lines
 -- the decimal digits of n, no leading zero, if there are at most m
@@ -124,21 +124,28 @@ pub record LogOf (t log : List ℕ) : Type 0 where
 -- The log call is ours (document 01 has the program alone): the bytes of a text, and bytes to write its log into, as many as every log fits: 65,536 lines of at
 -- most 18 bytes, and a last one of at most 31. Fewer are refused by 6, tested first, and left as they are. Else the log stands first, the rest unchanged.
 abbrev pub logBytes : ℕ
-logBytes = 1179679
+logBytes = 65536 * 18 + 31
 
 pub data LogAnswer (t out : List ℕ) : LogReply → List ℕ → Type 0 where
   tooFew : length out < logBytes → LogAnswer t out (NotWritten (refusal 6)) out
   logged : {log : List ℕ} → logBytes ≤ length out → LogOf t log → LogAnswer t out (Written (length log)) (log ++ drop (length log) out)
 
 -- ---- Demand 2: "it is then refused only for what refusals 1 to 5 and 8 say of its numbers and its count of record lines"
--- Of a text that belongs to the grammar and keeps the limits: its log is a refusal exactly where one of these applies, and is then the first of them.
+-- Of a text that belongs to the grammar and keeps the limits: its log is a refusal exactly where one of these applies, and is then the first of them; and a log
+-- that has the bytes of a refusal has one of their numbers.
 pub record RefusedOnly (n : Numbers) (lines : ℕ) (base : List ℤ) (log : List ℕ) : Type 0 where
   pub refused : (r : Refusal) → verdictOf (programTests n lines base) ≡ Refused r → log ≡ refusedLine r
   pub numbers : (r : Refusal) → verdictOf (programTests n lines base) ≡ Refused r → List·Memᴰ (r .number) (1 ∷ 2 ∷ 3 ∷ 4 ∷ 5 ∷ 8 ∷ [])
   pub made : verdictOf (programTests n lines base) ≡ Accepted → log ≡ pictureLines (axesOf n) base
   pub no-refusal : verdictOf (programTests n lines base) ≡ Accepted → (r : Refusal) → log ≡ refusedLine r → ⊥
+  pub only : (r : Refusal) → log ≡ refusedLine r → List·Memᴰ (r .number) (1 ∷ 2 ∷ 3 ∷ 4 ∷ 5 ∷ 8 ∷ [])
 
 abbrev pub Demand2Log : Type 0
 Demand2Log =
     (t : List ℕ) (n : Numbers) (entries : List Entry) → Text n entries t → length t ≤ textBytes → length entries ≤ textRecords
     → (log : List ℕ) → LogOf t log → RefusedOnly n (length entries) (baseOf entries) log
+
+-- Demand 2 of texts: both halves
+pub record Demand2Entire : Type 0 where
+  pub text : Demand2Text
+  pub log : Demand2Log

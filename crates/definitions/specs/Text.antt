@@ -9,6 +9,7 @@ use lib.ListN.{length, take, drop}
 use lib.IntN.{ℤ, pos, negsuc}
 use Rattle.definitions.specs.declared.Motion.{Motion}
 use Rattle.definitions.specs.declared.Numbers.{Numbers}
+use Rattle.definitions.specs.declared.TextRead.{TextRead}
 use Rattle.definitions.specs.declared.TextReply.{TextReply}
 use Rattle.definitions.specs.declared.TextReply.the-variants.{Read, Refused}
 use Rattle.definitions.specs.Tests.{forEach}
@@ -226,3 +227,23 @@ pub data TextAnswer (t : List ℕ) (words : List ℤ) : TextReply → List ℤ �
   read :
       {n : Numbers} {entries : List Entry} → length words ≡ recordWords * textRecords → length t ≤ textBytes → Text n entries t → length entries ≤ textRecords
       → TextAnswer t words (Read (record { numbers = n; lines = length entries })) (forEach entries wordsOf ++ drop (recordWords * length entries) words)
+
+-- ---- Demand 2: "With words for 99 records lent, a text is read exactly when it belongs to document 01's grammar and keeps its limits"
+-- t belongs to the grammar with the numbers and the count of record lines of u, and keeps the limits
+pub record ReadAs (t : List ℕ) (u : TextRead) : Type 0 where
+  pub entries : List Entry
+  pub text : Text (u .numbers) entries t
+  pub lines : u .lines ≡ length entries
+  pub bytes-kept : length t ≤ textBytes
+  pub records-kept : length entries ≤ textRecords
+
+pub record ReadExactly (t : List ℕ) (words : List ℤ) (reply : TextReply) (new : List ℤ) : Type 0 where
+  pub then-read :
+      (n : Numbers) (entries : List Entry) → Text n entries t → length t ≤ textBytes → length entries ≤ textRecords
+      → (reply ≡ Read (record { numbers = n; lines = length entries })) × (new ≡ forEach entries wordsOf ++ drop (recordWords * length entries) words)
+  pub read-then : (u : TextRead) → reply ≡ Read u → ReadAs t u
+
+abbrev pub Demand2Text : Type 0
+Demand2Text =
+    (t : List ℕ) (words : List ℤ) (reply : TextReply) (new : List ℤ) → length words ≡ recordWords * textRecords
+    → TextAnswer t words reply new → ReadExactly t words reply new

@@ -1,16 +1,18 @@
--- The text call has one answer: the tests exclude each other, refusal 9 has one place, and a text one reading.
+-- The text call has one answer: the tests exclude each other, refusal 9 has one place, and a text one reading. Hence demand 2's first half (specs/Text).
 use Prim.Native.Nat.{ℕ, _*_}
-use mathlib.Core.Path.{_≡_, refl, ap}
+use mathlib.Core.Path.{_≡_, refl, ap, subst}
 use mathlib.Core.List.{List, _++_}
 use native.Mathlib.Omega.{arith}
 use lib.IntN.{ℤ}
 use lib.ListN.{length, drop}
 use Rattle.definitions.specs.declared.Numbers.{Numbers}
+use Rattle.definitions.specs.declared.Refusal.{Refusal}
+use Rattle.definitions.specs.declared.TextRead.{TextRead}
 use Rattle.definitions.specs.declared.TextReply.{TextReply}
 use Rattle.definitions.specs.declared.TextReply.the-variants.{Read, Refused}
 use Rattle.definitions.specs.Tests.{forEach}
 use Rattle.definitions.specs.Record.{recordWords}
-use Rattle.definitions.specs.Text.{Entry, Text, Belongs, wordsOf, TextAnswer, wrongWords, tooLong, broken, tooMany, read}
+use Rattle.definitions.specs.Text.{Entry, Text, Belongs, wordsOf, TextAnswer, wrongWords, tooLong, broken, tooMany, read, ReadAs, Demand2Text}
 use Rattle.definitions.proofs.Texts.{one-place}
 use Rattle.grammar.proofs.Runs.{one-reading}
 
@@ -54,4 +56,26 @@ one-answer {words = words} (read e l x k) (read f m y i) =
     record {
       reply = (λ (j : 𝕀). Read (record { numbers = a j; lines = length (b j) }));
       words = ap (λ (es : List Entry). forEach es wordsOf ++ drop (recordWords * length es) words) b;
+    }
+
+no-read : {A : Type 0} {r : Refusal} {u : TextRead} → Refused r ≡ Read u → A
+no-read e = absurd (let z : _≡_ {A = ℕ} 0 1 = cc in omega arith)
+
+same-read : {u v : TextRead} → Read u ≡ Read v → u ≡ v
+same-read e = cc
+
+read-as : {t : List ℕ} {words new : List ℤ} {reply : TextReply} {u : TextRead} → TextAnswer t words reply new → reply ≡ Read u → ReadAs t u
+read-as (wrongWords n) h = no-read h
+read-as (tooLong e l) h = no-read h
+read-as (broken e l b) h = no-read h
+read-as (tooMany e l x k) h = no-read h
+read-as {t} (read {entries = es} e l x k) h =
+    subst (ReadAs t) (same-read h) (record { entries = es; text = x; lines = refl; bytes-kept = l; records-kept = k })
+
+-- demand 2, the first half
+pub demand2-text : Demand2Text
+demand2-text t words reply new e a =
+    record {
+      then-read = λ n entries x l k. let s = one-answer a (read e l x k) in (s .reply, s .words);
+      read-then = λ u h. read-as a h;
     }

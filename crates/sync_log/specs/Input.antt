@@ -1,4 +1,4 @@
--- What is read of the input stands at the start of the buffer.
+-- What a reading of the input says of its buffer: no more bytes were read than it has. (Which bytes a read gave no contract can say.)
 use Prim.Native.Nat.{ℕ, _≤_}
 use mathlib.Core.List.{List}
 use lib.ListN.{length}

@@ -6,7 +6,7 @@ ghost use lib.ListN.{length};
 ghost use mathlib.Core.Path.{_≡_};
 use definitions::LogReply;
 
-// One byte more than the longest text, which tells a longer one.
+// One byte more than the longest text, which tells a longer one: of a longer input these bytes have the log of all (`first-bytes` of crate grammar).
 const TEXT_ROOM: usize = 65537;
 
 // The bytes that every log fits.

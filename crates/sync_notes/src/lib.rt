@@ -52,7 +52,7 @@ fn item(s: &[u8], at: usize, depth: usize) -> Got
             }
             list(s, at + 1, depth - 1)
         }
-        _ => Got::Bad(at),
+        _ => Got::Bad(at), // so no list is empty
     }
 }
 

@@ -1,4 +1,4 @@
--- The reply of a text that was judged and whose words are stored.
+-- The reply of a text that was judged and whose words are stored; and demand 2 of every answer.
 use Prim.Native.Nat.{ℕ, _≤_, _<_, _*_}
 use mathlib.Core.Path.{_≡_, sym}
 use mathlib.Core.List.{List}
@@ -6,11 +6,19 @@ use native.Mathlib.Omega.{arith}
 use lib.IntN.{ℤ}
 use lib.ListN.{length}
 use Rattle.definitions.specs.declared.Numbers.{Numbers}
+use Rattle.definitions.specs.declared.TextReply.{TextReply}
 use Rattle.definitions.specs.declared.TextReply.the-variants.{Read, Refused}
 use Rattle.definitions.specs.Record.{recordWords}
 use Rattle.definitions.specs.Refusals.{refusal}
-use Rattle.definitions.specs.Text.{textBytes, textRecords, TextAnswer, tooMany, read}
+use Rattle.definitions.specs.Text.{textBytes, textRecords, TextAnswer, tooMany, read, ReadExactly}
 use Rattle.grammar.specs.Promises.{AllStored, Judgement, Room}
+use Rattle.grammar.proofs.OneLog.{demand2}
+
+-- an answer with demand 2 of it: the contract's two parts
+pub answered :
+    {t : List ℕ} {words new : List ℤ} {reply : TextReply} → TextAnswer t words reply new
+    → TextAnswer t words reply new × (length words ≡ recordWords * textRecords → ReadExactly t words reply new)
+answered a = (a, λ e. demand2 .text _ _ _ _ e a)
 
 module _
     (t : List ℕ)

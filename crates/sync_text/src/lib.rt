@@ -1,6 +1,9 @@
 // The text call: it judges the whole text, and only then writes the words of its record lines.
+ghost use Prim.Native.Nat.{_*_};
 ghost use mathlib.Core.Path.{_≡_};
-ghost use Rattle.definitions.specs.Text.{TextAnswer};
+ghost use lib.ListN.{length};
+ghost use Rattle.definitions.specs.Record.{recordWords};
+ghost use Rattle.definitions.specs.Text.{ReadExactly, TextAnswer, textRecords};
 ghost use Rattle.grammar.specs.Promises.{AllStored, Room};
 use definitions::Refusal;
 use definitions::TextRead;
@@ -76,7 +79,8 @@ fn refused(number: u32, place: u32) -> TextReply
 // Text: the bytes, and the words of 99 records to write. It tests 6, then 10 by length, 9, and 10 by lines, and refused leaves every word. Else it
 // gives the geometry's numbers and the count of record lines, whose words stand first, the rest unchanged.
 pub fn read_text(bytes: &[u8], words: &mut [i16]) -> TextReply
-    ensures { λ r. ⌜ TextAnswer (now (bytes .entry)) (now (words .entry)) r (now (words .exit)) ⌝ }
+    ensures answer { λ r. ⌜ TextAnswer (now (bytes .entry)) (now (words .entry)) r (now (words .exit)) ⌝ }
+    ensures demand2 { λ r. ⌜ (length (now (words .entry)) ≡ recordWords * textRecords → ReadExactly (now (bytes .entry)) (now (words .entry)) r (now (words .exit))) ⌝ }
 {
     if words.len() != WORDS {
         return refused(WRONG_WORDS, 0);

@@ -1,5 +1,5 @@
 -- `sync_text::read_text` meets its contract. Assumes nothing.
-use Rattle.sync_text.proofs.Reply.{too-many, has-room, text-read}
+use Rattle.sync_text.proofs.Reply.{answered, too-many, has-room, text-read}
 use Rattle.definitions.specs.Text.{wrongWords, tooLong, broken}
 use borrow.Author.Needs.{needs}
 use Rattle.sync_text.proofs.read_text.Statement.{statement}
@@ -9,13 +9,13 @@ refused-requires : tie.Need-refused-requires
 refused-requires c κs = search needs
 
 returns : tie.Need-returns
-returns c = rw (c .refused .ensures) (wrongWords (c .before .if1 .taken))
+returns c = rw (c .refused .ensures) (answered (wrongWords (c .before .if1 .taken)))
 
 refused-requires-2 : tie.Need-refused-requires-2
 refused-requires-2 c κs = search needs
 
 returns-2 : tie.Need-returns-2
-returns-2 c = rw (c .refused2 .ensures) (tooLong (c .before .before .if1 .left) (c .before .if2 .taken))
+returns-2 c = rw (c .refused2 .ensures) (answered (tooLong (c .before .before .if1 .left) (c .before .if2 .taken)))
 
 judge-requires : tie.Need-judge-requires
 judge-requires c κs = search needs
@@ -32,7 +32,7 @@ returns-3 c =
     let j = rw (c .before .before .before .t .given .1) at (c .before .before .before .before .before .judge .ensures) in
     let e = c .before .before .before .before .before .before .before .if1 .left in
     let l = c .before .before .before .before .before .before .if2 .left in
-    rw (c .refused3 .ensures) (too-many (a .bytes .now) (a .words .now) _ _ _ e l j (c .before .if3 .taken))
+    rw (c .refused3 .ensures) (answered (too-many (a .bytes .now) (a .words .now) _ _ _ e l j (c .before .if3 .taken)))
 
 cast-count : tie.Need-cast-count
 cast-count c = search needs
@@ -67,14 +67,14 @@ returns-4 c =
     let j = rw (c .before .before .before .before .before .t .given .1) at (c .before .before .before .before .before .before .before .judge .ensures) in
     let e = c .before .before .before .before .before .before .before .before .before .if1 .left in
     let l = c .before .before .before .before .before .before .before .before .if2 .left in
-    text-read (a .bytes .now) (a .words .now) _ _ _ e l j (c .before .before .before .if3 .left) _ (c .before .store-records .ensures)
+    answered (text-read (a .bytes .now) (a .words .now) _ _ _ e l j (c .before .before .before .if3 .left) _ (c .before .store-records .ensures))
 
 returns-5 : tie.Need-returns-5
 returns-5 c =
     let j = rw (c .before .before .t2 .given .1) at (c .before .before .before .before .judge .ensures) in
     let e = c .before .before .before .before .before .before .if1 .left in
     let l = c .before .before .before .before .before .if2 .left in
-    rw (c .refused4 .ensures) (broken e l j)
+    rw (c .refused4 .ensures) (answered (broken e l j))
 
 pub read-text-spec : {M : Type 1} → statement M
 read-text-spec =
