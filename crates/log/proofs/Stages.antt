@@ -24,17 +24,19 @@ use Rattle.definitions.specs.Geometry.{axesOf}
 use Rattle.definitions.specs.Record.{recordWords}
 use Rattle.definitions.specs.Refusals.{refusal, verdictOf, geometryTests, geometryVerdict, baseCount, recordTests, allAddresses}
 use Rattle.definitions.specs.Text.{textRecords, TextAnswer, wrongWords, tooLong, broken, tooMany, read}
-use Rattle.definitions.specs.Log.{Finding, refuses, makes, findingBy, programTests, judged, baseOf, pictureLines, Finds, tooLong as findsTooLong, broken as findsBroken, tooMany as findsTooMany, read as findsRead, LogOf, logFor, lineOf, refusedWord, refusedLine, logBytes, LogAnswer, tooFew, logged}
+use Rattle.definitions.specs.Log.{Finding, refuses, makes, findingBy, programTests, judged, baseOf, pictureLines, Finds, tooLong as findsTooLong, broken as findsBroken, tooMany as findsTooMany, read as findsRead, LogOf, logFor, lineOf, refusedWord, refusedLine, logBytes, LogAnswer, tooFew, logged, RefusedOnly}
 use Rattle.definitions.proofs.Choices.{of-true}
 use Rattle.definitions.proofs.Verdicts.{both-passed}
 use Rattle.definitions.proofs.Accepted.{accepted-axes}
 use Rattle.definitions.proofs.Lines.{digits5, refused-short}
 use Rattle.definitions.proofs.Findings.{numbers-wrong, count-wrong, count-right, RefusedBy, by-number, by-record, refused-by}
 use Rattle.grammar.proofs.Words.{text-words}
+use Rattle.grammar.proofs.OneLog.{demand2}
 use Rattle.upsample.specs.Staged.{AcceptedAxes}
 use Rattle.log_lines.specs.Put.{Fits, Put}
 use Rattle.log_picture.proofs.Growing.{picture-short}
 use Rattle.log.specs.Given.{Given, kept, lines}
+use Rattle.log.specs.Promised.{LogPromised}
 
 -- ---- bytes put from the buffer's start on
 pub put-first : (out log new : List ℕ) (n : ℕ) → length log ≤ length out → Put out 0 log new n → (n ≡ length log) × (new ≡ log ++ drop (length log) out)
@@ -167,6 +169,15 @@ log-fits {t} {log} h = subst (λ (o : List ℕ). length o ≤ logBytes) (sym (h 
     by (makes made) x = finds-short x refl
 
 -- ---- the log call
+-- an answer with demand 2 of it: the contract's two parts
+promised : {t out new : List ℕ} {reply : LogReply} → LogAnswer t out reply new → LogPromised t reply new
+promised (tooFew l) = tt
+promised {t} {out} (logged {log = log} room h) = λ n entries x l k.
+    subst (RefusedOnly n (length entries) (baseOf entries)) (sym (take-at log (drop (length log) out) (length log) refl)) (demand2 .log t n entries x l k log h)
+
+pub answered : {t out new : List ℕ} {reply : LogReply} → LogAnswer t out reply new → LogAnswer t out reply new × LogPromised t reply new
+answered a = (a, promised a)
+
 -- lines were given
 pub lines-logged : {t out new : List ℕ} {f : Finding} {reply : LogReply} {n : ℕ} → logBytes ≤ length out → Finds t f → Given out f reply new → reply ≡ Written n → LogAnswer t out (Written n) new
 lines-logged room x kept e = absurd (let z : _≡_ {A = ℕ} 0 1 = cc in omega arith)

@@ -4,6 +4,7 @@ ghost use Rattle.definitions.specs.Log.{LogAnswer, judged, logBytes, refusedLin
 ghost use Rattle.definitions.specs.Record.{recordWords};
 ghost use Rattle.log_lines.specs.Put.{Put};
 ghost use Rattle.log.specs.Given.{Given, TextGiven};
+ghost use Rattle.log.specs.Promised.{LogPromised};
 ghost use lib.ListN.{length};
 ghost use mathlib.Core.Path.{_≡_};
 use definitions::LogReply;
@@ -76,7 +77,8 @@ fn refused_line(out: &mut [u8], r: Refusal) -> usize
 
 // The log call: the bytes of a text, and bytes to write its log into. It gives the length of the log; refused for too few bytes, it writes none.
 pub fn log(text: &[u8], out: &mut [u8]) -> LogReply
-    ensures { λ r. ⌜ LogAnswer (now (text .entry)) (now (out .entry)) r (now (out .exit)) ⌝ }
+    ensures answer { λ r. ⌜ LogAnswer (now (text .entry)) (now (out .entry)) r (now (out .exit)) ⌝ }
+    ensures demand2 { λ r. ⌜ LogPromised (now (text .entry)) r (now (out .exit)) ⌝ }
 {
     if out.len() < LOG_BYTES {
         return LogReply::Refused(refused(6));

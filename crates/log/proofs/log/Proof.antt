@@ -3,7 +3,7 @@ use native.Mathlib.Omega.{arith}
 use mathlib.Core.Path.{ap}
 use lib.ListN.{length}
 use Rattle.definitions.specs.Log.{tooFew}
-use Rattle.log.proofs.Stages.{lines-logged, refusal-kept, refusal-logged}
+use Rattle.log.proofs.Stages.{answered, lines-logged, refusal-kept, refusal-logged}
 use borrow.Author.Needs.{needs}
 use Rattle.log.proofs.log.Statement.{statement}
 use Rattle.log.proofs.log.Tie as tie
@@ -12,7 +12,7 @@ refused-requires : tie.Need-refused-requires
 refused-requires c κs = search needs
 
 returns : tie.Need-returns
-returns c = rw (c .refused .ensures) (tooFew (c .before .if1 .taken))
+returns c = rw (c .refused .ensures) (answered (tooFew (c .before .if1 .taken)))
 
 text-lines-requires : tie.Need-text-lines-requires
 text-lines-requires c κs = search needs
@@ -36,7 +36,7 @@ same-length c = search needs
 returns-2 : tie.Need-returns-2
 returns-2 c =
     let t = c .before .before .before .before .before .text-lines .ensures in
-    lines-logged (c .before .before .before .before .before .before .before .if1 .left) (t .finds) (t .given) (c .before .n .given .1)
+    answered (lines-logged (c .before .before .before .before .before .before .before .if1 .left) (t .finds) (t .given) (c .before .n .given .1))
 
 same-length-2 : tie.Need-same-length-2
 same-length-2 c = search needs
@@ -44,7 +44,7 @@ same-length-2 c = search needs
 returns-3 : tie.Need-returns-3
 returns-3 c =
     let t = c .before .before .before .before .before .before .before .before .before .text-lines .ensures in
-    refusal-logged (c .before .before .before .before .before .before .before .before .before .before .before .if1 .left) (refusal-kept (t .finds) (t .given) (c .before .before .before .before .before .r .given .1)) (c .before .before .refused-line .ensures)
+    answered (refusal-logged (c .before .before .before .before .before .before .before .before .before .before .before .if1 .left) (refusal-kept (t .finds) (t .given) (c .before .before .before .before .before .r .given .1)) (c .before .before .refused-line .ensures))
 
 pub log-spec : {M : Type 1} → statement M
 log-spec =

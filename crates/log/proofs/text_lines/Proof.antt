@@ -10,7 +10,7 @@ use Rattle.log.proofs.text_lines.Tie as tie
 
 -- the words of the record lines
 words-of : (c : tie.After-t) → ReadWords (c .before .before .before .before .before .before .before .args .text .now) (c .t .given .0 .0 .numbers) (c .t .given .0 .0 .lines) (c .before .before .before .read-text .last .1 .0)
-words-of c = words-read (length-replicate 7623 (pos 0)) (c .before .before .before .read-text .ensures) (c .t .given .1)
+words-of c = words-read (length-replicate 7623 (pos 0)) (c .before .before .before .read-text .ensures .0) (c .t .given .1)
 
 slice-aggregate-read-text : tie.Need-slice-aggregate-read-text
 slice-aggregate-read-text c = search needs
@@ -46,7 +46,7 @@ returns : tie.Need-returns
 returns c = record { finding = _; finds = words-of (c .before .before .before .before .before .before .before) .finds; given = c .before .before .read-lines .ensures }
 
 returns-2 : tie.Need-returns-2
-returns-2 c = record { finding = _; finds = refused-read (length-replicate 7623 (pos 0)) (c .before .before .before .before .read-text .ensures) (c .before .r .given .1); given = kept }
+returns-2 c = record { finding = _; finds = refused-read (length-replicate 7623 (pos 0)) (c .before .before .before .before .read-text .ensures .0) (c .before .r .given .1); given = kept }
 
 pub text-lines-spec : {M : Type 1} → statement M
 text-lines-spec =

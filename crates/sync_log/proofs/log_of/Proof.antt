@@ -17,13 +17,13 @@ same-length : tie.Need-same-length
 same-length c = search needs
 
 returns : tie.Need-returns
-returns c = rw (c .before .n .given .1) at (c .before .before .before .before .before .log .ensures)
+returns c = rw (c .before .n .given .1) at (c .before .before .before .before .before .log .ensures .0)
 
 same-length-2 : tie.Need-same-length-2
 same-length-2 c = search needs
 
 returns-2 : tie.Need-returns-2
-returns-2 c = never-refused (c .before .before .before .before .before .before .before .before .pre) (c .before .before .before .before .log .ensures) (c .enum-told .given .1)
+returns-2 c = never-refused (c .before .before .before .before .before .before .before .before .pre) (c .before .before .before .before .log .ensures .0) (c .enum-told .given .1)
 
 pub log-of-spec : {M : Type 1} → statement M
 log-of-spec =
