@@ -163,20 +163,30 @@ SpiewomirJudged spiewomir_session_abandon(SpiewomirSession session);
  * refused. */
 SpiewomirTotals spiewomir_session_totals(SpiewomirSession session);
 
-/* Reads a sync text. `words` has 7623 words, those of 99 records. Refusals 6, then
- * 10 by length, then 9, then 10 by lines; nothing else is judged: the geometry's
- * numbers and the records' words are those that stand in the text, fit for
+/* A sync text has one bracket form a line, a line feed after each, items parted by
+ * one space: (base W H), (scaled W H), (at X Y), (full W H) in that order, then a
+ * line for each base record in raster order: (intra), or (whole (R0 R1)
+ * (X0 Y0 X1 Y1)), which is type 1 with this motion in all blocks, or (mb T
+ * (4 sub-types) (8 references) (64 vector words)), the record's words. Numbers are
+ * -32768..32767, with no leading zero and no -0. Between lines and at both ends may
+ * stand lines (note ..) of any count, none included, of words of letters a to z,
+ * numbers, and lists of one or more of the same, to depth 8 with the note at 1.
+ *
+ * Reads one. `words` has 7623 words, those of 99 records. Refusals 6, then 10 by
+ * length, then 9, then 10 by lines; nothing else is judged: the geometry's numbers
+ * and the records' words are those that stand in the text, fit for
  * spiewomir_picture or not. Read, the words of the record lines stand first in
  * `words`, 77 for each line in the text's order, and the rest is as it was. */
 SpiewomirText spiewomir_text(const uint8_t *text, size_t text_len, int16_t *words, size_t words_len);
 
 /* Writes the log of a sync text. `log` has 1179679 bytes or more; fewer are refused
- * by 6, which is judged first. Every text then has a log: a line (mb column row
- * type pieces) for each macroblock in raster order and (sync macroblocks inherited
- * intra outside), or only (refused number place) by 10 for the length, 9, 10 for
- * the lines, 1 to 5, and 8 on all records. Each line ends in a line feed. The log
- * stands first in `log`, `bytes` long with no zero after it, and the rest is as it
- * was. */
+ * by 6. Every text then has a log, a refused one too: a line (mb column row type
+ * pieces) for each macroblock in raster order, pieces being 0 for types 0 and 5,
+ * then (sync macroblocks inherited intra outside); or only (refused number place)
+ * for the first that applies of 10 by length, 9, 10 by lines, 1 to 5 (5: record
+ * lines too few or many), and 8 on all records. Each line ends in a line feed. The
+ * log stands first in `log`, `bytes` long with no zero put after it, and the rest is
+ * as it was. */
 SpiewomirLog spiewomir_log(const uint8_t *text, size_t text_len, uint8_t *log, size_t log_len);
 
 #ifdef __cplusplus

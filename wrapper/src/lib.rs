@@ -3,7 +3,8 @@
 //!
 //! Records, refusals and answers are those of document 01. No call asks
 //! anything of its caller: it judges what it is lent, and a refused call leaves
-//! every lent word and byte as it was. `numbers` has the same calls with plain numbers.
+//! every lent word and byte as it was. `numbers` has the same calls with plain
+//! numbers.
 
 pub mod numbers;
 
