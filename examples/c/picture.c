@@ -46,14 +46,13 @@ int main(int argc, char **argv) {
         free(out);
         return refused(p.refusal, p.place, p.rule);
     }
-    printf("inherited %u intra %u outside %u\n", p.inherited, p.intra, p.outside);
-
     /* one record of it */
     long column = strtol(argv[1], NULL, 10), row = strtol(argv[2], NULL, 10);
     if (column < 0 || row < 0 || (size_t)column >= columns || (size_t)row >= rows) {
         free(out);
         return refused(SPIEWOMIR_REFUSED_POSITION, 0, 0);
     }
+    printf("inherited %u intra %u outside %u\n", p.inherited, p.intra, p.outside);
     const int16_t *record = out + ((size_t)row * columns + (size_t)column) * SPIEWOMIR_WORDS;
     for (int i = 0; i < SPIEWOMIR_WORDS; i++) printf("%d%c", record[i], i + 1 < SPIEWOMIR_WORDS ? ' ' : '\n');
     free(out);
