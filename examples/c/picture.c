@@ -46,6 +46,7 @@ int main(int argc, char **argv) {
         free(out);
         return refused(p.refusal, p.place, p.rule);
     }
+
     /* one record of it */
     long column = strtol(argv[1], NULL, 10), row = strtol(argv[2], NULL, 10);
     if (column < 0 || row < 0 || (size_t)column >= columns || (size_t)row >= rows) {
