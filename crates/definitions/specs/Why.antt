@@ -1,5 +1,5 @@
--- Why the rounding of step 4 is right, and why the block map is. WhyEntire gathers the reasons, and proofs/Why shows them. No other definition cites
--- these.
+-- Why the rounding of step 4 is right, and why what the block map reads belongs to the block: the two overlap. (That alone does not single out a digit of the map;
+-- proofs/Map has its other laws.) WhyEntire gathers these reasons, and proofs/Why shows them. No other definition cites them.
 use Prim.Native.Nat.{ℕ, _+_, _*_, _-_, _<_, _≤_}
 use mathlib.Core.Path.{_≡_}
 use lib.IntN.{ℤ, pos, negℤ, natAbs, _*ℤ_, _-ℤ_}
