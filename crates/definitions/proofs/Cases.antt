@@ -27,7 +27,7 @@ use Rattle.definitions.specs.Answer.{namedAt, answerOf, addressesOf, wri
 use Rattle.definitions.specs.Refusals.{geometryTests, geometryVerdict, baseCount, recordTests, addressesRead}
 use Rattle.definitions.specs.Calls.{Outcome, macroblockTests, macroblockCall, fullCount, pictureTests, madeAt, countsOf, pictureCall}
 use Rattle.definitions.specs.Demand3.{SinglyGives}
-use Rattle.definitions.specs.Examples.{centred, intraRecord, wholeRecord, allButLast, wholeCase}
+use Rattle.definitions.specs.Examples.{centred, intraRecord, wholeRecord, onlyLast, allButLast, wholeCase}
 use Rattle.definitions.specs.Cases.{blank, Concrete, first, doubledRecord, outsideRecord, counts, Cases}
 use Rattle.definitions.proofs.Choices.{below-true}
 use Rattle.definitions.proofs.Demand.{call-accepted, gives-made, counted-accepted, record-made, demand3}
@@ -63,42 +63,41 @@ concrete n column row base answer written counts accepted size formed x y singly
       counted = refl;
     }
 
--- ---- document 01's whole case
-whole-formed : allBelow 1 (λ a. wellFormed (recordAt wholeRecord a)) ≡ true
-unfolding allOf allBelow pick upTo sameMotion samePrediction alike oneEach recordAt motionOf splitSaid rule1 rule2 rule3 rule4 rule5 rule6 firstBroken laidOut
-whole-formed = refl
+-- ---- what computes: the whole case, and the starred macroblock with base 0, 1 and 2 intra and with only base 3 intra
+pub record Computed : Type 0 where
+  pub whole-formed : allBelow 1 (λ a. wellFormed (recordAt wholeRecord a)) ≡ true
+  pub whole-first : SinglyGives wholeCase 0 0 (blank 1) wholeRecord (Inherited (first Corner) S16x16) doubledRecord
+  pub whole-outside : SinglyGives wholeCase 2 0 (blank 1) wholeRecord Outside outsideRecord
+  pub whole-counted : pictureCall wholeCase wholeRecord (blank 6) .reply ≡ Counted (counts 4 0 2)
+  pub filled-formed : allBelow 4 (λ a. wellFormed (recordAt onlyLast a)) ≡ true
+  pub filled-center : SinglyGives centred 1 1 (blank 1) onlyLast (Inherited (first Center) S16x16) wholeRecord
+  pub filled-counted : pictureCall centred onlyLast (blank 16) .reply ≡ Counted (counts 1 0 15)
+  pub intra-formed : allBelow 4 (λ a. wellFormed (recordAt allButLast a)) ≡ true
+  pub intra-center : SinglyGives centred 1 1 (blank 1) allButLast (Intra (first Center)) intraRecord
+  pub intra-counted : pictureCall centred allButLast (blank 16) .reply ≡ Counted (counts 0 1 15)
 
-whole-first : SinglyGives wholeCase 0 0 (blank 1) wholeRecord (Inherited (first Corner) S16x16) doubledRecord
-unfolding allOf allBelow pick upTo insideAxis mOf nOf fOf twoOf columnsRead digitsOf coordinateOf stepOf addressRead blockRead sameMotion samePrediction alike oneEach fewestIn recordAt motionOf splitSaid rule1 rule2 rule3 rule4 rule5 rule6 firstBroken laidOut setOf intraSet gathered source clearOf filled lower lowest having mergedList merged someOf liveOf copiedFrom copied resolved scaledPrediction scaledMotion inheritedMotions namedAt answerOf addressesOf writtenFor madeOf geometryTests recordTests addressesRead macroblockTests macroblockCall ones onesIn
-whole-first = refl
-
-whole-outside : SinglyGives wholeCase 2 0 (blank 1) wholeRecord Outside outsideRecord
-unfolding pick upTo insideAxis laidOut answerOf writtenFor madeOf geometryTests recordTests addressesRead macroblockTests macroblockCall
-whole-outside = refl
-
-pub whole-counted : pictureCall wholeCase wholeRecord (blank 6) .reply ≡ Counted (counts 4 0 2)
-unfolding allOf allBelow pick upTo insideAxis mOf nOf fOf twoOf columnsRead digitsOf coordinateOf stepOf addressRead blockRead sameMotion samePrediction alike oneEach fewestIn recordAt motionOf splitSaid rule1 rule2 rule3 rule4 rule5 rule6 firstBroken laidOut setOf intraSet gathered source clearOf filled lower lowest having mergedList merged someOf liveOf copiedFrom copied resolved scaledPrediction scaledMotion inheritedMotions namedAt answerOf addressesOf writtenFor madeOf geometryTests recordTests pictureTests madeAt countsOf pictureCall ones onesIn
-whole-counted = refl
-
--- ---- the starred macroblock
-centred-formed : allBelow 4 (λ a. wellFormed (recordAt allButLast a)) ≡ true
-unfolding allOf allBelow pick upTo sameMotion samePrediction alike oneEach recordAt motionOf splitSaid rule1 rule2 rule3 rule4 rule5 rule6 firstBroken laidOut
-centred-formed = refl
-
-centred-intra : SinglyGives centred 1 1 (blank 1) allButLast (Intra (first Center)) intraRecord
-unfolding allOf allBelow pick upTo insideAxis mOf nOf fOf twoOf columnsRead digitsOf coordinateOf stepOf addressRead blockRead sameMotion samePrediction alike oneEach fewestIn recordAt motionOf splitSaid rule1 rule2 rule3 rule4 rule5 rule6 firstBroken laidOut setOf intraSet gathered source clearOf filled lower lowest having mergedList merged someOf liveOf copiedFrom copied resolved scaledPrediction scaledMotion inheritedMotions namedAt answerOf addressesOf writtenFor madeOf geometryTests recordTests addressesRead macroblockTests macroblockCall ones onesIn
-centred-intra = refl
-
-centred-counted : pictureCall centred allButLast (blank 16) .reply ≡ Counted (counts 0 1 15)
-unfolding allOf allBelow pick upTo insideAxis mOf nOf fOf twoOf columnsRead digitsOf coordinateOf stepOf addressRead blockRead sameMotion samePrediction alike oneEach fewestIn recordAt motionOf splitSaid rule1 rule2 rule3 rule4 rule5 rule6 firstBroken laidOut setOf intraSet gathered source clearOf filled lower lowest having mergedList merged someOf liveOf copiedFrom copied resolved scaledPrediction scaledMotion inheritedMotions namedAt answerOf addressesOf writtenFor madeOf geometryTests recordTests pictureTests madeAt countsOf pictureCall ones onesIn
-centred-counted = refl
+pub computed : Computed
+unfolding allOf allBelow pick upTo insideAxis mOf nOf fOf twoOf columnsRead digitsOf coordinateOf stepOf addressRead blockRead sameMotion samePrediction alike oneEach fewestIn recordAt motionOf splitSaid rule1 rule2 rule3 rule4 rule5 rule6 firstBroken laidOut setOf intraSet gathered source clearOf filled lower lowest having mergedList merged someOf liveOf copiedFrom copied resolved scaledPrediction scaledMotion inheritedMotions namedAt answerOf addressesOf writtenFor madeOf geometryTests recordTests addressesRead macroblockTests macroblockCall ones onesIn pictureTests madeAt countsOf pictureCall
+computed = record {
+  whole-formed = refl;
+  whole-first = refl;
+  whole-outside = refl;
+  whole-counted = refl;
+  filled-formed = refl;
+  filled-center = refl;
+  filled-counted = refl;
+  intra-formed = refl;
+  intra-center = refl;
+  intra-counted = refl;
+}
 
 pub cases : Cases
 unfolding pick upTo laidOut geometryTests
 cases = record {
-  inherited = concrete wholeCase 0 0 wholeRecord _ _ _ refl refl whole-formed refl refl whole-first whole-counted;
-  outside = concrete wholeCase 2 0 wholeRecord _ _ _ refl refl whole-formed refl refl whole-outside whole-counted;
-  others = λ base l. demand3 .singly wholeCase 2 0 (blank 1) wholeRecord Outside outsideRecord whole-outside .others base l (λ a m. absurd (List·Memᴰ·not-nil m));
-  by-calls = picture-by-singly wholeCase wholeRecord (blank 6) (counts 4 0 2) (λ a. blank 1) whole-counted (λ a h. refl);
-  intra = concrete centred 1 1 allButLast _ _ _ refl refl centred-formed refl refl centred-intra centred-counted;
+  inherited = concrete wholeCase 0 0 wholeRecord _ _ _ refl refl (computed .whole-formed) refl refl (computed .whole-first) (computed .whole-counted);
+  outside = concrete wholeCase 2 0 wholeRecord _ _ _ refl refl (computed .whole-formed) refl refl (computed .whole-outside) (computed .whole-counted);
+  others = λ base l. demand3 .singly wholeCase 2 0 (blank 1) wholeRecord Outside outsideRecord (computed .whole-outside) .others base l (λ a m. absurd (List·Memᴰ·not-nil m));
+  by-calls = picture-by-singly wholeCase wholeRecord (blank 6) (counts 4 0 2) (λ a. blank 1) (computed .whole-counted) (λ a h. refl);
+  filled = concrete centred 1 1 onlyLast _ _ _ refl refl (computed .filled-formed) refl refl (computed .filled-center) (computed .filled-counted);
+  intra = concrete centred 1 1 allButLast _ _ _ refl refl (computed .intra-formed) refl refl (computed .intra-center) (computed .intra-counted);
 }

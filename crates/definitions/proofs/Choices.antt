@@ -2,7 +2,7 @@
 use Prim.Native.Nat.{ℕ, zero, suc, _<_}
 use mathlib.Core.Path.{_≡_, refl, ap, _∙_}
 use mathlib.Core.Bool.{Bool, true, false, _&&_, _||_}
-use mathlib.Core.List.{List, [], _∷_, _++_, List·Memᴰ, List·Memᴰ·head, List·Memᴰ·tail, List·Memᴰ·cases-cons, List·Memᴰ·not-nil}
+use mathlib.Core.List.{List, [], _∷_, _++_, List·Memᴰ, List·Memᴰ·cases-cons, List·Memᴰ·not-nil}
 use mathlib.Core.Logic.{_⊎_, inl, inr, ⊎-elim}
 use native.Mathlib.Nat.{eq-or-lt-of-le, le-of-suc-le-suc, not-suc-le-zero}
 use native.Mathlib.Omega.{arith}
@@ -110,17 +110,6 @@ of-true f [] e m = absurd (List·Memᴰ·not-nil m)
 of-true f (y ∷ ys) e m =
     let both = and-true (f y) (allOf f ys) e in
     ⊎-elim (λ p. ap f p ∙ both .0) (λ t. of-true f ys (both .1) t) (List·Memᴰ·cases-cons m)
-
-pub of-intro : {A : Type 0} (f : A → Bool) (l : List A) → ((x : A) → List·Memᴰ x l → f x ≡ true) → allOf f l ≡ true
-unfolding allOf
-of-intro f [] h = refl
-of-intro f (y ∷ ys) h = and-intro (h y (List·Memᴰ·head refl)) (of-intro f ys (λ x m. h x (List·Memᴰ·tail m)))
-
-pub of-at : {A : Type 0} (f : A → Bool) (l : List A) → allOf f l ≡ true → (k : ℕ) (d : A) → k < length l → f (getD l k d) ≡ true
-unfolding allOf
-of-at f [] e k d h = absurd (not-suc-le-zero h)
-of-at f (y ∷ ys) e zero d h = and-true (f y) (allOf f ys) e .0
-of-at f (y ∷ ys) e (suc k) d h = of-at f ys (and-true (f y) (allOf f ys) e .1) k d (le-of-suc-le-suc h)
 
 -- ---- upTo
 pub upTo-length : {A : Type 0} (n : ℕ) (f : ℕ → A) → length (upTo n f) ≡ n

@@ -1,22 +1,16 @@
 -- Laws of the blocks of a macroblock and of a record's layout: its words in the list of records, reading back what is laid out, the split that it says. Assumes nothing.
 use Prim.Native.Nat.{ℕ, _+_, _*_, _/_, _%_, _<_, _≤_}
-use mathlib.Core.Path.{_≡_, refl, ap, _∙_, subst}
+use mathlib.Core.Path.{_≡_, refl, _∙_, subst}
 use mathlib.Core.List.{List, [], _∷_}
 use native.Mathlib.Nat.{div-add-mod}
 use native.Mathlib.Omega.{arith}
 use lib.IntN.{ℤ, pos}
 use lib.ListN.{length, getD, take, drop, length-take, length-drop}
-use lib.Seq.{getD-take, getD-drop}
 use Rattle.definitions.specs.declared.Motion.{Motion}
-use Rattle.definitions.specs.declared.SubSplit.{SubSplit}
-use Rattle.definitions.specs.declared.SubSplit.the-variants.{S8x8, S8x4, S4x8, S4x4}
-use Rattle.definitions.specs.declared.Split.{Split}
-use Rattle.definitions.specs.declared.Split.the-variants.{S16x16, S16x8, S8x16, S8x8 as Quarters}
-use Rattle.definitions.specs.Tests.{pick, upTo}
+use Rattle.definitions.specs.Tests.{upTo}
 use Rattle.definitions.specs.Splits.{quadrantOf, placeOf, rasterOf}
-use Rattle.definitions.specs.Record.{recordWords, recordAt, wordOf, typeOf, subTypeOf, referenceOf, vectorXOf, vectorYOf, motionOf, typeNumber, subTypeNumber, subSplitOf, splitSaid, laidOut}
+use Rattle.definitions.specs.Record.{recordWords, recordAt, typeOf, subTypeOf, referenceOf, vectorXOf, vectorYOf, motionOf, laidOut}
 use Rattle.definitions.specs.Inheriting.{at, motionAt}
-use Rattle.definitions.specs.Answer.{subTypes}
 use Rattle.definitions.proofs.Choices.{each}
 
 -- ---- Blocks
@@ -66,10 +60,6 @@ module _ (base : List ℤ) (a : ℕ) where
   pub record-part : (n : ℕ) → n ≡ recordWords → take n (drop (recordWords * a) base) ≡ recordAt base a
   unfolding recordAt
   record-part n e = rw e
-
-  pub record-word : (w : ℕ) → w < recordWords → wordOf (recordAt base a) w ≡ getD base (recordWords * a + w) (pos 0)
-  unfolding recordAt
-  record-word w h = rw (getD-take, getD-drop)
 
 -- ---- Reading back what is laid out
 -- what a record says of a quadrant's references, and of a block's vectors
@@ -125,29 +115,3 @@ module _ (type : ℕ) (sub : ℕ → ℕ) (m : ℕ → Motion) where
   laid-motion b h e f =
       let refs = laid-references (quadrantOf b) (omega arith) in
       motion-is (laidOut type sub m) b (m b) (refs .0 ∙ e, refs .1 ∙ f) (laid-vectors b h)
-
--- ---- The split that a record says
-sub-said : (s : SubSplit) → subSplitOf (pos (subTypeNumber s)) ≡ s
-unfolding pick
-sub-said S8x8 = refl
-sub-said S8x4 = refl
-sub-said S4x8 = refl
-sub-said S4x4 = refl
-
--- a record that begins with a split's numbers says that split
-pub split-said :
-    (r : List ℤ) (s : Split) → typeOf r ≡ pos (typeNumber s) → ((q : ℕ) → q < 4 → subTypeOf r q ≡ pos (getD (subTypes s) q 0)) → splitSaid r ≡ s
-unfolding splitSaid pick
-split-said r S16x16 t subs = rw t
-split-said r S16x8 t subs = rw t
-split-said r S8x16 t subs = rw t
-split-said r (Quarters s) t subs =
-    let says : (q : ℕ) (x : SubSplit) → q < 4 → getD (subTypes (Quarters s)) q 0 ≡ subTypeNumber x → subSplitOf (subTypeOf r q) ≡ x =
-    λ q x h e. ap subSplitOf (subs q h ∙ ap pos e) ∙ sub-said x in
-    rw t (λ i. Quarters (record { a = says 0 (s .a) (omega arith) refl i; b = says 1 (s .b) (omega arith) refl i; c = says 2 (s .c) (omega arith) refl i; d = says 3 (s .d) (omega arith) refl i }))
-
--- and so does one that is laid out with them
-pub laid-split : (s : Split) (m : ℕ → Motion) → splitSaid (laidOut (typeNumber s) (λ q. getD (subTypes s) q 0) m) ≡ s
-laid-split s m =
-    let sub : ℕ → ℕ = λ q. getD (subTypes s) q 0 in
-    split-said (laidOut (typeNumber s) sub m) s (laid-type (typeNumber s) sub m) (laid-sub-type (typeNumber s) sub m)

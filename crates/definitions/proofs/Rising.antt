@@ -1,5 +1,5 @@
 -- The addresses that a call checks rise, so that the first malformed record is the lowest (RecordsJudged of specs/Refusals, LowestRefused
--- of specs/Calls). Assumes nothing.
+-- of specs/Calls, LowestInProgram of specs/Log). Assumes nothing.
 use Prim.Native.Nat.{ℕ, zero, suc, _+_, _<_}
 use mathlib.Core.Path.{_≡_, refl, sym, ap, subst, _∙_}
 use mathlib.Core.Bool.{Bool, true, false, not, false≢true}
@@ -22,6 +22,7 @@ use Rattle.definitions.specs.BlockMap.{baseAddress}
 use Rattle.definitions.specs.Answer.{namedAt, columnsOf, rowsOf, addressesOf}
 use Rattle.definitions.specs.Refusals.{Test, verdictOf, geometryTests, geometryVerdict, baseTest, outputTest, positionTest, recordTest, recordTests, addressesRead, allAddresses, LowestMalformed, Rising, RecordsJudged}
 use Rattle.definitions.specs.Calls.{macroblockTests, macroblockCall, fullCount, pictureTests, pictureCall, LowestRefused}
+use Rattle.definitions.specs.Log.{linesTest, programTests, LowestInProgram}
 use Rattle.definitions.proofs.Choices.{yes, no, pick-cases}
 use Rattle.definitions.proofs.Verdicts.{refused-later, reply-refused}
 use Rattle.definitions.proofs.Accepted.{across-inside, down-inside}
@@ -157,3 +158,10 @@ lowest-refused = record {
       let g = axesOf n in
       lowest-behind n base (baseTest g base ∷ outputTest (fullCount g) words ∷ []) (allAddresses g) r refl (λ v. records-judged .all-rise g) eight (not-made n base words r e);
 }
+
+-- ---- and in the program
+pub lowest-in-program : LowestInProgram
+unfolding programTests allOf
+lowest-in-program n lines base r e eight =
+    let g = axesOf n in
+    lowest-behind n base (linesTest g lines ∷ []) (allAddresses g) r refl (λ v. records-judged .all-rise g) eight e

@@ -2,7 +2,7 @@
 use Prim.Native.Nat.{ℕ, zero, suc, _+_, _*_, _/_, _≤_, _<_}
 use mathlib.Core.Path.{_≡_, refl, sym, _∙_, ap}
 use mathlib.Core.Bool.{Bool, true, false, _&&_}
-use mathlib.Core.List.{List, [], _∷_}
+use mathlib.Core.List.{List, []}
 use native.Mathlib.Nat.{le-div-iff-mul-le, div-mul-le-self, mul-le-mul-right, le-antisymm}
 use native.Mathlib.Omega.{arith}
 use lib.Dec.{ltb}
@@ -11,12 +11,11 @@ use borrow.Author.Tests.{ltb-true, ltb-false}
 use Rattle.definitions.specs.declared.Axes.{Axes}
 use Rattle.definitions.specs.declared.Prediction.{Prediction}
 use Rattle.definitions.specs.declared.Motion.{Motion}
-use Rattle.definitions.specs.declared.Split.{Split}
 use Rattle.definitions.specs.declared.Split.the-variants.{S8x8 as Quarters}
-use Rattle.definitions.specs.Tests.{pick, minus, allOf, four}
+use Rattle.definitions.specs.Tests.{pick, minus, four}
 use Rattle.definitions.specs.Geometry.{baseSize, scaledSize}
 use Rattle.definitions.specs.Accepted.{Sized}
-use Rattle.definitions.specs.Splits.{sameMotion, alike, oneEach, pieces}
+use Rattle.definitions.specs.Splits.{sameMotion}
 use Rattle.definitions.specs.Inheriting.{at, scaledWord, scaledPrediction, scaledMotion, chosen}
 use Rattle.definitions.proofs.Motions.{motion-true, motion-same}
 use Rattle.definitions.proofs.Shapes.{cut, samePairs, shapeOf, quadrantShape, shapesOf, allWhole, joined, splitOf}
@@ -68,11 +67,6 @@ both-ways true t f g = sym (f refl)
 both-ways false true f g = g refl
 both-ways false false f g = refl
 
-of-same : {A : Type 0} (f g : A → Bool) → ((x : A) → f x ≡ g x) → (l : List A) → allOf f l ≡ allOf g l
-unfolding allOf
-of-same f g h [] = refl
-of-same f g h (x ∷ xs) = let a = h x in let b = of-same f g h xs in λ i. a i && b i
-
 module _ (g : Axes) (h : Sized (baseSize (g .horizontal)) (scaledSize (g .horizontal))) (v : Sized (baseSize (g .vertical)) (scaledSize (g .vertical))) where
   prediction-apart : (p q : Prediction) → scaledPrediction g p ≡ scaledPrediction g q → p ≡ q
   unfolding scaledPrediction
@@ -95,15 +89,6 @@ module _ (g : Axes) (h : Sized (baseSize (g .horizontal)) (scaledSize (g .horizo
       both-ways (sameMotion (scaledMotion g m) (scaledMotion g n)) (sameMotion m n)
       (λ e. motion-same m n (motion-apart m n (motion-true (scaledMotion g m) (scaledMotion g n) e)))
       (λ e. motion-same (scaledMotion g m) (scaledMotion g n) (ap (scaledMotion g) (motion-true m n e)))
-
-  pub one-scaled : (m : ℕ → Motion) (s : Split) → oneEach (λ i. scaledMotion g (m i)) s ≡ oneEach m s
-  unfolding oneEach alike
-  one-scaled m s = of-same (alike (λ i. scaledMotion g (m i))) (alike m) alike-scaled (pieces s)
-    where
-      alike-scaled : (p : List ℕ) → alike (λ i. scaledMotion g (m i)) p ≡ alike m p
-      alike-scaled [] = refl
-      alike-scaled (i ∷ is) =
-          of-same (λ j. sameMotion (scaledMotion g (m j)) (scaledMotion g (m i))) (λ j. sameMotion (m j) (m i)) (λ j. same-scaled (m j) (m i)) is
 
   -- so the same split is chosen
   shape-scaled : (a b c d : Motion) → shapeOf (scaledMotion g a) (scaledMotion g b) (scaledMotion g c) (scaledMotion g d) ≡ shapeOf a b c d

@@ -22,11 +22,11 @@ use Rattle.definitions.specs.Calls.{macroblockTests, macroblockCall}
 use Rattle.definitions.specs.Examples.{wholeRecord, wholeCase}
 use Rattle.definitions.specs.Session.{Call, begin, next, abandon, totals, fresh, beginVerdict, abandonVerdict, nextCall, Exchange, beginGave, nextGave, abandonGave, totalsGave, exchange, stateNext, exchanges, AsPicture}
 use Rattle.definitions.specs.Cases.{blank, counts}
-use Rattle.definitions.proofs.Cases.{whole-counted}
+use Rattle.definitions.proofs.Cases.{computed}
 use Rattle.definitions.proofs.SessionPicture.{picture-by-session}
 
 pub whole-session : AsPicture fresh wholeCase wholeRecord (blank 6) (counts 4 0 2) (λ a. blank 1)
-whole-session = picture-by-session fresh wholeCase wholeRecord (blank 6) (counts 4 0 2) (λ a. blank 1) refl whole-counted (λ a h. refl)
+whole-session = picture-by-session fresh wholeCase wholeRecord (blank 6) (counts 4 0 2) (λ a. blank 1) refl (computed .whole-counted) (λ a h. refl)
 
 -- the number of a refusal; 0 where the call is accepted
 abbrev verdictNumber : Verdict → ℕ

@@ -15,7 +15,7 @@ use Rattle.definitions.specs.declared.TextReply.{TextReply}
 use Rattle.definitions.specs.declared.TextReply.the-variants.{Read, Refused}
 use Rattle.definitions.specs.Record.{recordWords, typeOf, subTypeOf, motionOf}
 use Rattle.definitions.specs.Answer.{unusedMotion}
-use Rattle.definitions.specs.Text.{Belongs, CanGoOn, BreaksAt, intra, whole, wordsFor, TextAnswer, wrongWords, tooLong, broken, tooMany, read}
+use Rattle.definitions.specs.Text.{Belongs, CanGoOn, BreaksAt, intra, whole, wordsFor, TextAnswer, wrongWords, refused, given}
 use Rattle.definitions.proofs.Records.{laid-length, laid-type, laid-sub-type, laid-motion}
 
 -- ---- The place
@@ -47,10 +47,8 @@ Kept (Refused r) old new = new ≡ old
 
 kept : {t : List ℕ} {old : List ℤ} {r : TextReply} {new : List ℤ} → TextAnswer t old r new → Kept r old new
 kept (wrongWords n) = refl
-kept (tooLong e l) = refl
-kept (broken e l b) = refl
-kept (tooMany e l x k) = refl
-kept (read e l x k) = tt
+kept (refused e x) = refl
+kept (given e x) = tt
 
 pub refused-keeps : {t : List ℕ} {old : List ℤ} {r : Refusal} {new : List ℤ} → TextAnswer t old (Refused r) new → new ≡ old
 refused-keeps h = kept h

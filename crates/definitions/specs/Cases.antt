@@ -19,7 +19,7 @@ use Rattle.definitions.specs.Inheriting.{unused}
 use Rattle.definitions.specs.Answer.{unusedMotion}
 use Rattle.definitions.specs.Calls.{fullCount, AsSingly}
 use Rattle.definitions.specs.Demand3.{SinglyGives, PictureGives, Case}
-use Rattle.definitions.specs.Examples.{centred, intraRecord, wholeRecord, allButLast, wholeCase}
+use Rattle.definitions.specs.Examples.{centred, intraRecord, wholeRecord, onlyLast, allButLast, wholeCase}
 
 -- the words of some records, to lend
 abbrev pub blank : ℕ → List ℤ
@@ -55,5 +55,7 @@ pub record Cases : Type 0 where
   pub others : (base : List ℤ) → length base ≡ recordWords → SinglyGives wholeCase 2 0 (blank 1) base Outside outsideRecord
   -- the picture by one-macroblock calls;
   pub by-calls : AsSingly wholeCase wholeRecord (blank 6) (counts 4 0 2) (λ a. blank 1)
-  -- the starred macroblock at 16,16, with only base 3 intra.
+  -- the starred macroblock at 16,16, with base 0, 1 and 2 intra, which is filled from base 3,
+  pub filled : Concrete centred 1 1 onlyLast (Inherited (first Center) S16x16) wholeRecord (counts 1 0 15)
+  -- and with only base 3 intra.
   pub intra : Concrete centred 1 1 allButLast (Intra (first Center)) intraRecord (counts 0 1 15)

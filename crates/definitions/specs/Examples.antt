@@ -23,8 +23,8 @@ use Rattle.definitions.specs.Inheriting.{setOf, intraSet, gathered, sour
 use Rattle.definitions.specs.Answer.{namedAt, answerOf, answerType, addressesOf, unusedMotion, writtenFor, madeOf}
 use Rattle.definitions.specs.Refusals.{geometryTests, recordTests, addressesRead}
 use Rattle.definitions.specs.Calls.{macroblockTests, macroblockCall, madeAt, countsOf}
-use Rattle.definitions.specs.Text.{Entry, whole, BreaksAt}
-use Rattle.definitions.specs.Log.{digitsIn, decimal, lineOf, macroblockLine, syncLine, pictureLines, programTests, judged, baseOf, makes}
+use Rattle.definitions.specs.Text.{Entry, whole, BreaksAt, baseOf}
+use Rattle.definitions.specs.Log.{digitsIn, decimal, lineOf, macroblockLine, syncLine, pictureLines, programTests, judged, makes}
 use Rattle.definitions.specs.Geometry.{columnsRead}
 
 -- what an axis gives for a macroblock: outside, or M, N, F and whether two columns are read
@@ -84,7 +84,7 @@ intraRecord = laidOut 0 (λ q. 0) (λ b. unusedMotion)
 abbrev pub wholeRecord : List ℤ
 wholeRecord = laidOut 1 (λ q. 0) (λ b. record { list0 = record { reference = pos 0; x = pos 4; y = minus 8 }; list1 = unused })
 
-abbrev onlyLast : List ℤ
+abbrev pub onlyLast : List ℤ
 onlyLast = intraRecord ++ (intraRecord ++ (intraRecord ++ wholeRecord))
 
 abbrev pub allButLast : List ℤ

@@ -19,9 +19,9 @@ use Rattle.definitions.specs.Tests.{pick, upTo, forEach}
 use Rattle.definitions.specs.Geometry.{axesOf}
 use Rattle.definitions.specs.Splits.{count}
 use Rattle.definitions.specs.Answer.{answerType}
-use Rattle.definitions.specs.Refusals.{refusal, Test, test, verdictOf, geometryTests, baseCount, recordTests, allAddresses}
+use Rattle.definitions.specs.Refusals.{refusal, Test, test, verdictOf, geometryTests, baseCount, recordTests, allAddresses, LowestMalformed}
 use Rattle.definitions.specs.Calls.{fullCount, columnAt, rowAt, madeAt, countsOf}
-use Rattle.definitions.specs.Text.{Entry, Text, BreaksAt, wordsOf, textRecords, textBytes, Demand2Text}
+use Rattle.definitions.specs.Text.{Entry, Text, baseOf, textRecords, textBytes, Reading, notRead, readAs, Reads, Demand2Text}
 
 -- ---- Lines
 -- the decimal digits of n, no leading zero, if there are at most m
@@ -84,6 +84,12 @@ programTests n lines base =
     let g = axesOf n in
     geometryTests n ++ (linesTest g lines ∷ recordTests base (allAddresses g))
 
+-- 8 of these has the lowest malformed address of all records.
+abbrev pub LowestInProgram : Type 0
+LowestInProgram =
+    (n : Numbers) (lines : ℕ) (base : List ℤ) (r : Refusal) → verdictOf (programTests n lines base) ≡ Refused r → r .number ≡ 8
+    → LowestMalformed base (allAddresses (axesOf n)) r
+
 -- a refusal, or the lines of the picture
 pub data Finding : Type 0 where
   refuses : Refusal → Finding
@@ -97,18 +103,10 @@ findingBy (Refused r) lines = refuses r
 abbrev pub judged : Numbers → ℕ → List ℤ → Finding
 judged n lines base = findingBy (verdictOf (programTests n lines base)) (pictureLines (axesOf n) base)
 
--- the words of the record lines
-abbrev pub baseOf : List Entry → List ℤ
-baseOf entries = forEach entries wordsOf
-
 -- The program tests the length by 10, then 9, then the record lines by 10, then 1 to 5, then 8 on all records.
-pub data Finds (t : List ℕ) : Finding → Type 0 where
-  tooLong : textBytes < length t → Finds t (refuses (refusal 10))
-  broken : {place : ℕ} → length t ≤ textBytes → BreaksAt t place → Finds t (refuses (record { number = 9; place = place; rule = 0 }))
-  tooMany : {n : Numbers} {entries : List Entry} → length t ≤ textBytes → Text n entries t → textRecords < length entries → Finds t (refuses (refusal 10))
-  read :
-      {n : Numbers} {entries : List Entry} → length t ≤ textBytes → Text n entries t → length entries ≤ textRecords
-      → Finds t (judged n (length entries) (baseOf entries))
+abbrev pub findingOf : Reading → Finding
+findingOf (notRead r) = refuses r
+findingOf (readAs n entries) = judged n (length entries) (baseOf entries)
 
 -- ---- The log
 -- A refusal writes only (refused number place).
@@ -117,9 +115,9 @@ logFor (refuses r) = refusedLine r
 logFor (makes lines) = lines
 
 pub record LogOf (t log : List ℕ) : Type 0 where
-  pub finding : Finding
-  pub finds : Finds t finding
-  pub is : log ≡ logFor finding
+  pub reading : Reading
+  pub reads : Reads t reading
+  pub is : log ≡ logFor (findingOf reading)
 
 -- The log call is ours (document 01 has the program alone): the bytes of a text, and bytes to write its log into, as many as every log fits: 65,536 lines of at
 -- most 18 bytes, and a last one of at most 31. Fewer are refused by 6, tested first, and left as they are. Else the log stands first, the rest unchanged.

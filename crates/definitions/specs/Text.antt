@@ -9,6 +9,7 @@ use lib.ListN.{length, take, drop}
 use lib.IntN.{ℤ, pos, negsuc}
 use Rattle.definitions.specs.declared.Motion.{Motion}
 use Rattle.definitions.specs.declared.Numbers.{Numbers}
+use Rattle.definitions.specs.declared.Refusal.{Refusal}
 use Rattle.definitions.specs.declared.TextRead.{TextRead}
 use Rattle.definitions.specs.declared.TextReply.{TextReply}
 use Rattle.definitions.specs.declared.TextReply.the-variants.{Read, Refused}
@@ -206,27 +207,37 @@ wordsFor mb v = v
 abbrev pub wordsOf : Entry → List ℤ
 wordsOf e = wordsFor (e .kind) (e .fields)
 
--- ---- Text: the bytes, and the words of 99 records to write
+-- the words of record lines, one record after the other
+abbrev pub baseOf : List Entry → List ℤ
+baseOf entries = forEach entries wordsOf
+
+-- ---- What becomes of a text: it is refused, or it is read as the geometry's numbers and its record lines
 abbrev pub textRecords : ℕ
 textRecords = 99
 
 abbrev pub textBytes : ℕ
 textBytes = 65536
 
--- What the call hands back, and the words afterwards. It tests 6, then 10 by length, 9, and 10 by lines, and refused leaves every word; else it gives the
--- geometry's numbers and the count of record lines, whose words stand first, the rest unchanged.
+pub data Reading : Type 0 where
+  notRead : Refusal → Reading
+  readAs : Numbers → List Entry → Reading
+
+-- 10 by length, then 9, then 10 by lines: the text call and the program both test in this order.
+pub data Reads (t : List ℕ) : Reading → Type 0 where
+  tooLong : textBytes < length t → Reads t (notRead (refusal 10))
+  broken : {place : ℕ} → length t ≤ textBytes → BreaksAt t place → Reads t (notRead (record { number = 9; place = place; rule = 0 }))
+  tooMany : {n : Numbers} {entries : List Entry} → length t ≤ textBytes → Text n entries t → textRecords < length entries → Reads t (notRead (refusal 10))
+  read : {n : Numbers} {entries : List Entry} → length t ≤ textBytes → Text n entries t → length entries ≤ textRecords → Reads t (readAs n entries)
+
+-- ---- Text: the bytes, and the words of 99 records to write
+-- What the call hands back, and the words afterwards. It tests 6 first, and refused leaves every word; else it gives the geometry's numbers and the count of
+-- record lines, whose words stand first, the rest unchanged.
 pub data TextAnswer (t : List ℕ) (words : List ℤ) : TextReply → List ℤ → Type 0 where
   wrongWords : (length words ≡ recordWords * textRecords → ⊥) → TextAnswer t words (Refused (refusal 6)) words
-  tooLong : length words ≡ recordWords * textRecords → textBytes < length t → TextAnswer t words (Refused (refusal 10)) words
-  broken :
-      {place : ℕ} → length words ≡ recordWords * textRecords → length t ≤ textBytes → BreaksAt t place
-      → TextAnswer t words (Refused (record { number = 9; place = place; rule = 0 })) words
-  tooMany :
-      {n : Numbers} {entries : List Entry} → length words ≡ recordWords * textRecords → length t ≤ textBytes → Text n entries t → textRecords < length entries
-      → TextAnswer t words (Refused (refusal 10)) words
-  read :
-      {n : Numbers} {entries : List Entry} → length words ≡ recordWords * textRecords → length t ≤ textBytes → Text n entries t → length entries ≤ textRecords
-      → TextAnswer t words (Read (record { numbers = n; lines = length entries })) (forEach entries wordsOf ++ drop (recordWords * length entries) words)
+  refused : {r : Refusal} → length words ≡ recordWords * textRecords → Reads t (notRead r) → TextAnswer t words (Refused r) words
+  given :
+      {n : Numbers} {entries : List Entry} → length words ≡ recordWords * textRecords → Reads t (readAs n entries)
+      → TextAnswer t words (Read (record { numbers = n; lines = length entries })) (baseOf entries ++ drop (recordWords * length entries) words)
 
 -- ---- Demand 2: "With words for 99 records lent, a text is read exactly when it belongs to document 01's grammar and keeps its limits"
 -- t belongs to the grammar with the numbers and the count of record lines of u, and keeps the limits
@@ -240,7 +251,7 @@ pub record ReadAs (t : List ℕ) (u : TextRead) : Type 0 where
 pub record ReadExactly (t : List ℕ) (words : List ℤ) (reply : TextReply) (new : List ℤ) : Type 0 where
   pub then-read :
       (n : Numbers) (entries : List Entry) → Text n entries t → length t ≤ textBytes → length entries ≤ textRecords
-      → (reply ≡ Read (record { numbers = n; lines = length entries })) × (new ≡ forEach entries wordsOf ++ drop (recordWords * length entries) words)
+      → (reply ≡ Read (record { numbers = n; lines = length entries })) × (new ≡ baseOf entries ++ drop (recordWords * length entries) words)
   pub read-then : (u : TextRead) → reply ≡ Read u → ReadAs t u
 
 abbrev pub Demand2Text : Type 0

@@ -1,15 +1,15 @@
 -- The examples of a text (specs/Examples of crate definitions): refusal 9's place, by one statement over the table, and the Whole case from its text to its log. The machine
 -- computes each.
 use Prim.Native.Nat.{ℕ, _+_}
-use mathlib.Core.Path.{_≡_, refl, subst}
+use mathlib.Core.Path.{_≡_, refl, sym, ap, subst}
 use mathlib.Core.Bool.{Bool, true, false, _&&_, cond}
 use mathlib.Core.List.{List, [], _∷_}
 use native.Mathlib.Omega.{arith}
 use lib.Dec.{T, ltb, leb}
 use lib.ListN.{length}
 use borrow.Author.Tests.{ltb-true, ltb-false, leb-true}
-use Rattle.definitions.specs.Text.{BreaksAt}
-use Rattle.definitions.specs.Log.{makes, Finds, read, LogOf}
+use Rattle.definitions.specs.Text.{BreaksAt, readAs, read}
+use Rattle.definitions.specs.Log.{logFor, LogOf}
 use Rattle.definitions.specs.Examples.{wholeCase, wholeEntries, wholeText, wholeLog, whole-holds, Broken, broken, PlacesRight}
 use Rattle.grammar.specs.Machine.{Cfg, dead, live, step, stepK, δ, classOf, runs, stateAt, Alive, Waiting}
 use Rattle.grammar.specs.Promises.{Ended}
@@ -101,7 +101,7 @@ pub whole-log : LogOf wholeText wholeLog
 unfolding runs step stepK δ classOf
 whole-log =
     record {
-      finding = makes wholeLog;
-      finds = subst (Finds wholeText) whole-holds (read (leb-true _ _ refl) (ends-text-as wholeCase wholeEntries refl) (leb-true _ _ refl));
-      is = refl;
+      reading = readAs wholeCase wholeEntries;
+      reads = read (leb-true _ _ refl) (ends-text-as wholeCase wholeEntries refl) (leb-true _ _ refl);
+      is = sym (ap logFor whole-holds);
     }

@@ -16,7 +16,7 @@ use borrow.Author.Tests.{le-leb, lt-leb, eq-eqb, ne-eqb}
 use Rattle.grammar.specs.declared.Class.{Class}
 use Rattle.grammar.specs.declared.Class.the-variants.{Alpha, Nought, Nonzero, Dash, Open, Close, Space, Other}
 use Rattle.grammar.proofs.Class as class
-use Rattle.grammar.specs.Machine.{Follow, gap, shut, inList, Sym, lit, first, letters, rest, field, dashed, zeroed, figures, line, Ev, num, Delta, halt, go, limit, signed, lits, noteTail, choose, classOf, shuts, gaps, grow, opens, push, δc, δ, stepK, Cfg, dead, live, enter, step, stateAt, Waiting}
+use Rattle.grammar.specs.Machine.{Follow, gap, shut, inList, Sym, lit, first, letters, rest, field, dashed, zeroed, figures, Ev, num, Delta, halt, go, limit, signed, lits, noteTail, choose, classOf, shuts, gaps, grow, opens, push, δc, δ, stepK, Cfg, dead, live, enter, step, stateAt, Waiting}
 use Rattle.grammar.specs.declared.Num.{Num}
 use Rattle.grammar.specs.declared.Num.the-variants.{Value, Wrong}
 use Rattle.grammar.specs.declared.Got.{Got}

@@ -23,8 +23,8 @@ use Rattle.definitions.specs.Tests.{allOf}
 use Rattle.definitions.specs.Geometry.{axesOf}
 use Rattle.definitions.specs.Record.{recordWords}
 use Rattle.definitions.specs.Refusals.{refusal, verdictOf, geometryTests, geometryVerdict, baseCount, recordTests, allAddresses}
-use Rattle.definitions.specs.Text.{textRecords, TextAnswer, wrongWords, tooLong, broken, tooMany, read}
-use Rattle.definitions.specs.Log.{Finding, refuses, makes, findingBy, programTests, judged, baseOf, pictureLines, Finds, tooLong as findsTooLong, broken as findsBroken, tooMany as findsTooMany, read as findsRead, LogOf, logFor, lineOf, refusedWord, refusedLine, logBytes, LogAnswer, tooFew, logged, RefusedOnly}
+use Rattle.definitions.specs.Text.{Entry, baseOf, textRecords, Reading, notRead, readAs, Reads, tooLong, broken, tooMany, read, TextAnswer, wrongWords, refused, given}
+use Rattle.definitions.specs.Log.{Finding, refuses, makes, findingBy, programTests, judged, findingOf, pictureLines, LogOf, logFor, lineOf, refusedWord, refusedLine, logBytes, LogAnswer, tooFew, logged, RefusedOnly}
 use Rattle.definitions.proofs.Choices.{of-true}
 use Rattle.definitions.proofs.Verdicts.{both-passed}
 use Rattle.definitions.proofs.Accepted.{accepted-axes}
@@ -90,15 +90,15 @@ pub record ReadWords (t : List ℕ) (n : Numbers) (count : ℕ) (words : List �
   pub few : count ≤ textRecords
   pub within : recordWords * count ≤ length words
   pub long : length (take (recordWords * count) words) ≡ recordWords * count
-  pub finds : Finds t (judged n count (take (recordWords * count) words))
+  pub entries : List Entry
+  pub reads : Reads t (readAs n entries)
+  pub finding : findingOf (readAs n entries) ≡ judged n count (take (recordWords * count) words)
 
 pub words-read : {t : List ℕ} {old words : List ℤ} {reply : TextReply} {u : TextRead} → length old ≡ recordWords * textRecords
     → TextAnswer t old reply words → reply ≡ Read u → ReadWords t (u .numbers) (u .lines) words
 words-read e (wrongWords d) q = absurd (d e)
-words-read e (tooLong f l) q = absurd (let z : _≡_ {A = ℕ} 0 1 = cc in omega arith)
-words-read e (broken f l b) q = absurd (let z : _≡_ {A = ℕ} 0 1 = cc in omega arith)
-words-read e (tooMany f l x k) q = absurd (let z : _≡_ {A = ℕ} 0 1 = cc in omega arith)
-words-read {t} {old} {u = u} e (read {n = m} {entries = entries} f l x k) q =
+words-read e (refused f x) q = absurd (let z : _≡_ {A = ℕ} 0 1 = cc in omega arith)
+words-read {t} {old} {u = u} e (given {n = m} {entries = entries} f (read l x k)) q =
     let same : record { numbers = m; lines = length entries } ≡ u = cc in
     let a : m ≡ u .numbers = ap (λ (v : TextRead). v .numbers) same in
     let c : length entries ≡ u .lines = ap (λ (v : TextRead). v .lines) same in
@@ -109,18 +109,16 @@ words-read {t} {old} {u = u} e (read {n = m} {entries = entries} f l x k) q =
       few = omega arith;
       within = omega (arith, length-append (baseOf entries) (drop (recordWords * length entries) old));
       long = ap length w ∙ many;
-      finds = subst (Finds t) (λ i. judged (a i) (c i) (sym w i)) (findsRead l x k);
+      entries = entries;
+      reads = subst (λ (i : Numbers). Reads t (readAs i entries)) a (read l x k);
+      finding = λ i. judged (u .numbers) (c i) (sym w i);
     }
 
 pub refused-read : {t : List ℕ} {old words : List ℤ} {reply : TextReply} {r : Refusal} → length old ≡ recordWords * textRecords
-    → TextAnswer t old reply words → reply ≡ NotRead r → Finds t (refuses r)
+    → TextAnswer t old reply words → reply ≡ NotRead r → Reads t (notRead r)
 refused-read e (wrongWords d) q = absurd (d e)
-refused-read {t} {r = r} e (tooLong f l) q = let z : refusal 10 ≡ r = cc in subst (λ (s : Refusal). Finds t (refuses s)) z (findsTooLong l)
-refused-read {t} {r = r} e (broken {place = p} f l b) q =
-    let z : record { number = 9; place = p; rule = 0 } ≡ r = cc in
-    subst (λ (s : Refusal). Finds t (refuses s)) z (findsBroken l b)
-refused-read {t} {r = r} e (tooMany f l x k) q = let z : refusal 10 ≡ r = cc in subst (λ (s : Refusal). Finds t (refuses s)) z (findsTooMany l x k)
-refused-read e (read f l x k) q = absurd (let z : _≡_ {A = ℕ} 0 1 = cc in omega arith)
+refused-read {t} {r = r} e (refused {r = s} f x) q = let z : s ≡ r = cc in subst (λ (s : Refusal). Reads t (notRead s)) z x
+refused-read e (given f x) q = absurd (let z : _≡_ {A = ℕ} 0 1 = cc in omega arith)
 
 -- ---- the log
 -- a refusal's numbers are small
@@ -140,33 +138,31 @@ unfolding allOf
 by-low l (by-number {k = k} m) = (ltb-true k 100 (of-true (λ x. ltb x 100) (1 ∷ 2 ∷ 3 ∷ 4 ∷ 5 ∷ []) refl m), omega arith)
 by-low l (by-record h) = (omega arith, omega arith)
 
-finds-low : {t : List ℕ} {f : Finding} {r : Refusal} → Finds t f → f ≡ refuses r → Low r
-finds-low {r = r} (findsTooLong l) e = let z : refusal 10 ≡ r = cc in subst Low z (omega arith, omega arith)
-finds-low {r = r} (findsBroken {place = p} l b) e =
+reads-low : {t : List ℕ} {v : Reading} {r : Refusal} → Reads t v → findingOf v ≡ refuses r → Low r
+reads-low {r = r} (tooLong l) e = let z : refusal 10 ≡ r = cc in subst Low z (omega arith, omega arith)
+reads-low {r = r} (broken {place = p} l b) e =
     let w = b .within in
     let z : record { number = 9; place = p; rule = 0 } ≡ r = cc in
     subst Low z (omega arith, omega arith)
-finds-low {r = r} (findsTooMany l x k) e = let z : refusal 10 ≡ r = cc in subst Low z (omega arith, omega arith)
-finds-low {r = r} (findsRead {n = n} {entries = entries} l x k) e =
+reads-low {r = r} (tooMany l x k) e = let z : refusal 10 ≡ r = cc in subst Low z (omega arith, omega arith)
+reads-low {r = r} (read {n = n} {entries = entries} l x k) e =
     by-low k (refused-by (length entries) n (baseOf entries) r (finding-refused (verdictOf (programTests n (length entries) (baseOf entries))) (pictureLines (axesOf n) (baseOf entries)) r e))
 
 -- every log fits
-finds-short : {t : List ℕ} {f : Finding} {log : List ℕ} → Finds t f → f ≡ makes log → length log ≤ logBytes
+finding-short : (v : Reading) {log : List ℕ} → findingOf v ≡ makes log → length log ≤ logBytes
 unfolding programTests
-finds-short (findsTooLong l) e = absurd (let z : _≡_ {A = ℕ} 0 1 = cc in omega arith)
-finds-short (findsBroken l b) e = absurd (let z : _≡_ {A = ℕ} 0 1 = cc in omega arith)
-finds-short (findsTooMany l x k) e = absurd (let z : _≡_ {A = ℕ} 0 1 = cc in omega arith)
-finds-short {log = log} (findsRead {n = n} {entries = entries} l x k) e =
+finding-short (notRead r) e = absurd (let z : _≡_ {A = ℕ} 0 1 = cc in omega arith)
+finding-short (readAs n entries) {log} e =
     let h = finding-made (verdictOf (programTests n (length entries) (baseOf entries))) (pictureLines (axesOf n) (baseOf entries)) log e in
     let both = accepted-axes n (both-passed (geometryTests n) _ (h .0) .0) in
     subst (λ (o : List ℕ). length o ≤ logBytes) (h .1) (picture-short (axesOf n) (baseOf entries) (record { horizontal = both .0; vertical = both .1 }))
 
 pub log-fits : {t log : List ℕ} → LogOf t log → length log ≤ logBytes
-log-fits {t} {log} h = subst (λ (o : List ℕ). length o ≤ logBytes) (sym (h .is)) (by (h .finding) (h .finds))
+log-fits h = subst (λ (o : List ℕ). length o ≤ logBytes) (sym (h .is)) (by (findingOf (h .reading)) refl)
   where
-    by : (f : Finding) → Finds t f → length (logFor f) ≤ logBytes
-    by (refuses r) x = let l = finds-low x refl in omega (arith, refused-short r (l .0) (l .1))
-    by (makes made) x = finds-short x refl
+    by : (f : Finding) → findingOf (h .reading) ≡ f → length (logFor f) ≤ logBytes
+    by (refuses r) e = let l = reads-low (h .reads) e in omega (arith, refused-short r (l .0) (l .1))
+    by (makes made) e = finding-short (h .reading) e
 
 -- ---- the log call
 -- an answer with demand 2 of it: the contract's two parts
@@ -179,29 +175,33 @@ pub answered : {t out new : List ℕ} {reply : LogReply} → LogAnswer t out rep
 answered a = (a, promised a)
 
 -- lines were given
-pub lines-logged : {t out new : List ℕ} {f : Finding} {reply : LogReply} {n : ℕ} → logBytes ≤ length out → Finds t f → Given out f reply new → reply ≡ Written n → LogAnswer t out (Written n) new
-lines-logged room x kept e = absurd (let z : _≡_ {A = ℕ} 0 1 = cc in omega arith)
-lines-logged {t} {out} room x (lines {log = log}) e =
-    subst (λ (k : ℕ). LogAnswer t out (Written k) (log ++ drop (length log) out)) (cc) (logged room (record { finding = makes log; finds = x; is = refl }))
+pub lines-logged : {t out new : List ℕ} {v : Reading} {f : Finding} {reply : LogReply} {n : ℕ} → logBytes ≤ length out
+    → Reads t v → findingOf v ≡ f → Given out f reply new → reply ≡ Written n → LogAnswer t out (Written n) new
+lines-logged room x is kept e = absurd (let z : _≡_ {A = ℕ} 0 1 = cc in omega arith)
+lines-logged {t} {out} room x is (lines {log = log}) e =
+    subst (λ (k : ℕ). LogAnswer t out (Written k) (log ++ drop (length log) out)) (cc) (logged room (record { reading = _; reads = x; is = sym (ap logFor is) }))
 
 -- a refusal was given, and its line is put
 pub record Kept (t out : List ℕ) (r : Refusal) (mid : List ℕ) : Type 0 where
-  pub finds : Finds t (refuses r)
+  pub reading : Reading
+  pub reads : Reads t reading
+  pub finding : findingOf reading ≡ refuses r
   pub low : Low r
   pub same : mid ≡ out
 
-pub refusal-kept : {t out mid : List ℕ} {f : Finding} {reply : LogReply} {r : Refusal} → Finds t f → Given out f reply mid → reply ≡ NotWritten r → Kept t out r mid
-refusal-kept {t} {r = r} x (kept {r = s}) e =
+pub refusal-kept : {t out mid : List ℕ} {v : Reading} {f : Finding} {reply : LogReply} {r : Refusal} → Reads t v → findingOf v ≡ f → Given out f reply mid
+    → reply ≡ NotWritten r → Kept t out r mid
+refusal-kept {v = v} {r = r} x is (kept {r = s}) e =
     let q : s ≡ r = cc in
-    let y : Finds t (refuses r) = subst (λ (z : Refusal). Finds t (refuses z)) q x in
-    record { finds = y; low = finds-low y refl; same = refl }
-refusal-kept x lines e = absurd (let z : _≡_ {A = ℕ} 0 1 = cc in omega arith)
+    let found : findingOf v ≡ refuses r = is ∙ ap refuses q in
+    record { reading = v; reads = x; finding = found; low = reads-low x found; same = refl }
+refusal-kept x is lines e = absurd (let z : _≡_ {A = ℕ} 0 1 = cc in omega arith)
 
 pub refusal-logged : {t out mid new : List ℕ} {r : Refusal} {n : ℕ} → logBytes ≤ length out → Kept t out r mid → Put mid 0 (refusedLine r) new n → LogAnswer t out (Written n) new
 refusal-logged {t} {out} {mid} {new} {r} {n} room k p =
     let l = refused-short r (k .low .0) (k .low .1) in
     let h = put-first out (refusedLine r) new n (omega arith) (subst (λ (o : List ℕ). Put o 0 (refusedLine r) new n) (k .same) p) in
-    rw (h .0, h .1) (logged room (record { finding = refuses r; finds = k .finds; is = refl }))
+    rw (h .0, h .1) (logged room (record { reading = k .reading; reads = k .reads; is = sym (ap logFor (k .finding)) }))
 
 -- with room for every log it is written, and lies in the buffer
 pub never-refused : {A : Type 0} {t out new : List ℕ} {reply : LogReply} {r : Refusal} → logBytes ≤ length out → LogAnswer t out reply new → reply ≡ NotWritten r → A

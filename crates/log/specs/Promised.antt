@@ -5,8 +5,8 @@ use lib.ListN.{length, take}
 use Rattle.definitions.specs.declared.Numbers.{Numbers}
 use Rattle.definitions.specs.declared.LogReply.{LogReply}
 use Rattle.definitions.specs.declared.LogReply.the-variants.{Written, Refused as NotWritten}
-use Rattle.definitions.specs.Text.{Entry, Text, textRecords, textBytes}
-use Rattle.definitions.specs.Log.{baseOf, RefusedOnly}
+use Rattle.definitions.specs.Text.{Entry, Text, baseOf, textRecords, textBytes}
+use Rattle.definitions.specs.Log.{RefusedOnly}
 
 -- of a text that belongs to the grammar and keeps the limits, the log in the first k bytes is refused only for what 1 to 5 and 8 say
 abbrev pub LogPromised : List ℕ → LogReply → List ℕ → Type 0

@@ -3,7 +3,7 @@ ghost use Prim.Native.Nat.{_*_, _≤_, _<_};
 ghost use Rattle.definitions.specs.Log.{LogAnswer, judged, logBytes, refusedLine};
 ghost use Rattle.definitions.specs.Record.{recordWords};
 ghost use Rattle.log_lines.specs.Put.{Put};
-ghost use Rattle.log.specs.Given.{Given, TextGiven};
+ghost use Rattle.log.specs.Given.{Given, LinesGiven};
 ghost use Rattle.log.specs.Promised.{LogPromised};
 ghost use lib.ListN.{length};
 ghost use mathlib.Core.Path.{_≡_};
@@ -54,7 +54,7 @@ fn read_lines(t: TextRead, base: &[i16], out: &mut [u8]) -> LogReply
 // The lines of a text's picture, or its refusal, and then no byte is written.
 fn text_lines(text: &[u8], out: &mut [u8]) -> LogReply
     requires { ⌜ logBytes ≤ length (now out) ⌝ }
-    ensures { λ r. ⌜ TextGiven (now (text .entry)) (now (out .entry)) r (now (out .exit)) ⌝ }
+    ensures { λ r. ⌜ LinesGiven (now (text .entry)) (now (out .entry)) r (now (out .exit)) ⌝ }
 {
     let mut words = [0i16; TEXT_WORDS];
     match read_text(text, &mut words) {

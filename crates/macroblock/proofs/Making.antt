@@ -8,7 +8,6 @@ use lib.ListN.{getD, replicate}
 use Rattle.definitions.specs.declared.Axes.{Axes}
 use Rattle.definitions.specs.declared.Answer.{Answer}
 use Rattle.definitions.specs.declared.Answer.the-variants.{Outside, Intra, Inherited}
-use Rattle.definitions.specs.declared.Split.{Split}
 use Rattle.definitions.specs.Tests.{upTo}
 use Rattle.definitions.specs.Geometry.{baseSize, macroblocks}
 use Rattle.definitions.specs.Record.{laidOut}

@@ -15,7 +15,7 @@ use Rattle.definitions.specs.Geometry.{baseSize, macroblocks}
 use Rattle.definitions.specs.BlockMap.{blockIn}
 use Rattle.definitions.specs.Splits.{rasterOf}
 use Rattle.definitions.specs.Record.{vectorLimit, used, motionOf, vectorWord, typeNumber, laidOut}
-use Rattle.definitions.specs.Inheriting.{zeroMotion, at, unused, clearOf, filled, merged, liveOf, copied, resolved, scaledMotion, motionAt, chosen}
+use Rattle.definitions.specs.Inheriting.{zeroMotion, at, clearOf, filled, merged, liveOf, copied, resolved, scaledMotion, motionAt, chosen}
 use Rattle.definitions.specs.Answer.{subTypes}
 use Rattle.definitions.proofs.Choices.{and-true, eqZ-true, each, four-at, four-same}
 use Rattle.definitions.proofs.Formed.{Vectors, vectors-of}
@@ -24,7 +24,7 @@ use Rattle.definitions.proofs.Scaling.{chosen-scaled}
 use Rattle.definitions.proofs.Steps.{Both, resolved-keeps, not-used}
 use Rattle.motion.specs.Range.{InRange}
 use Rattle.quadrant.specs.Merging.{Empty, AllEmpty}
-use Rattle.gather.specs.Reads.{Readable, ReadableAt, recordRead, motionRead, motionBy, setBy, gatheredBy}
+use Rattle.gather.specs.Reads.{ReadableAt, recordRead, motionRead, motionBy, setBy, gatheredBy}
 use Rattle.gather.proofs.Reading.{readable-at}
 use Rattle.macroblock.specs.declared.AxisRead.{AxisRead}
 use Rattle.macroblock.specs.Made.{Ready, resolvedBy, motionsBy, inheritedBy}

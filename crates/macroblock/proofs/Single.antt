@@ -11,7 +11,6 @@ use lib.Count.{ones, onesIn, ones-step}
 use borrow.Author.Tests.{eqb-true, le-leb}
 use Rattle.definitions.specs.declared.Axes.{Axes}
 use Rattle.definitions.specs.declared.Motion.{Motion}
-use Rattle.definitions.specs.declared.Split.{Split}
 use Rattle.definitions.specs.declared.Split.the-variants.{S16x16}
 use Rattle.definitions.specs.Tests.{pick, eqZ, four}
 use Rattle.definitions.specs.Geometry.{baseSize, macroblocks}
@@ -26,9 +25,8 @@ use Rattle.definitions.proofs.Motions.{motion-same}
 use Rattle.records.proofs.Undivided.{whole, undivided}
 use Rattle.definitions.proofs.Sameness.{set-same}
 use Rattle.definitions.proofs.Shapes.{samePairs, shapeOf, quadrantShape, shapesOf, splitOf, allWhole}
-use Rattle.definitions.proofs.Steps.{Both, filled-leaves, settled-merged}
-use Rattle.quadrant.specs.Merging.{Empty}
-use Rattle.gather.specs.Reads.{ReadableAt, Readable, addressRead, recordRead, motionRead, addressBy, readBy, blockBy, motionBy, setBy, gatheredBy}
+use Rattle.definitions.proofs.Steps.{filled-leaves, settled-merged}
+use Rattle.gather.specs.Reads.{ReadableAt, recordRead, motionRead, readBy, blockBy, motionBy, setBy, gatheredBy}
 use Rattle.gather.proofs.Reading.{readable-at}
 use Rattle.macroblock.specs.declared.AxisRead.{AxisRead}
 use Rattle.macroblock.specs.Made.{Ready, onePart, resolvedBy, motionsBy, inheritedBy}

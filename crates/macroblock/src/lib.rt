@@ -5,7 +5,7 @@ ghost use Rattle.definitions.specs.Answer.{subTypes, unusedMotion};
 ghost use Rattle.definitions.specs.Geometry.{baseSize, macroblocks};
 ghost use Rattle.definitions.specs.Inheriting.{chosen, clearOf, filled, merged, motionAt};
 ghost use Rattle.definitions.specs.Record.{laidOut, subTypeNumber, typeNumber};
-ghost use Rattle.gather.specs.Reads.{ReadableAt, motionRead, recordRead, setBy};
+ghost use Rattle.gather.specs.Reads.{ReadableAt, motionRead, setBy};
 ghost use Rattle.macroblock.specs.Made.{Placeable, Ready, Small, inheritedBy, madeBy, motionsBy, namedBy, nowhere, onePart, placedBy, readIn, readOf, resolvedBy};
 ghost use lib.ListN.{getD, length};
 ghost use mathlib.Core.Bool.{_&&_, true};

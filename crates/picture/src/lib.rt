@@ -1,7 +1,6 @@
 // The picture call of document 01: all base records are checked, then every macroblock is made in raster order.
 ghost use Prim.Native.Nat.{_*_, _+_, _<_, _≤_};
 ghost use Rattle.definitions.specs.Accepted.{AcceptedAxis};
-ghost use Rattle.definitions.specs.Answer.{Made};
 ghost use Rattle.definitions.specs.Calls.{counted, countsOf, fullCount, madeAt, pictureCall, sumOf};
 ghost use Rattle.definitions.specs.Record.{recordWords};
 ghost use Rattle.definitions.specs.Tests.{forEach, upTo};

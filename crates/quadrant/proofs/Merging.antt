@@ -12,7 +12,7 @@ use Rattle.definitions.specs.Tests.{pick, eqZ, four}
 use Rattle.definitions.specs.Record.{used}
 use Rattle.definitions.specs.Inheriting.{zeroPrediction, zeroMotion, source, lower, lowest, having, withReference, unused, mergedList, merged}
 use Rattle.definitions.proofs.Choices.{yes, no, and-true, eqZ-true, each, four-same, four-is}
-use Rattle.definitions.proofs.Steps.{Settled, settled-merged}
+use Rattle.definitions.proofs.Steps.{settled-merged}
 use Rattle.quadrant.specs.Merging.{firstOf, oneReferenceOf, oneReference, AllEmpty}
 
 -- ---- one list

@@ -10,7 +10,7 @@ use Rattle.definitions.specs.declared.TextReply.{TextReply}
 use Rattle.definitions.specs.declared.TextReply.the-variants.{Read, Refused}
 use Rattle.definitions.specs.Record.{recordWords}
 use Rattle.definitions.specs.Refusals.{refusal}
-use Rattle.definitions.specs.Text.{textBytes, textRecords, TextAnswer, tooMany, read, ReadExactly}
+use Rattle.definitions.specs.Text.{textBytes, textRecords, tooMany, read, TextAnswer, refused, given, ReadExactly}
 use Rattle.grammar.specs.Promises.{AllStored, Judgement, Room}
 use Rattle.grammar.proofs.OneLog.{demand2}
 
@@ -29,7 +29,7 @@ module _
     (l : length t ≤ textBytes)
     (j : Judgement t n at count) where
   pub too-many : textRecords < count → TextAnswer t words (Refused (refusal 10)) words
-  too-many h = let m = j .many in tooMany e l (j .text) (omega arith)
+  too-many h = let m = j .many in refused e (tooMany l (j .text) (omega arith))
 
   pub has-room : count ≤ textRecords → Room t at words
   has-room h = let m = j .many in record { told = _; entries = j .entries; lines = j .lines; fits = omega arith }
@@ -37,4 +37,4 @@ module _
   pub text-read : count ≤ textRecords → (new : List ℤ) → AllStored t at words new → TextAnswer t words (Read (record { numbers = n; lines = count })) new
   text-read h new s =
       let m = j .many in
-      rw (sym (j .many), s _ (j .entries) (j .lines)) (read e l (j .text) (omega arith))
+      rw (sym (j .many), s _ (j .entries) (j .lines)) (given e (read l (j .text) (omega arith)))

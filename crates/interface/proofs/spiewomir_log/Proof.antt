@@ -18,13 +18,13 @@ same-length : tie.Need-same-length
 same-length c = search needs
 
 returns : tie.Need-returns
-returns c = record { reply = _; answer = c .before .before .before .before .before .log .ensures .0; is = sym (ap logResult (c .before .n .given .1)) }
+returns c = record { reply = _; answer = c .before .before .before .before .before .log .ensures .0; demand2 = c .before .before .before .before .before .log .ensures .1; is = sym (ap logResult (c .before .n .given .1)) }
 
 same-length-2 : tie.Need-same-length-2
 same-length-2 c = search needs
 
 returns-2 : tie.Need-returns-2
-returns-2 c = record { reply = _; answer = c .before .before .before .before .before .log .ensures .0; is = sym (ap logResult (c .before .r .given .1)) }
+returns-2 c = record { reply = _; answer = c .before .before .before .before .before .log .ensures .0; demand2 = c .before .before .before .before .before .log .ensures .1; is = sym (ap logResult (c .before .r .given .1)) }
 
 pub spiewomir-log-spec : {M : Type 1} → statement M
 spiewomir-log-spec =

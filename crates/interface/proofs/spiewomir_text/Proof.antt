@@ -27,6 +27,7 @@ returns c =
     record {
       reply = _;
       answer = c .before .before .before .before .before .before .read-text .ensures .0;
+      demand2 = c .before .before .before .before .before .before .read-text .ensures .1;
       is = (λ i. record { refusal = 0; place = 0; rule = 0; geometry = g i; lines = n .0 .0 .lines }) ∙ sym (ap textResult (n .1));
     }
 
@@ -34,7 +35,7 @@ same-length-2 : tie.Need-same-length-2
 same-length-2 c = search needs
 
 returns-2 : tie.Need-returns-2
-returns-2 c = record { reply = _; answer = c .before .before .before .before .read-text .ensures .0; is = sym (ap textResult (c .before .r .given .1)) }
+returns-2 c = record { reply = _; answer = c .before .before .before .before .read-text .ensures .0; demand2 = c .before .before .before .before .read-text .ensures .1; is = sym (ap textResult (c .before .r .given .1)) }
 
 pub spiewomir-text-spec : {M : Type 1} → statement M
 spiewomir-text-spec =

@@ -1,6 +1,6 @@
 -- `log::log` meets its contract. Assumes nothing.
 use native.Mathlib.Omega.{arith}
-use mathlib.Core.Path.{ap}
+use mathlib.Core.Path.{refl, ap}
 use lib.ListN.{length}
 use Rattle.definitions.specs.Log.{tooFew}
 use Rattle.log.proofs.Stages.{answered, lines-logged, refusal-kept, refusal-logged}
@@ -26,7 +26,7 @@ enum-known-r c = search needs
 refused-line-requires : tie.Need-refused-line-requires
 refused-line-requires c κs =
     let t = c .before .before .before .before .before .before .text-lines .ensures in
-    let k = refusal-kept (t .finds) (t .given) (c .before .before .r .given .1) in
+    let k = refusal-kept (t .reads) refl (t .given) (c .before .before .r .given .1) in
     let same = ap length (k .same) in
     (k .low .0, k .low .1, omega arith)
 
@@ -36,7 +36,7 @@ same-length c = search needs
 returns-2 : tie.Need-returns-2
 returns-2 c =
     let t = c .before .before .before .before .before .text-lines .ensures in
-    answered (lines-logged (c .before .before .before .before .before .before .before .if1 .left) (t .finds) (t .given) (c .before .n .given .1))
+    answered (lines-logged (c .before .before .before .before .before .before .before .if1 .left) (t .reads) refl (t .given) (c .before .n .given .1))
 
 same-length-2 : tie.Need-same-length-2
 same-length-2 c = search needs
@@ -44,7 +44,7 @@ same-length-2 c = search needs
 returns-3 : tie.Need-returns-3
 returns-3 c =
     let t = c .before .before .before .before .before .before .before .before .before .text-lines .ensures in
-    answered (refusal-logged (c .before .before .before .before .before .before .before .before .before .before .before .if1 .left) (refusal-kept (t .finds) (t .given) (c .before .before .before .before .before .r .given .1)) (c .before .before .refused-line .ensures))
+    answered (refusal-logged (c .before .before .before .before .before .before .before .before .before .before .before .if1 .left) (refusal-kept (t .reads) refl (t .given) (c .before .before .before .before .before .r .given .1)) (c .before .before .refused-line .ensures))
 
 pub log-spec : {M : Type 1} → statement M
 log-spec =

@@ -43,10 +43,12 @@ same-length : tie.Need-same-length
 same-length c = search needs
 
 returns : tie.Need-returns
-returns c = record { finding = _; finds = words-of (c .before .before .before .before .before .before .before) .finds; given = c .before .before .read-lines .ensures }
+returns c =
+    let w = words-of (c .before .before .before .before .before .before .before) in
+    record { reading = _; reads = w .reads; given = rw (w .finding) (c .before .before .read-lines .ensures) }
 
 returns-2 : tie.Need-returns-2
-returns-2 c = record { finding = _; finds = refused-read (length-replicate 7623 (pos 0)) (c .before .before .before .before .read-text .ensures .0) (c .before .r .given .1); given = kept }
+returns-2 c = record { reading = _; reads = refused-read (length-replicate 7623 (pos 0)) (c .before .before .before .before .read-text .ensures .0) (c .before .r .given .1); given = kept }
 
 pub text-lines-spec : {M : Type 1} → statement M
 text-lines-spec =

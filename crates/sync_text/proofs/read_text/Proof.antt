@@ -1,6 +1,6 @@
 -- `sync_text::read_text` meets its contract. Assumes nothing.
 use Rattle.sync_text.proofs.Reply.{answered, too-many, has-room, text-read}
-use Rattle.definitions.specs.Text.{wrongWords, tooLong, broken}
+use Rattle.definitions.specs.Text.{tooLong, broken, wrongWords, refused}
 use borrow.Author.Needs.{needs}
 use Rattle.sync_text.proofs.read_text.Statement.{statement}
 use Rattle.sync_text.proofs.read_text.Tie as tie
@@ -15,7 +15,7 @@ refused-requires-2 : tie.Need-refused-requires-2
 refused-requires-2 c κs = search needs
 
 returns-2 : tie.Need-returns-2
-returns-2 c = rw (c .refused2 .ensures) (answered (tooLong (c .before .before .if1 .left) (c .before .if2 .taken)))
+returns-2 c = rw (c .refused2 .ensures) (answered (refused (c .before .before .if1 .left) (tooLong (c .before .if2 .taken))))
 
 judge-requires : tie.Need-judge-requires
 judge-requires c κs = search needs
@@ -74,7 +74,7 @@ returns-5 c =
     let j = rw (c .before .before .t2 .given .1) at (c .before .before .before .before .judge .ensures) in
     let e = c .before .before .before .before .before .before .if1 .left in
     let l = c .before .before .before .before .before .if2 .left in
-    rw (c .refused4 .ensures) (answered (broken e l j))
+    rw (c .refused4 .ensures) (answered (refused e (broken l j)))
 
 pub read-text-spec : {M : Type 1} → statement M
 read-text-spec =
