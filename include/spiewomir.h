@@ -1,14 +1,21 @@
 /* Motion upsampling between two layers of a track clip: the C interface of the
  * proved library (the crate `interface`; `rt staticlib interface` writes
- * target/staticlib/libinterface.a).
+ * target/staticlib/libinterface.a, for x86-64 Linux).
  *
- * "Document 01" is the project's scope paper. Every call ends, asks nothing of
- * its numbers, and judges what it is lent; the caller only has to lend
- * `base_len` words at `base` (or `text_len` bytes at `text`) to read and, apart
- * from them, `out_len` words at `out` (`words_len` at `words`, `log_len` bytes at
- * `log`) to write. A refused call leaves every word and byte lent to it as it was.
- * `base` and `text` are never written. Calls keep nothing between them: a session
- * is handed over and back by value.
+ * Of a small picture (the base) each 16x16 macroblock has a motion record: how it
+ * is split, references, vectors. The base, scaled, is a window of the large (full)
+ * picture; the calls make the records of the large picture's macroblocks from those
+ * of up to four base macroblocks each. A macroblock is inside when all of it lies in
+ * the window; else it is outside, and inherits nothing.
+ *
+ * Every call ends, asks nothing of its numbers, and judges what it is lent; the
+ * caller only has to lend `base_len` words at `base` (or `text_len` bytes at `text`)
+ * to read and, apart from them, `out_len` words at `out` (`words_len` at `words`,
+ * `log_len` bytes at `log`) to write. With length 0 the pointer may be null. A
+ * refused call leaves every word and byte lent to it as it was. `base` and `text`
+ * are never written. Calls keep nothing between them (a session is handed over and
+ * back by value), take no memory but some 20 KB of stack, and may be made from any
+ * threads at once.
  */
 #ifndef SPIEWOMIR_H
 #define SPIEWOMIR_H
@@ -20,8 +27,20 @@
 extern "C" {
 #endif
 
-/* Words of a motion record: type, 4 sub-types, 8 references (5 + 2q + l),
- * 64 vector words (13 + 4b + 2l and the next). */
+/* A motion record has 77 words:
+ *   0            type: 0 intra, 1 16x16, 2 16x8, 3 8x16, 4 8x8 (width by height);
+ *                5 outside, in written records only
+ *   1 + q        sub-type of quadrant q (0 to 3, raster): 0 8x8, 1 8x4, 2 4x8, 3 4x4
+ *   5 + 2q + l   reference of quadrant q in list l (0 or 1), -1 where it is unused
+ *   13 + 4b + 2l, and the next: horizontal and vertical vector, in quarter samples,
+ *                of 4x4 block b (0 to 15, raster: four to a row) in list l
+ * Well formed, by rule: 1 type 0..4; 2 sub-types 0..3, all 0 unless type 4;
+ * 3 references -1..31; 4 type 0 has only -1, any other type a used list in each
+ * quadrant; 5 vector words -8192..8191, and 0 where the reference is -1; 6 all blocks
+ * of a partition or sub-partition have the same references and vectors.
+ * A picture of W by H samples has W/16 times H/16 macroblocks; columns, rows and
+ * addresses (raster order) count from 0. A written record can be of type 5 and have
+ * vector words of -16384..16382, and is then not well formed as a base's. */
 #define SPIEWOMIR_WORDS 77
 
 /* A sync text: the most bytes, the most record lines, and the words to lend for
@@ -46,8 +65,8 @@ extern "C" {
                                              log_len is below 1179679 */
 #define SPIEWOMIR_REFUSED_POSITION 7      /* column or row outside the picture (one macroblock only) */
 #define SPIEWOMIR_REFUSED_RECORD 8        /* a malformed record: `place` is the lowest malformed
-                                             address among the records checked, `rule` the first of
-                                             document 01's rules 1 to 6 that it breaks */
+                                             address among the records checked, `rule` the first rule
+                                             of well-formedness (above) that it breaks */
 #define SPIEWOMIR_REFUSED_GRAMMAR 9       /* a text that breaks the grammar: `place` is the first byte
                                              offset at which no text of the grammar, however long, can
                                              go on, and the text's length if it ends early */
@@ -63,6 +82,12 @@ extern "C" {
 #define SPIEWOMIR_8X16 3
 #define SPIEWOMIR_8X8 4
 #define SPIEWOMIR_OUTSIDE 5
+
+/* Sub-types of a quadrant. */
+#define SPIEWOMIR_SUB_8X8 0
+#define SPIEWOMIR_SUB_8X4 1
+#define SPIEWOMIR_SUB_4X8 2
+#define SPIEWOMIR_SUB_4X4 3
 
 /* Classes: the base macroblocks read are one, two columns, two rows, four. */
 #define SPIEWOMIR_CORNER 0
@@ -80,10 +105,9 @@ typedef struct {
 typedef struct {
     uint32_t refusal, place, rule; /* place and rule are 0 but for refusal 8 */
     uint32_t kind;                 /* what follows is 0 in a refusal */
-    uint32_t sub0, sub1, sub2, sub3; /* sub-types of the quadrants, 0 unless kind is 4:
-                                        0 8x8, 1 8x4, 2 4x8, 3 4x4, width by height */
-    uint32_t class_;
-    uint32_t column, row; /* first base column and row that are read; 0 outside */
+    uint32_t sub0, sub1, sub2, sub3; /* sub-types of the quadrants; 0 unless kind is 4 */
+    uint32_t class_;                 /* what is read of the base; 0 (CORNER) outside */
+    uint32_t column, row;            /* first base column and row that are read; 0 outside */
 } SpiewomirMacroblock;
 
 typedef struct {
@@ -148,7 +172,8 @@ SpiewomirPicture spiewomir_picture(SpiewomirGeometry geometry, const int16_t *ba
  * they were handed. */
 SpiewomirSession spiewomir_session_fresh(void);
 
-/* Refusals 22, and 1 to 4. */
+/* Begins a picture at its first macroblock, with totals of 0; also after a finished
+ * one. Refusals 22, and 1 to 4. */
 SpiewomirJudged spiewomir_session_begin(SpiewomirSession session, SpiewomirGeometry geometry);
 
 /* Refusals 20 and 21; then answers, refuses (5, 6 and 8) and writes as
@@ -156,7 +181,7 @@ SpiewomirJudged spiewomir_session_begin(SpiewomirSession session, SpiewomirGeome
 SpiewomirAdvanced spiewomir_session_next(SpiewomirSession session, const int16_t *base, size_t base_len,
                                          int16_t *out, size_t out_len);
 
-/* Makes the session fresh. Refusals 20 and 21. */
+/* Gives up an unfinished picture: the session is fresh. Refusals 20 and 21. */
 SpiewomirJudged spiewomir_session_abandon(SpiewomirSession session);
 
 /* The answered next calls of each sort since the last begin or abandon that was not
@@ -164,8 +189,8 @@ SpiewomirJudged spiewomir_session_abandon(SpiewomirSession session);
 SpiewomirTotals spiewomir_session_totals(SpiewomirSession session);
 
 /* A sync text has one bracket form a line, a line feed after each, items parted by
- * one space: (base W H), (scaled W H), (at X Y), (full W H) in that order, then a
- * line for each base record in raster order: (intra), or (whole (R0 R1)
+ * one space: (base W H), (scaled W H), (at X Y), (full W H) in that order, then none
+ * or more lines, one for each base record in raster order: (intra), or (whole (R0 R1)
  * (X0 Y0 X1 Y1)), which is type 1 with this motion in all blocks, or (mb T
  * (4 sub-types) (8 references) (64 vector words)), the record's words. Numbers are
  * -32768..32767, with no leading zero and no -0. Between lines and at both ends may

@@ -139,8 +139,8 @@ right k-even i j p =
       last-read = λ e. eqb-true _ 1 (implied _ _ (t₅ .1) e);
     }
 
--- The map of the mirrored picture is the mirrored map: M and N change their signs, k its parity, and blocks and coordinates count from the other end
--- of the columns read. So a wrong digit in one half of the map shows against the other half.
+-- The row -M,-N of odd k is the row M,N of even k read from the other end: blocks and coordinates count from the other end of the columns read. So a wrong digit in
+-- one half of the map shows against the other half.
 mirrorRight : ℕ → ℕ → Bool
 mirrorRight i j = allBelow 4 (λ n. eqb (digitAt false j i n + digitAt true i j (3 - n)) (pick (twoAt true i j) 7 3))
 

@@ -46,7 +46,7 @@ macroblocks size = size / 16
 unfoldable pub insideAxis : Axis → ℕ → Bool
 insideAxis a p = leZ (offsetOf a) (pos p) && leZ (pos (p + 16)) (offsetOf a +ℤ pos (scaledSize a))
 
--- c = P − o + 8. (Inside, P − o is not below 0, and natAbs is the number itself.) The definitions after it have B, S and c.
+-- c = P − o + 8. (Inside, P − o is not below 0, and natAbs is the number itself: c-is of proofs/Accepted.) The definitions after it have B, S and c.
 abbrev pub cOf : Axis → ℕ → ℕ
 cOf a p = natAbs (pos p -ℤ offsetOf a) + 8
 

@@ -27,12 +27,12 @@ valueOf (begun n c) = record { begun = true; numbers = n; counts = c }
 unfoldable pub stateOf : Session → State
 stateOf v = pick (v .begun && sound (begun (v .numbers) (v .counts))) (begun (v .numbers) (v .counts)) fresh
 
--- The value that a call hands back: the very one where the call is refused, and of totals; else the value of the state after it.
--- (next is accepted where it answers)
+-- next is accepted where it answers
 abbrev pub answers : MacroblockReply → Bool
 answers (Answered a) = true
 answers (Declined r) = false
 
+-- The value that a call hands back: the very one where the call is refused, and of totals; else the value of the state after it.
 abbrev pub changes : Exchange → Bool
 changes (beginGave n v) = accepts v
 changes (nextGave base words o) = answers (o .reply)
