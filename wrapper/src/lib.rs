@@ -41,14 +41,15 @@ use std::fmt;
 
 /// Words of a motion record. Quadrants, blocks, and the macroblocks of a picture
 /// go in raster order; `l` is the list, 0 or 1.
-/// - 0: the type, 0 intra, 1 16x16, 2 16x8, 3 8x16, 4 8x8 (width by height). 5,
-///   outside, is only written.
+/// - 0: the type, 0 intra, 1 16x16, 2 16x8, 3 8x16, 4 8x8 (width by height); 5,
+///   outside, in written records only.
 /// - 1 to 4: the quadrants' sub-types, 0 8x8, 1 8x4, 2 4x8, 3 4x4; 0 unless type 4.
 /// - 5 + 2q + l: the reference of quadrant `q`, -1 unused.
 /// - 13 + 4b + 2l, and the next: the horizontal and vertical vector of 4x4 block
 ///   `b`, 0 to 15, in quarter samples; 0 where the reference is -1.
 ///
-/// [`refused::RECORD`] has the rules.
+/// [`refused::RECORD`] has the rules for a base's. A written vector word can be up to
+/// twice as long, -16384 to 16382.
 pub const WORDS: usize = 77;
 
 /// Longest sync text, in bytes.
@@ -215,7 +216,7 @@ impl Session {
         Session(numbers::Session::fresh())
     }
 
-    /// Begins a picture. Refusals 22, then 1 to 4.
+    /// Begins a picture, also after a finished one. Refusals 22, then 1 to 4.
     pub fn begin(self, geometry: Geometry) -> (Session, Result<(), Refusal>) {
         self.0.begin(geometry).result()
     }
@@ -227,7 +228,7 @@ impl Session {
         (Session(advanced.session), advanced.macroblock.result())
     }
 
-    /// Makes it fresh. Refusals 20 and 21.
+    /// Gives up an unfinished picture: the session is fresh. Refusals 20 and 21.
     pub fn abandon(self) -> (Session, Result<(), Refusal>) {
         self.0.abandon().result()
     }
