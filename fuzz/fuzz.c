@@ -3,10 +3,12 @@
  *     fuzz SEED COUNT TEXT..    the texts are sync texts to start from
  *
  * Every lent buffer ends where a page ends that may not be touched (with -m it is
- * from malloc, for a memory checker). Of each input: a refused call leaves every
- * lent word and byte; a second call gives the same; a text's log, its picture, its
- * macroblocks one by one and its session say the same. The last line tells how many
- * inputs were tried and how often each refusal came; the exit status is 0 if all held. */
+ * from malloc, for a memory checker), or is a null pointer of length 0. Of each
+ * input: a refused call leaves every lent word and byte, and what is only read stays;
+ * a text's log, its picture, its macroblocks one by one and its session say the same;
+ * an answer says what its record says, and names base macroblocks that are there. The
+ * last line tells how many inputs were tried and how often each refusal came; the exit
+ * status is 0 if all held. */
 #define _DEFAULT_SOURCE
 #include "spiewomir.h"
 #include <stdio.h>
@@ -125,11 +127,56 @@ static void damage(const unsigned char *other, size_t other_length) {
     }
 }
 
+/* ---- what one macroblock's call hands back, with the words that it wrote */
+static int inside(int32_t at, int32_t offset, int32_t scaled) { return offset <= 16 * at && 16 * at + 16 <= offset + scaled; }
+
+static void answer(SpiewomirGeometry g, int32_t column, int32_t row, SpiewomirMacroblock m, const int16_t *record) {
+    if (m.refusal) {
+        HOLDS(m.refusal == SPIEWOMIR_REFUSED_RECORD ? m.rule >= 1 && m.rule <= 6 : m.place == 0 && m.rule == 0);
+        HOLDS(!m.kind && !m.sub0 && !m.sub1 && !m.sub2 && !m.sub3 && !m.class_ && !m.column && !m.row);
+        return;
+    }
+    HOLDS(m.place == 0 && m.rule == 0);
+    HOLDS(m.kind == (uint32_t)record[0]);
+    HOLDS(m.sub0 == (uint32_t)record[1] && m.sub1 == (uint32_t)record[2] && m.sub2 == (uint32_t)record[3] && m.sub3 == (uint32_t)record[4]);
+    HOLDS(m.sub0 <= 3 && m.sub1 <= 3 && m.sub2 <= 3 && m.sub3 <= 3);
+    HOLDS(m.kind == SPIEWOMIR_8X8 || !(m.sub0 || m.sub1 || m.sub2 || m.sub3));
+    if (!inside(column, g.offset_x, g.scaled_width) || !inside(row, g.offset_y, g.scaled_height)) {
+        HOLDS(m.kind == SPIEWOMIR_OUTSIDE && m.class_ == SPIEWOMIR_CORNER && m.column == 0 && m.row == 0);
+        return;
+    }
+    HOLDS(m.kind == SPIEWOMIR_INTRA || m.kind == SPIEWOMIR_16X16 || m.kind == SPIEWOMIR_16X8 || m.kind == SPIEWOMIR_8X16 || m.kind == SPIEWOMIR_8X8);
+    HOLDS(m.class_ == SPIEWOMIR_CORNER || m.class_ == SPIEWOMIR_VERT || m.class_ == SPIEWOMIR_HORI || m.class_ == SPIEWOMIR_CENTER);
+    uint32_t columns = m.class_ == SPIEWOMIR_VERT || m.class_ == SPIEWOMIR_CENTER ? 2 : 1;
+    uint32_t rows = m.class_ == SPIEWOMIR_HORI || m.class_ == SPIEWOMIR_CENTER ? 2 : 1;
+    HOLDS(m.column < 256 && m.column + columns <= (uint32_t)g.base_width / 16);
+    HOLDS(m.row < 256 && m.row + rows <= (uint32_t)g.base_height / 16);
+}
+
+/* ---- null pointers of length 0, for each buffer of each call. `g` is refused by `verdict`, or by none. */
+static void nulls(SpiewomirGeometry g, uint32_t verdict, const int16_t *base, size_t count, int16_t *out, size_t room) {
+    uint32_t no_base = verdict ? verdict : SPIEWOMIR_REFUSED_BASE_LENGTH;
+    int fits = !verdict && count == (size_t)(g.base_width / 16) * (size_t)(g.base_height / 16) * SPIEWOMIR_WORDS;
+    uint32_t no_out = fits ? SPIEWOMIR_REFUSED_OUTPUT_LENGTH : no_base;
+    SpiewomirSession s = spiewomir_session_begin(spiewomir_session_fresh(), g).session;
+    uint32_t begun = verdict ? SPIEWOMIR_REFUSED_NOTHING_BEGUN : 0;
+    HOLDS(spiewomir_macroblock(g, NULL, 0, 0, 0, out, room).refusal == no_base);
+    HOLDS(spiewomir_macroblock(g, base, count, 0, 0, NULL, 0).refusal == no_out);
+    HOLDS(spiewomir_macroblock(g, NULL, 0, 0, 0, NULL, 0).refusal == no_base);
+    HOLDS(spiewomir_picture(g, NULL, 0, out, room).refusal == no_base);
+    HOLDS(spiewomir_picture(g, base, count, NULL, 0).refusal == no_out);
+    HOLDS(spiewomir_picture(g, NULL, 0, NULL, 0).refusal == no_base);
+    HOLDS(spiewomir_session_next(s, NULL, 0, out, room).macroblock.refusal == (begun ? begun : no_base));
+    HOLDS(spiewomir_session_next(s, base, count, NULL, 0).macroblock.refusal == (begun ? begun : no_out));
+    HOLDS(spiewomir_session_next(s, NULL, 0, NULL, 0).macroblock.refusal == (begun ? begun : no_base));
+}
+
 /* ---- a picture: the calls on records */
 static void records(SpiewomirGeometry g, const int16_t *words, size_t count, const SpiewomirPicture *logged) {
     Lent base = lend(count * sizeof(int16_t));
     memcpy(base.at, words, count * sizeof(int16_t));
     if (!logged && count) ((int16_t *)base.at)[below((unsigned)count)] = (int16_t)(below(65536) - 32768);
+    void *lent = copy_of(base.at, base.size);
     size_t full = 16;
     if (g.full_width > 0 && g.full_width <= 4096 && g.full_height > 0 && g.full_height <= 4096)
         full = (size_t)(g.full_width / 16) * (size_t)(g.full_height / 16);
@@ -139,6 +186,9 @@ static void records(SpiewomirGeometry g, const int16_t *words, size_t count, con
     Lent out = lend(words_out * sizeof(int16_t));
     scribble(out.at, out.size);
     void *before = copy_of(out.at, out.size);
+    SpiewomirJudged begun = spiewomir_session_begin(spiewomir_session_fresh(), g);
+    nulls(g, begun.refusal, base.at, count, out.at, words_out);
+    HOLDS(memcmp(out.at, before, out.size) == 0);
     SpiewomirPicture p = spiewomir_picture(g, base.at, count, out.at, words_out);
     calls[1]++;
     refusals[p.refusal]++;
@@ -149,7 +199,6 @@ static void records(SpiewomirGeometry g, const int16_t *words, size_t count, con
     }
 
     /* one by one, and in a session */
-    SpiewomirJudged begun = spiewomir_session_begin(spiewomir_session_fresh(), g);
     SpiewomirSession session = begun.session;
     Lent one = lend(SPIEWOMIR_WORDS * sizeof(int16_t));
     size_t tries = p.refusal ? 3 : full < 64 ? full + 1 : 64;
@@ -163,6 +212,7 @@ static void records(SpiewomirGeometry g, const int16_t *words, size_t count, con
         calls[2]++;
         refusals[m.refusal]++;
         if (m.refusal) HOLDS(memcmp(one.at, was, one.size) == 0);
+        answer(g, column, row, m, one.at);
         if (!p.refusal && a < full) {
             HOLDS(m.refusal == 0);
             HOLDS(memcmp(one.at, (int16_t *)out.at + a * SPIEWOMIR_WORDS, one.size) == 0);
@@ -176,8 +226,9 @@ static void records(SpiewomirGeometry g, const int16_t *words, size_t count, con
         if (n.macroblock.refusal) {
             HOLDS(memcmp(one.at, was, one.size) == 0);
             HOLDS(memcmp(&n.session, &session, sizeof session) == 0);
-        } else if (!p.refusal && a < full) {
-            HOLDS(memcmp(one.at, (int16_t *)out.at + a * SPIEWOMIR_WORDS, one.size) == 0);
+        } else {
+            if (!p.refusal && a < full) HOLDS(memcmp(one.at, (int16_t *)out.at + a * SPIEWOMIR_WORDS, one.size) == 0);
+            HOLDS(column < 0 || memcmp(&n.macroblock, &m, sizeof m) == 0);
         }
         session = n.session;
         free(was);
@@ -186,7 +237,9 @@ static void records(SpiewomirGeometry g, const int16_t *words, size_t count, con
     if (!p.refusal && full < 64) HOLDS(t.inherited == p.inherited && t.intra == p.intra && t.outside == p.outside);
     refusals[spiewomir_session_abandon(session).refusal]++;
     refusals[spiewomir_session_begin(session, g).refusal]++;
+    HOLDS(memcmp(base.at, lent, base.size) == 0);
     back(one);
+    free(lent);
     free(before);
     back(out);
     back(base);
@@ -218,6 +271,10 @@ static void try_text(void) {
         HOLDS(used <= words);
         HOLDS(memcmp((int16_t *)w.at + used, before + used, w.size - used * sizeof(int16_t)) == 0);
     }
+    HOLDS(spiewomir_text(t.at, length, NULL, 0).refusal == SPIEWOMIR_REFUSED_OUTPUT_LENGTH);
+    HOLDS(spiewomir_text(NULL, 0, NULL, 0).refusal == SPIEWOMIR_REFUSED_OUTPUT_LENGTH);
+    SpiewomirText empty = spiewomir_text(NULL, 0, w.at, words);
+    HOLDS(empty.refusal == (words == SPIEWOMIR_TEXT_WORDS ? SPIEWOMIR_REFUSED_GRAMMAR : SPIEWOMIR_REFUSED_OUTPUT_LENGTH) && empty.place == 0);
     HOLDS(memcmp(t.at, text, length) == 0);
 
     size_t room = SPIEWOMIR_LOG_BYTES;
@@ -231,7 +288,7 @@ static void try_text(void) {
     for (size_t i = end; i < room; i++)
         if (((unsigned char *)l.at)[i] != 0xa5) fail("a byte after the log is written");
     if (g.refusal) {
-        HOLDS(g.refusal == 6 && room < SPIEWOMIR_LOG_BYTES);
+        HOLDS(g.refusal == SPIEWOMIR_REFUSED_OUTPUT_LENGTH && g.bytes == 0 && room < SPIEWOMIR_LOG_BYTES);
     } else if (words == SPIEWOMIR_TEXT_WORDS) {
         const char *log = l.at;
         HOLDS(end > 0 && log[end - 1] == '\n');
@@ -258,6 +315,11 @@ static void try_text(void) {
             records(r.geometry, w.at, (size_t)r.lines * SPIEWOMIR_WORDS, NULL);
         }
     }
+    HOLDS(spiewomir_log(t.at, length, NULL, 0).refusal == SPIEWOMIR_REFUSED_OUTPUT_LENGTH);
+    HOLDS(spiewomir_log(NULL, 0, NULL, 0).refusal == SPIEWOMIR_REFUSED_OUTPUT_LENGTH);
+    SpiewomirLog none = spiewomir_log(NULL, 0, l.at, room);
+    HOLDS(none.refusal == g.refusal && (none.refusal || (none.bytes == 14 && memcmp(l.at, "(refused 9 0)\n", 14) == 0)));
+    HOLDS(memcmp(t.at, text, length) == 0);
     back(l);
     free(before);
     back(w);

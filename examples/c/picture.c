@@ -3,10 +3,25 @@
  *
  *     picture COLUMN ROW < TEXT
  *
+ * The exit status is 0, 1 if a call refuses, which is printed, or 2 if the arguments are
+ * no two numbers or the text cannot be read.
+ *
  * Built with: cc -Iinclude examples/c/picture.c target/staticlib/libinterface.a */
 #include "spiewomir.h"
+#include <ctype.h>
+#include <errno.h>
 #include <stdio.h>
 #include <stdlib.h>
+
+/* a whole argument that is a number of 32 bits */
+static int number(const char *argument, int32_t *n) {
+    char *end;
+    errno = 0;
+    long value = strtol(argument, &end, 10);
+    if (isspace((unsigned char)*argument) || end == argument || *end || errno || value < INT32_MIN || value > INT32_MAX) return 0;
+    *n = (int32_t)value;
+    return 1;
+}
 
 static int refused(uint32_t number, uint32_t place, uint32_t rule) {
     printf("refused %u place %u rule %u\n", number, place, rule);
@@ -16,7 +31,9 @@ static int refused(uint32_t number, uint32_t place, uint32_t rule) {
 int main(int argc, char **argv) {
     static uint8_t text[SPIEWOMIR_TEXT_BYTES + 1];
     static int16_t base[SPIEWOMIR_TEXT_WORDS];
-    if (argc != 3) {
+    int16_t record[SPIEWOMIR_WORDS];
+    int32_t column, row;
+    if (argc != 3 || !number(argv[1], &column) || !number(argv[2], &row)) {
         fputs("usage: picture COLUMN ROW < TEXT\n", stderr);
         return 2;
     }
@@ -28,7 +45,8 @@ int main(int argc, char **argv) {
 
     /* the text: the geometry's numbers, and the words of its records */
     SpiewomirText t = spiewomir_text(text, length, base, SPIEWOMIR_TEXT_WORDS);
-    if (t.refusal) return refused(t.refusal, t.place, t.rule);
+    if (t.refusal != SPIEWOMIR_ANSWERED) return refused(t.refusal, t.place, t.rule);
+    size_t base_words = (size_t)t.lines * SPIEWOMIR_WORDS;
 
     /* the picture: 77 words for each macroblock. Sizes are judged by the call itself; what is
      * lent before that has to fit them. */
@@ -41,21 +59,15 @@ int main(int argc, char **argv) {
         perror("picture");
         return 2;
     }
-    SpiewomirPicture p = spiewomir_picture(g, base, (size_t)t.lines * SPIEWOMIR_WORDS, out, words);
-    if (p.refusal) {
-        free(out);
-        return refused(p.refusal, p.place, p.rule);
-    }
-
-    /* one record of it */
-    long column = strtol(argv[1], NULL, 10), row = strtol(argv[2], NULL, 10);
-    if (column < 0 || row < 0 || (size_t)column >= columns || (size_t)row >= rows) {
-        free(out);
-        return refused(SPIEWOMIR_REFUSED_POSITION, 0, 0);
-    }
-    printf("inherited %u intra %u outside %u\n", p.inherited, p.intra, p.outside);
-    const int16_t *record = out + ((size_t)row * columns + (size_t)column) * SPIEWOMIR_WORDS;
-    for (int i = 0; i < SPIEWOMIR_WORDS; i++) printf("%d%c", record[i], i + 1 < SPIEWOMIR_WORDS ? ' ' : '\n');
+    SpiewomirPicture p = spiewomir_picture(g, base, base_words, out, words);
     free(out);
+    if (p.refusal != SPIEWOMIR_ANSWERED) return refused(p.refusal, p.place, p.rule);
+
+    /* one record: the words that the picture has from 77 * (row * columns + column) on. The
+     * call judges the place. */
+    SpiewomirMacroblock m = spiewomir_macroblock(g, base, base_words, column, row, record, SPIEWOMIR_WORDS);
+    if (m.refusal != SPIEWOMIR_ANSWERED) return refused(m.refusal, m.place, m.rule);
+    printf("inherited %u intra %u outside %u\n", p.inherited, p.intra, p.outside);
+    for (int i = 0; i < SPIEWOMIR_WORDS; i++) printf("%d%c", record[i], i + 1 < SPIEWOMIR_WORDS ? ' ' : '\n');
     return 0;
 }

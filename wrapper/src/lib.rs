@@ -1,23 +1,64 @@
 //! Safe calls of the proved motion upsampler: one macroblock, a picture, a
 //! session over one picture, a sync text and its log.
 //!
-//! Records, refusals and answers are those of document 01. No call asks
-//! anything of its caller: it judges what it is lent, and a refused call leaves
-//! every lent word and byte as it was. `numbers` has the same calls with plain
-//! numbers.
+//! Records, refusals and answers are those of document 01, the project's scope
+//! paper. No call asks anything of its caller: it judges what it is lent, and a
+//! refused call leaves every lent word and byte as it was. `numbers` has the
+//! same calls with plain numbers.
+//!
+//! The proved archive, libinterface.a, has to be there first: `rt staticlib
+//! interface` writes it to target/staticlib of the repository. SPIEWOMIR_LIB
+//! names another folder, by an absolute path.
+//!
+//! ```
+//! use spiewomir::{macroblock, picture, refused, TEXT_WORDS, WORDS};
+//!
+//! fn main() -> Result<(), Box<dyn std::error::Error>> {
+//!     let text = b"(base 16 16)\n(scaled 32 32)\n(at 0 0)\n(full 48 32)\n(whole (0 -1) (4 -8 0 0))\n";
+//!     let mut base = vec![0; TEXT_WORDS];
+//!     let (geometry, lines) = spiewomir::text(text, &mut base)?;
+//!     base.truncate(lines as usize * WORDS);
+//!
+//!     let mut out = vec![0; 3 * 2 * WORDS];
+//!     let counts = picture(geometry, &base, &mut out)?;
+//!     assert_eq!((counts.inherited, counts.intra, counts.outside), (4, 0, 2));
+//!     assert_eq!(out[13..15], [8, -16]);
+//!
+//!     let refusal = macroblock(geometry, &base, 3, 0, &mut out[..WORDS]).unwrap_err();
+//!     assert_eq!(refusal.number, refused::POSITION);
+//!     assert_eq!(refusal.to_string(), "refused 7: column or row outside the picture");
+//!     Ok(())
+//! }
+//! ```
+
+#![warn(missing_docs)]
 
 pub mod numbers;
+pub mod refused;
 
 pub use numbers::Geometry;
+use std::fmt;
 
-/// Words of a motion record.
+/// Words of a motion record. Quadrants, blocks, and the macroblocks of a picture
+/// go in raster order; `l` is the list, 0 or 1.
+/// - 0: the type, 0 intra, 1 16x16, 2 16x8, 3 8x16, 4 8x8 (width by height); 5,
+///   outside, in written records only.
+/// - 1 to 4: the quadrants' sub-types, 0 8x8, 1 8x4, 2 4x8, 3 4x4; 0 unless type 4.
+/// - 5 + 2q + l: the reference of quadrant `q`, -1 unused.
+/// - 13 + 4b + 2l, and the next: the horizontal and vertical vector of 4x4 block
+///   `b`, 0 to 15, in quarter samples; 0 where the reference is -1.
+///
+/// [`refused::RECORD`] has the rules for a base's. A written vector word can be up to
+/// twice as long, -16384 to 16382.
 pub const WORDS: usize = 77;
 
 /// Longest sync text, in bytes.
 pub const TEXT_BYTES: usize = 65_536;
 
-/// Most record lines of a sync text, and their words.
+/// Most record lines of a sync text.
 pub const TEXT_RECORDS: usize = 99;
+
+/// The words of so many records.
 pub const TEXT_WORDS: usize = TEXT_RECORDS * WORDS;
 
 /// Bytes that every log fits.
@@ -26,7 +67,7 @@ pub const LOG_BYTES: usize = 1_179_679;
 /// Why a call was refused.
 #[derive(Clone, Copy, Debug, PartialEq, Eq)]
 pub struct Refusal {
-    /// 1 to 8, of a session 20 to 22, and of a text 6, 9 and 10.
+    /// One of [`refused`].
     pub number: u32,
     /// For 8 the lowest malformed address, for 9 a byte offset, otherwise 0.
     pub place: u32,
@@ -34,61 +75,100 @@ pub struct Refusal {
     pub rule: u32,
 }
 
+impl fmt::Display for Refusal {
+    fn fmt(&self, f: &mut fmt::Formatter) -> fmt::Result {
+        let meaning = refused::meaning(self.number);
+        write!(f, "refused {}: {meaning}", self.number)?;
+        match self.number {
+            refused::RECORD => write!(f, ", place {}, rule {}", self.place, self.rule),
+            refused::GRAMMAR => write!(f, ", place {}", self.place),
+            _ => Ok(()),
+        }
+    }
+}
+
+impl std::error::Error for Refusal {}
+
 /// Split of a quadrant, width by height.
 #[derive(Clone, Copy, Debug, PartialEq, Eq)]
 pub enum SubSplit {
+    /// One piece, sub-type 0.
     S8x8,
+    /// Two pieces, one above the other, sub-type 1.
     S8x4,
+    /// Two pieces side by side, sub-type 2.
     S4x8,
+    /// Four pieces, sub-type 3.
     S4x4,
 }
 
 /// Split of a macroblock, width by height.
 #[derive(Clone, Copy, Debug, PartialEq, Eq)]
 pub enum Split {
+    /// One piece, type 1.
     S16x16,
+    /// Two pieces, one above the other, type 2.
     S16x8,
+    /// Two pieces side by side, type 3.
     S8x16,
-    /// With the sub-splits of quadrants 0 to 3 in raster order.
+    /// Type 4, with the sub-splits of quadrants 0 to 3 in raster order.
     S8x8([SubSplit; 4]),
 }
 
+/// The sort of an answer. The written record says the same in words 0 to 4.
 #[derive(Clone, Copy, Debug, PartialEq, Eq)]
 pub enum Kind {
+    /// Nine or more of the sixteen blocks read intra macroblocks: a record of
+    /// type 0, references -1 and vectors 0.
     Intra,
+    /// A record with motion, in the fewest pieces.
     Inherited(Split),
+    /// The macroblock does not lie wholly in the window, and reads nothing: a
+    /// record of type 5, references -1 and vectors 0.
     Outside,
 }
 
-/// The base macroblocks that are read: one, two columns, two rows, four.
+/// The base macroblocks that are read.
 #[derive(Clone, Copy, Debug, PartialEq, Eq)]
 pub enum Class {
+    /// One; also the class outside, where none is read.
     Corner,
+    /// Two columns.
     Vert,
+    /// Two rows.
     Hori,
+    /// Two columns and two rows.
     Center,
 }
 
 /// What was made of one macroblock.
 #[derive(Clone, Copy, Debug, PartialEq, Eq)]
 pub struct Answer {
+    /// The sort, with the split.
     pub kind: Kind,
+    /// How many base columns and rows are read.
     pub class: Class,
-    /// First base column and row; 0 outside.
+    /// The first base column that is read; 0 outside.
     pub column: u32,
+    /// The first base row that is read; 0 outside.
     pub row: u32,
 }
 
 /// Macroblocks by the kind of their answers.
 #[derive(Clone, Copy, Debug, PartialEq, Eq)]
 pub struct Counts {
+    /// Those with motion.
     pub inherited: u32,
+    /// Those answered intra.
     pub intra: u32,
+    /// Those not wholly in the window.
     pub outside: u32,
 }
 
-/// Makes the record of the macroblock at `column` and `row`. `out` has `WORDS`
-/// words, `base` `WORDS` for each base macroblock in raster order.
+/// Makes the record of the macroblock at `column` and `row`. `base` has [`WORDS`]
+/// for each base macroblock in raster order, `out` has [`WORDS`]. Refusals 1 to 8
+/// in rising order; 8 checks only the records that are read, none outside. The
+/// others may hold any words.
 pub fn macroblock(
     geometry: Geometry,
     base: &[i16],
@@ -99,19 +179,25 @@ pub fn macroblock(
     numbers::macroblock(geometry, base, column, row, out).result()
 }
 
-/// Makes the records of all macroblocks of the picture in raster order.
+/// Makes the records of all macroblocks of the full picture in raster order, each
+/// as [`macroblock`] does. `base` is as there, `out` has [`WORDS`] for each
+/// macroblock. Refusals 1 to 6 and 8 in rising order; 8 checks all base records.
 pub fn picture(geometry: Geometry, base: &[i16], out: &mut [i16]) -> Result<Counts, Refusal> {
     numbers::picture(geometry, base, out).result()
 }
 
 /// Reads a sync text: the geometry's numbers and the count of record lines,
-/// whose words stand first in `words`, which has `TEXT_WORDS`. Neither numbers
-/// nor words are judged. Refusals 6, 10 by length, 9, 10 by lines.
+/// whose words stand first in `words`, which has [`TEXT_WORDS`]; the rest is as it
+/// was. Neither numbers nor words are judged. Refusals 6, 10 by length, 9, 10 by
+/// lines, in this order. `include/spiewomir.h` has the grammar.
 pub fn text(text: &[u8], words: &mut [i16]) -> Result<(Geometry, u32), Refusal> {
     numbers::text(text, words).result()
 }
 
-/// The log of a sync text, of which `(refused number place)` is one.
+/// The log of a sync text: a line `(mb column row type pieces)` for each
+/// macroblock, then `(sync macroblocks inherited intra outside)`; or only
+/// `(refused number place)`, by the first of 10 by length, 9, 10 by lines, 1 to 5,
+/// and 8 on all records.
 pub fn log(text: &[u8]) -> Vec<u8> {
     let mut log = vec![0; LOG_BYTES];
     let written = numbers::log(text, &mut log);
@@ -120,28 +206,29 @@ pub fn log(text: &[u8]) -> Vec<u8> {
 }
 
 /// A session: one picture made macroblock by macroblock. Each call hands it
-/// back with its answer.
+/// back with its answer; a refused one hands it back as it was.
 #[derive(Clone, Copy, Debug, PartialEq, Eq)]
 pub struct Session(numbers::Session);
 
 impl Session {
+    /// One with nothing begun.
     pub fn fresh() -> Session {
         Session(numbers::Session::fresh())
     }
 
-    /// Refusals 22, and 1 to 4.
+    /// Begins a picture, also after a finished one. Refusals 22, then 1 to 4.
     pub fn begin(self, geometry: Geometry) -> (Session, Result<(), Refusal>) {
         self.0.begin(geometry).result()
     }
 
-    /// The next macroblock in raster order: refusals 20 and 21, and those of
-    /// `macroblock`.
+    /// The next macroblock in raster order, as [`macroblock`] makes it: refusals
+    /// 20 and 21, then 5, 6 and 8.
     pub fn next(self, base: &[i16], out: &mut [i16]) -> (Session, Result<Answer, Refusal>) {
         let advanced = self.0.next(base, out);
         (Session(advanced.session), advanced.macroblock.result())
     }
 
-    /// Makes it fresh. Refusals 20 and 21.
+    /// Gives up an unfinished picture: the session is fresh. Refusals 20 and 21.
     pub fn abandon(self) -> (Session, Result<(), Refusal>) {
         self.0.abandon().result()
     }
@@ -173,7 +260,8 @@ impl numbers::Judged {
 }
 
 impl numbers::Macroblock {
-    /// Panics on numbers that the library's contract excludes.
+    /// The answer or the refusal. Panics on numbers that the library's contract
+    /// excludes.
     pub fn result(self) -> Result<Answer, Refusal> {
         if self.refusal != 0 {
             return Err(Refusal {
@@ -209,6 +297,7 @@ impl numbers::Macroblock {
 }
 
 impl numbers::Picture {
+    /// The counts or the refusal.
     pub fn result(self) -> Result<Counts, Refusal> {
         if self.refusal != 0 {
             return Err(Refusal {
@@ -226,6 +315,7 @@ impl numbers::Picture {
 }
 
 impl numbers::Text {
+    /// The geometry's numbers and the count of record lines, or the refusal.
     pub fn result(self) -> Result<(Geometry, u32), Refusal> {
         match self.refusal {
             0 => Ok((self.geometry, self.lines)),

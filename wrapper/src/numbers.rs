@@ -1,17 +1,28 @@
 //! The C interface as `include/spiewomir.h` declares it, and its calls on
-//! slices. Answers are the interface's own numbers.
+//! slices. Answers are the interface's own numbers; what a refusal does not give
+//! is 0. Lengths, refusals and their order are those of the crate's own calls.
 
-/// The geometry's eight numbers in luma samples, not yet judged.
+/// The geometry's eight numbers in luma samples, not yet judged. The base picture,
+/// scaled, is a window of the full picture at the offset; it may lie partly or
+/// wholly off the picture.
 #[repr(C)]
 #[derive(Clone, Copy, Debug, Default, PartialEq, Eq)]
 pub struct Geometry {
+    /// A multiple of 16 in 16..4096.
     pub base_width: i32,
+    /// The same.
     pub base_height: i32,
+    /// Even, from `base_width` to twice that.
     pub scaled_width: i32,
+    /// The same of `base_height`.
     pub scaled_height: i32,
+    /// The window's left side, even, in -8192..8190.
     pub offset_x: i32,
+    /// Its upper side, the same.
     pub offset_y: i32,
+    /// A multiple of 16 in 16..4096.
     pub full_width: i32,
+    /// The same.
     pub full_height: i32,
 }
 
@@ -19,19 +30,27 @@ pub struct Geometry {
 #[repr(C)]
 #[derive(Clone, Copy, Debug, Default, PartialEq, Eq)]
 pub struct Macroblock {
+    /// 0, or the refusal's number.
     pub refusal: u32,
+    /// Its place; 0 but for 8.
     pub place: u32,
+    /// Its rule; 0 but for 8.
     pub rule: u32,
     /// Word 0 of the written record.
     pub kind: u32,
-    /// Sub-types of quadrants 0 to 3, 0 unless `kind` is 4.
+    /// Sub-type of quadrant 0, word 1; 0 unless `kind` is 4.
     pub sub0: u32,
+    /// Of quadrant 1.
     pub sub1: u32,
+    /// Of quadrant 2.
     pub sub2: u32,
+    /// Of quadrant 3.
     pub sub3: u32,
+    /// 0 Corner, 1 Vert, 2 Hori, 3 Center.
     pub class: u32,
-    /// First base column and row.
+    /// First base column; 0 outside.
     pub column: u32,
+    /// First base row; 0 outside.
     pub row: u32,
 }
 
@@ -39,11 +58,17 @@ pub struct Macroblock {
 #[repr(C)]
 #[derive(Clone, Copy, Debug, Default, PartialEq, Eq)]
 pub struct Picture {
+    /// 0, or the refusal's number.
     pub refusal: u32,
+    /// Its place; 0 but for 8.
     pub place: u32,
+    /// Its rule; 0 but for 8.
     pub rule: u32,
+    /// Macroblocks with motion.
     pub inherited: u32,
+    /// Macroblocks answered intra.
     pub intra: u32,
+    /// Macroblocks outside.
     pub outside: u32,
 }
 
@@ -53,9 +78,13 @@ pub struct Picture {
 pub struct Session {
     /// 1 once a picture is begun.
     pub begun: u32,
+    /// The picture's.
     pub geometry: Geometry,
+    /// Accepted next calls that gave motion.
     pub inherited: u32,
+    /// Those that gave intra.
     pub intra: u32,
+    /// Those that gave outside.
     pub outside: u32,
 }
 
@@ -63,9 +92,13 @@ pub struct Session {
 #[repr(C)]
 #[derive(Clone, Copy, Debug, Default, PartialEq, Eq)]
 pub struct Judged {
+    /// As it is now; as it was in a refusal.
     pub session: Session,
+    /// 0, or the refusal's number.
     pub refusal: u32,
+    /// 0, as these refusals have no place.
     pub place: u32,
+    /// 0 too.
     pub rule: u32,
 }
 
@@ -73,7 +106,9 @@ pub struct Judged {
 #[repr(C)]
 #[derive(Clone, Copy, Debug, Default, PartialEq, Eq)]
 pub struct Advanced {
+    /// As it is now; as it was in a refusal.
     pub session: Session,
+    /// The answer.
     pub macroblock: Macroblock,
 }
 
@@ -81,9 +116,13 @@ pub struct Advanced {
 #[repr(C)]
 #[derive(Clone, Copy, Debug, Default, PartialEq, Eq)]
 pub struct Totals {
+    /// As it was.
     pub session: Session,
+    /// Its count of inherited macroblocks.
     pub inherited: u32,
+    /// Of intra ones.
     pub intra: u32,
+    /// Of those outside.
     pub outside: u32,
 }
 
@@ -91,9 +130,13 @@ pub struct Totals {
 #[repr(C)]
 #[derive(Clone, Copy, Debug, Default, PartialEq, Eq)]
 pub struct Text {
+    /// 0, or the refusal's number.
     pub refusal: u32,
+    /// Its place; 0 but for 9.
     pub place: u32,
+    /// 0, as these refusals have no rule.
     pub rule: u32,
+    /// As it stands in the text, not judged.
     pub geometry: Geometry,
     /// Record lines.
     pub lines: u32,
@@ -103,6 +146,7 @@ pub struct Text {
 #[repr(C)]
 #[derive(Clone, Copy, Debug, Default, PartialEq, Eq)]
 pub struct Log {
+    /// 0, or 6.
     pub refusal: u32,
     /// The log's length.
     pub bytes: usize,
@@ -192,23 +236,26 @@ pub fn text(text: &[u8], words: &mut [i16]) -> Text {
     unsafe { spiewomir_text(text.as_ptr(), text.len(), words.as_mut_ptr(), words.len()) }
 }
 
-/// The log call.
+/// The log call; `log` has [`LOG_BYTES`](crate::LOG_BYTES) or more.
 pub fn log(text: &[u8], log: &mut [u8]) -> Log {
     // SAFETY: as in `macroblock`, with bytes to read and to write.
     unsafe { spiewomir_log(text.as_ptr(), text.len(), log.as_mut_ptr(), log.len()) }
 }
 
 impl Session {
+    /// One with nothing begun.
     pub fn fresh() -> Session {
         // SAFETY: the function asks nothing.
         unsafe { spiewomir_session_fresh() }
     }
 
+    /// Begins a picture.
     pub fn begin(self, geometry: Geometry) -> Judged {
         // SAFETY: the function asks nothing of its numbers.
         unsafe { spiewomir_session_begin(self, geometry) }
     }
 
+    /// The next macroblock in raster order.
     pub fn next(self, base: &[i16], out: &mut [i16]) -> Advanced {
         // SAFETY: as in `macroblock`.
         unsafe {
@@ -216,11 +263,13 @@ impl Session {
         }
     }
 
+    /// Makes it fresh.
     pub fn abandon(self) -> Judged {
         // SAFETY: the function asks nothing of its numbers.
         unsafe { spiewomir_session_abandon(self) }
     }
 
+    /// The counts of its accepted next calls.
     pub fn totals(self) -> Totals {
         // SAFETY: the function asks nothing of its numbers.
         unsafe { spiewomir_session_totals(self) }

@@ -1,12 +1,15 @@
 //! Reads a sync text from standard input, makes its picture, and prints the
 //! counts and the record of one macroblock: `picture COLUMN ROW < TEXT`.
+//!
+//! The exit status is 0, 1 if a call refuses, which is printed, or 2 if the
+//! arguments are no two numbers or the text cannot be read.
 
-use spiewomir::{Refusal, TEXT_BYTES, TEXT_WORDS, WORDS};
+use spiewomir::{Counts, Refusal, TEXT_BYTES, TEXT_WORDS, WORDS};
 use std::io::Read;
 use std::process::ExitCode;
 
 /// The counts, and the record of the macroblock at a column and row.
-fn picture(text: &[u8], column: usize, row: usize) -> Result<(spiewomir::Counts, Vec<i16>), Refusal> {
+fn picture(text: &[u8], column: i32, row: i32) -> Result<(Counts, [i16; WORDS]), Refusal> {
     let mut base = vec![0; TEXT_WORDS];
     let (geometry, lines) = spiewomir::text(text, &mut base)?;
     base.truncate(lines as usize * WORDS);
@@ -17,16 +20,24 @@ fn picture(text: &[u8], column: usize, row: usize) -> Result<(spiewomir::Counts,
     let (columns, rows) = (across(geometry.full_width), across(geometry.full_height));
     let mut out = vec![0; columns * rows * WORDS];
     let counts = spiewomir::picture(geometry, &base, &mut out)?;
-    if column >= columns || row >= rows {
-        return Err(Refusal { number: 7, place: 0, rule: 0 });
-    }
-    let address = row * columns + column;
-    Ok((counts, out[address * WORDS..][..WORDS].to_vec()))
+
+    // One record: the words that the picture has from 77 * (row * columns + column)
+    // on. The call judges the place.
+    let mut record = [0; WORDS];
+    spiewomir::macroblock(geometry, &base, column, row, &mut record)?;
+    Ok((counts, record))
+}
+
+/// Two arguments, each wholly a number.
+fn place() -> Option<(i32, i32)> {
+    let mut arguments = std::env::args_os().skip(1);
+    let mut number = || arguments.next()?.to_str()?.parse().ok();
+    let place = (number()?, number()?);
+    arguments.next().is_none().then_some(place)
 }
 
 fn main() -> ExitCode {
-    let place: Vec<usize> = std::env::args().skip(1).filter_map(|word| word.parse().ok()).collect();
-    let &[column, row] = place.as_slice() else {
+    let Some((column, row)) = place() else {
         eprintln!("usage: picture COLUMN ROW < TEXT");
         return ExitCode::from(2);
     };
@@ -38,8 +49,7 @@ fn main() -> ExitCode {
     match picture(&text, column, row) {
         Ok((counts, record)) => {
             println!("inherited {} intra {} outside {}", counts.inherited, counts.intra, counts.outside);
-            let words: Vec<String> = record.iter().map(i16::to_string).collect();
-            println!("{}", words.join(" "));
+            println!("{}", record.map(|word| word.to_string()).join(" "));
             ExitCode::SUCCESS
         }
         Err(refusal) => {

@@ -1,0 +1,210 @@
+/* The header's constants and members against the library: each refusal is provoked, each
+ * kind and class met, each limit tried on both sides.
+ *
+ *     constants < examples/unaligned.sync
+ *
+ * Prints what does not hold; the exit status is 0 if all does. */
+#include "spiewomir.h"
+#include <stdio.h>
+#include <string.h>
+
+static int wrong;
+
+static void is(int line, const char *what, uint32_t got, uint32_t expected) {
+    if (got == expected) return;
+    printf("constants: line %d: %s is %u, not %u\n", line, what, (unsigned)got, (unsigned)expected);
+    wrong = 1;
+}
+
+#define IS(got, expected) is(__LINE__, #got, (uint32_t)(got), (uint32_t)(expected))
+
+#define W SPIEWOMIR_WORDS
+static int16_t base[SPIEWOMIR_TEXT_WORDS + 1], one[W + 1], out[25 * W];
+static uint8_t text[SPIEWOMIR_TEXT_BYTES + 1], room[SPIEWOMIR_LOG_BYTES];
+static const SpiewomirGeometry small = {16, 16, 16, 16, 0, 0, 16, 16};
+
+static void intra(int16_t *words) {
+    for (int i = 0; i < W; i++) words[i] = i >= 5 && i < 13 ? -1 : 0;
+}
+
+/* ---- refusals 1 to 4: each of the eight numbers, wrong by itself */
+static void judged(SpiewomirGeometry g, uint32_t expected) {
+    IS(spiewomir_macroblock(g, base, W, 0, 0, one, W).refusal, expected);
+    IS(spiewomir_picture(g, base, W, out, W).refusal, expected);
+    IS(spiewomir_session_begin(spiewomir_session_fresh(), g).refusal, expected);
+}
+
+static void geometries(void) {
+    SpiewomirGeometry g = small;
+    intra(base);
+    judged(g, SPIEWOMIR_ANSWERED);
+    g = small, g.base_width++, judged(g, SPIEWOMIR_REFUSED_BASE_SIZE);
+    g = small, g.base_height++, judged(g, SPIEWOMIR_REFUSED_BASE_SIZE);
+    g = small, g.full_width++, judged(g, SPIEWOMIR_REFUSED_FULL_SIZE);
+    g = small, g.full_height++, judged(g, SPIEWOMIR_REFUSED_FULL_SIZE);
+    g = small, g.scaled_width++, judged(g, SPIEWOMIR_REFUSED_SCALED_SIZE);
+    g = small, g.scaled_height++, judged(g, SPIEWOMIR_REFUSED_SCALED_SIZE);
+    g = small, g.offset_x++, judged(g, SPIEWOMIR_REFUSED_OFFSET);
+    g = small, g.offset_y++, judged(g, SPIEWOMIR_REFUSED_OFFSET);
+}
+
+/* ---- refusals 5 to 8 */
+static void records(void) {
+    SpiewomirGeometry g = small;
+    g.full_width = 32; /* two columns, one row */
+    intra(base);
+    IS(spiewomir_macroblock(g, base, W, 1, 0, one, W).refusal, SPIEWOMIR_ANSWERED);
+    IS(spiewomir_macroblock(g, base, W - 1, 1, 0, one, W).refusal, SPIEWOMIR_REFUSED_BASE_LENGTH);
+    IS(spiewomir_macroblock(g, base, W + 1, 1, 0, one, W).refusal, SPIEWOMIR_REFUSED_BASE_LENGTH);
+    IS(spiewomir_macroblock(g, base, W, 1, 0, one, W - 1).refusal, SPIEWOMIR_REFUSED_OUTPUT_LENGTH);
+    IS(spiewomir_macroblock(g, base, W, 1, 0, one, W + 1).refusal, SPIEWOMIR_REFUSED_OUTPUT_LENGTH);
+    IS(spiewomir_macroblock(g, base, W, 2, 0, one, W).refusal, SPIEWOMIR_REFUSED_POSITION);
+    IS(spiewomir_macroblock(g, base, W, 0, 1, one, W).refusal, SPIEWOMIR_REFUSED_POSITION);
+    IS(spiewomir_macroblock(g, base, W, -1, 0, one, W).refusal, SPIEWOMIR_REFUSED_POSITION);
+
+    /* the second of two records breaks rule 4; the macroblock reads it */
+    g = small, g.base_width = g.scaled_width = 32, g.offset_x = -16;
+    intra(base + W);
+    base[W + 12] = 0;
+    SpiewomirMacroblock m = spiewomir_macroblock(g, base, 2 * W, 0, 0, one, W);
+    IS(m.refusal, SPIEWOMIR_REFUSED_RECORD);
+    IS(m.place, 1);
+    IS(m.rule, 4);
+    SpiewomirPicture p = spiewomir_picture(g, base, 2 * W, out, W);
+    IS(p.refusal, SPIEWOMIR_REFUSED_RECORD);
+    IS(p.place, 1);
+    IS(p.rule, 4);
+}
+
+/* ---- kinds and sub-types: at ratio 1 the motions of the base's sixteen blocks, told apart by a digit each */
+static SpiewomirMacroblock split(const char *motions) {
+    base[0] = 4;
+    for (int i = 1; i < 5; i++) base[i] = 3;
+    for (int i = 5; i < 13; i++) base[i] = i % 2 ? 0 : -1;
+    memset(base + 13, 0, 64 * sizeof *base);
+    for (int i = 0; i < 16; i++) base[13 + 4 * i] = (int16_t)(motions[i] - '0');
+    return spiewomir_macroblock(small, base, W, 0, 0, one, W);
+}
+
+static void kinds(void) {
+    SpiewomirMacroblock m;
+    IS(split("0000000000000000").kind, SPIEWOMIR_16X16);
+    IS(split("0000000011111111").kind, SPIEWOMIR_16X8);
+    IS(split("0011001100110011").kind, SPIEWOMIR_8X16);
+    m = split("0011002234563478");
+    IS(m.refusal, SPIEWOMIR_ANSWERED);
+    IS(m.kind, SPIEWOMIR_8X8);
+    IS(m.sub0, 0);
+    IS(m.sub1, 1);
+    IS(m.sub2, 2);
+    IS(m.sub3, 3);
+}
+
+/* ---- texts: refusals 6, 9 and 10, and the members in their order */
+static void texts(void) {
+    static const char some[] = "(base 16 32)\n(scaled 18 34)\n(at -2 4)\n(full 48 64)\n";
+    size_t n = sizeof some - 1;
+    SpiewomirText t;
+    memset(text, 'a', sizeof text);
+    IS(spiewomir_text(text, SPIEWOMIR_TEXT_BYTES, base, SPIEWOMIR_TEXT_WORDS).refusal, SPIEWOMIR_REFUSED_GRAMMAR);
+    IS(spiewomir_text(text, SPIEWOMIR_TEXT_BYTES + 1, base, SPIEWOMIR_TEXT_WORDS).refusal, SPIEWOMIR_REFUSED_LIMIT);
+    IS(spiewomir_text(text, SPIEWOMIR_TEXT_BYTES + 1, base, SPIEWOMIR_TEXT_WORDS - 1).refusal, SPIEWOMIR_REFUSED_OUTPUT_LENGTH);
+    IS(spiewomir_text(text, SPIEWOMIR_TEXT_BYTES + 1, base, SPIEWOMIR_TEXT_WORDS + 1).refusal, SPIEWOMIR_REFUSED_OUTPUT_LENGTH);
+    memcpy(text, some, n);
+    t = spiewomir_text(text, n - 1, base, SPIEWOMIR_TEXT_WORDS);
+    IS(t.refusal, SPIEWOMIR_REFUSED_GRAMMAR);
+    IS(t.place, n - 1);
+    IS(t.rule, 0);
+    for (int i = 0; i <= SPIEWOMIR_TEXT_RECORDS; i++) memcpy(text + n + 8 * (size_t)i, "(intra)\n", 8);
+    t = spiewomir_text(text, n + 8 * SPIEWOMIR_TEXT_RECORDS, base, SPIEWOMIR_TEXT_WORDS);
+    IS(t.refusal, SPIEWOMIR_ANSWERED);
+    IS(t.lines, SPIEWOMIR_TEXT_RECORDS);
+    IS(t.geometry.base_width, 16);
+    IS(t.geometry.base_height, 32);
+    IS(t.geometry.scaled_width, 18);
+    IS(t.geometry.scaled_height, 34);
+    IS(t.geometry.offset_x, -2);
+    IS(t.geometry.offset_y, 4);
+    IS(t.geometry.full_width, 48);
+    IS(t.geometry.full_height, 64);
+    IS(spiewomir_text(text, n + 8 * (SPIEWOMIR_TEXT_RECORDS + 1), base, SPIEWOMIR_TEXT_WORDS).refusal, SPIEWOMIR_REFUSED_LIMIT);
+    IS(spiewomir_log(text, n, room, SPIEWOMIR_LOG_BYTES - 1).refusal, SPIEWOMIR_REFUSED_OUTPUT_LENGTH);
+    IS(spiewomir_log(text, n, room, SPIEWOMIR_LOG_BYTES).refusal, SPIEWOMIR_ANSWERED);
+}
+
+/* ---- the picture of examples/unaligned.sync: classes, counts, and refusals 20 to 22 */
+static const struct {
+    int32_t column, row;
+    uint32_t class_, base_column, base_row;
+    int inherited;
+} read_by[] = {{1, 1, SPIEWOMIR_CORNER, 0, 0, 1}, {2, 1, SPIEWOMIR_VERT, 0, 0, 1},   {3, 2, SPIEWOMIR_HORI, 1, 0, 1},
+               {2, 2, SPIEWOMIR_CENTER, 0, 0, 1}, {3, 1, SPIEWOMIR_CORNER, 1, 0, 1}, {1, 3, SPIEWOMIR_CORNER, 0, 1, 0}};
+
+static void picture(size_t length) {
+    SpiewomirText t = spiewomir_text(text, length, base, SPIEWOMIR_TEXT_WORDS);
+    size_t words = (size_t)t.lines * W;
+    IS(t.refusal, SPIEWOMIR_ANSWERED);
+    SpiewomirPicture p = spiewomir_picture(t.geometry, base, words, out, 25 * W);
+    IS(p.refusal, SPIEWOMIR_ANSWERED);
+    IS(p.inherited, 7);
+    IS(p.intra, 2);
+    IS(p.outside, 16);
+    for (size_t i = 0; i < sizeof read_by / sizeof *read_by; i++) {
+        SpiewomirMacroblock m = spiewomir_macroblock(t.geometry, base, words, read_by[i].column, read_by[i].row, one, W);
+        IS(m.refusal, SPIEWOMIR_ANSWERED);
+        IS(m.kind != SPIEWOMIR_INTRA && m.kind != SPIEWOMIR_OUTSIDE, read_by[i].inherited);
+        IS(m.class_, read_by[i].class_);
+        IS(m.column, read_by[i].base_column);
+        IS(m.row, read_by[i].base_row);
+    }
+    SpiewomirMacroblock m = spiewomir_macroblock(t.geometry, base, words, 1, 2, one, W);
+    IS(m.kind, SPIEWOMIR_INTRA);
+    IS(one[0], SPIEWOMIR_INTRA);
+    m = spiewomir_macroblock(t.geometry, base, words, 4, 3, one, W);
+    IS(m.kind, SPIEWOMIR_OUTSIDE);
+    IS(one[0], SPIEWOMIR_OUTSIDE);
+    IS(m.class_, SPIEWOMIR_CORNER);
+    IS(m.column, 0);
+    IS(m.row, 0);
+
+    SpiewomirSession s = spiewomir_session_fresh();
+    IS(s.begun, 0);
+    IS(spiewomir_session_next(s, base, words, one, W).macroblock.refusal, SPIEWOMIR_REFUSED_NOTHING_BEGUN);
+    IS(spiewomir_session_abandon(s).refusal, SPIEWOMIR_REFUSED_NOTHING_BEGUN);
+    s = spiewomir_session_begin(s, t.geometry).session;
+    IS(s.begun, 1);
+    IS(s.geometry.scaled_width, 64);
+    IS(s.geometry.full_height, 80);
+    for (int i = 0; i < 25; i++) {
+        IS(spiewomir_session_begin(s, t.geometry).refusal, SPIEWOMIR_REFUSED_UNFINISHED);
+        SpiewomirAdvanced a = spiewomir_session_next(s, base, words, one, W);
+        IS(a.macroblock.refusal, SPIEWOMIR_ANSWERED);
+        IS(a.macroblock.kind, out[i * W]);
+        s = a.session;
+    }
+    IS(spiewomir_session_next(s, base, words, one, W).macroblock.refusal, SPIEWOMIR_REFUSED_FINISHED);
+    IS(spiewomir_session_abandon(s).refusal, SPIEWOMIR_REFUSED_FINISHED);
+    SpiewomirTotals c = spiewomir_session_totals(s);
+    IS(memcmp(&c.session, &s, sizeof s), 0);
+    IS(s.inherited, 7);
+    IS(s.intra, 2);
+    IS(s.outside, 16);
+    IS(c.inherited, 7);
+    IS(c.intra, 2);
+    IS(c.outside, 16);
+
+    static const char last[] = "(sync 25 7 2 16)\n";
+    SpiewomirLog l = spiewomir_log(text, length, room, SPIEWOMIR_LOG_BYTES);
+    IS(l.refusal, SPIEWOMIR_ANSWERED);
+    IS(l.bytes > strlen(last) && !memcmp(room + l.bytes - strlen(last), last, strlen(last)), 1);
+}
+
+int main(void) {
+    size_t length = fread(text, 1, sizeof text, stdin);
+    picture(length);
+    geometries();
+    records();
+    kinds();
+    texts();
+    return wrong;
+}

@@ -1,0 +1,154 @@
+//! Each refusal comes with its constant, and says what it means.
+
+use spiewomir::{
+    macroblock, refused, text, Geometry, Refusal, Session, TEXT_BYTES, TEXT_RECORDS, TEXT_WORDS,
+    WORDS,
+};
+use std::error::Error;
+
+const GEOMETRY: Geometry = Geometry {
+    base_width: 16,
+    base_height: 16,
+    scaled_width: 32,
+    scaled_height: 32,
+    offset_x: 0,
+    offset_y: 0,
+    full_width: 48,
+    full_height: 32,
+};
+
+/// An intra record.
+fn intra() -> [i16; WORDS] {
+    std::array::from_fn(|word| if (5..13).contains(&word) { -1 } else { 0 })
+}
+
+fn is(given: Result<(), Refusal>, number: u32, said: &str) {
+    let refusal = given.expect_err(said);
+    assert_eq!(refusal.number, number, "{refusal}");
+    let error: Box<dyn Error> = refusal.into();
+    assert_eq!(error.to_string(), format!("refused {number}: {said}"));
+}
+
+#[test]
+fn of_records() {
+    let at = |geometry, base: &[i16], column, out| {
+        macroblock(geometry, base, column, 0, &mut vec![0; out]).map(|_| ())
+    };
+    let base = intra();
+    assert_eq!(at(GEOMETRY, &base, 0, WORDS), Ok(()));
+    let size = "size no multiple of 16 in 16..4096";
+    let wrong = Geometry {
+        base_width: 24,
+        ..GEOMETRY
+    };
+    is(
+        at(wrong, &base, 0, WORDS),
+        refused::BASE_SIZE,
+        &format!("base {size}"),
+    );
+    let wrong = Geometry {
+        full_height: 0,
+        ..GEOMETRY
+    };
+    is(
+        at(wrong, &base, 0, WORDS),
+        refused::FULL_SIZE,
+        &format!("full {size}"),
+    );
+    let wrong = Geometry {
+        scaled_width: 34,
+        ..GEOMETRY
+    };
+    is(
+        at(wrong, &base, 0, WORDS),
+        refused::SCALED_SIZE,
+        "scaled size odd, below the base's or above twice that",
+    );
+    let wrong = Geometry {
+        offset_y: 1,
+        ..GEOMETRY
+    };
+    is(
+        at(wrong, &base, 0, WORDS),
+        refused::OFFSET,
+        "offset odd or outside -8192..8190",
+    );
+    is(
+        at(GEOMETRY, &base[1..], 0, WORDS),
+        refused::BASE_LENGTH,
+        "base length does not fit the base picture",
+    );
+    is(
+        at(GEOMETRY, &base, 0, WORDS + 1),
+        refused::OUTPUT_LENGTH,
+        "output length is not what the call writes",
+    );
+    is(
+        at(GEOMETRY, &base, 3, WORDS),
+        refused::POSITION,
+        "column or row outside the picture",
+    );
+    let mut base = base;
+    base[5] = 0;
+    is(
+        at(GEOMETRY, &base, 0, WORDS),
+        refused::RECORD,
+        "malformed record, place 0, rule 4",
+    );
+}
+
+#[test]
+fn of_texts() {
+    let read = |bytes: &[u8]| text(bytes, &mut vec![0; TEXT_WORDS]).map(|_| ());
+    is(
+        read(b"(base 16 16)\n(scaled"),
+        refused::GRAMMAR,
+        "text breaks the grammar, place 20",
+    );
+    is(
+        read(&[b'a'; TEXT_BYTES]),
+        refused::GRAMMAR,
+        "text breaks the grammar, place 0",
+    );
+    is(
+        read(&[b'a'; TEXT_BYTES + 1]),
+        refused::LIMIT,
+        "text has too many bytes or record lines",
+    );
+    let mut lines = b"(base 16 16)\n(scaled 32 32)\n(at 0 0)\n(full 48 32)\n".to_vec();
+    lines.extend_from_slice(&b"(intra)\n".repeat(TEXT_RECORDS));
+    assert_eq!(
+        text(&lines, &mut vec![0; TEXT_WORDS]),
+        Ok((GEOMETRY, TEXT_RECORDS as u32))
+    );
+    lines.extend_from_slice(b"(intra)\n");
+    is(
+        read(&lines),
+        refused::LIMIT,
+        "text has too many bytes or record lines",
+    );
+}
+
+#[test]
+fn of_sessions() {
+    let (fresh, given) = Session::fresh().abandon();
+    is(given, refused::NOTHING_BEGUN, "nothing begun");
+    let (begun, given) = fresh.begin(Geometry {
+        full_width: 16,
+        full_height: 16,
+        ..GEOMETRY
+    });
+    assert_eq!(given, Ok(()));
+    is(
+        begun.begin(GEOMETRY).1,
+        refused::UNFINISHED,
+        "a picture is unfinished",
+    );
+    let (finished, given) = begun.next(&intra(), &mut intra());
+    assert!(given.is_ok());
+    is(
+        finished.abandon().1,
+        refused::FINISHED,
+        "after the last macroblock",
+    );
+}
