@@ -94,10 +94,10 @@ static void kinds(void) {
     m = split("0011002234563478");
     IS(m.refusal, SPIEWOMIR_ANSWERED);
     IS(m.kind, SPIEWOMIR_8X8);
-    IS(m.sub0, 0);
-    IS(m.sub1, 1);
-    IS(m.sub2, 2);
-    IS(m.sub3, 3);
+    IS(m.sub0, SPIEWOMIR_SUB_8X8);
+    IS(m.sub1, SPIEWOMIR_SUB_8X4);
+    IS(m.sub2, SPIEWOMIR_SUB_4X8);
+    IS(m.sub3, SPIEWOMIR_SUB_4X4);
 }
 
 /* ---- texts: refusals 6, 9 and 10, and the members in their order */

@@ -245,17 +245,16 @@ impl Session {
     }
 }
 
+fn verdict(number: u32, place: u32, rule: u32) -> Result<(), Refusal> {
+    match number {
+        0 => Ok(()),
+        number => Err(Refusal { number, place, rule }),
+    }
+}
+
 impl numbers::Judged {
     fn result(self) -> (Session, Result<(), Refusal>) {
-        let verdict = match self.refusal {
-            0 => Ok(()),
-            number => Err(Refusal {
-                number,
-                place: self.place,
-                rule: self.rule,
-            }),
-        };
-        (Session(self.session), verdict)
+        (Session(self.session), verdict(self.refusal, self.place, self.rule))
     }
 }
 
@@ -263,13 +262,7 @@ impl numbers::Macroblock {
     /// The answer or the refusal. Panics on numbers that the library's contract
     /// excludes.
     pub fn result(self) -> Result<Answer, Refusal> {
-        if self.refusal != 0 {
-            return Err(Refusal {
-                number: self.refusal,
-                place: self.place,
-                rule: self.rule,
-            });
-        }
+        verdict(self.refusal, self.place, self.rule)?;
         let subs = [self.sub0, self.sub1, self.sub2, self.sub3];
         let kind = match self.kind {
             0 => Kind::Intra,
@@ -299,13 +292,7 @@ impl numbers::Macroblock {
 impl numbers::Picture {
     /// The counts or the refusal.
     pub fn result(self) -> Result<Counts, Refusal> {
-        if self.refusal != 0 {
-            return Err(Refusal {
-                number: self.refusal,
-                place: self.place,
-                rule: self.rule,
-            });
-        }
+        verdict(self.refusal, self.place, self.rule)?;
         Ok(Counts {
             inherited: self.inherited,
             intra: self.intra,
@@ -317,14 +304,8 @@ impl numbers::Picture {
 impl numbers::Text {
     /// The geometry's numbers and the count of record lines, or the refusal.
     pub fn result(self) -> Result<(Geometry, u32), Refusal> {
-        match self.refusal {
-            0 => Ok((self.geometry, self.lines)),
-            number => Err(Refusal {
-                number,
-                place: self.place,
-                rule: self.rule,
-            }),
-        }
+        verdict(self.refusal, self.place, self.rule)?;
+        Ok((self.geometry, self.lines))
     }
 }
 
