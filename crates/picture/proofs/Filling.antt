@@ -37,6 +37,7 @@ read-more a x reads r h so-far e = record {
       (λ same. ap (λ (j : ℕ). getD (set reads x r) j noRead) same ∙ (getD-set-same reads x r noRead (omega (arith, so-far .size)) ∙ (e ∙ ap (readOf a) (sym same))))
       (λ less. getD-set-other reads x k r noRead (λ same. omega arith) ∙ so-far .each k less)
       (below-last k x l);
+  rest = λ k l m. getD-set-other reads x k r noRead (λ same. omega arith) ∙ so-far .rest k (omega arith) m;
 }
 
 -- ---- where an address stands

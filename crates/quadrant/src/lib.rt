@@ -6,6 +6,7 @@ ghost use Rattle.quadrant.specs.Merging.{AllEmpty, firstOf, oneReference
 ghost use lib.ListN.{getD};
 ghost use lib.Signed.{ltZ};
 ghost use mathlib.Core.List.{[], _∷_};
+ghost use mathlib.Core.Logic.{_⊎_};
 ghost use mathlib.Core.Path.{_≡_};
 use definitions::Motion;
 use definitions::Prediction;
@@ -73,9 +74,9 @@ fn is_lower(p: Prediction, q: Prediction) -> bool
     p.reference < q.reference
 }
 
-// The one with the lower used reference: of it only the reference is read.
+// The one of the two with the lower used reference.
 fn lower_of(p: Prediction, q: Prediction) -> Prediction
-    ensures { λ r. ⌜ r .reference ≡ lower (p .reference) (q .reference) ⌝ }
+    ensures { λ r. ⌜ (r .reference ≡ lower (p .reference) (q .reference)) × ((r ≡ p) ⊎ (r ≡ q)) ⌝ }
 {
     if !is_used(p) | (is_used(q) & is_lower(q, p)) {
         return q;

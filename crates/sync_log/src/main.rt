@@ -2,7 +2,7 @@
 ghost use Prim.Native.Nat.{_≤_};
 ghost use Rattle.definitions.specs.Log.{LogAnswer, logBytes};
 ghost use Rattle.sync_log.specs.Input.{Within};
-ghost use lib.ListN.{length};
+ghost use lib.ListN.{length, replicate};
 ghost use mathlib.Core.Path.{_≡_};
 use definitions::LogReply;
 
@@ -37,9 +37,9 @@ fn read_input(buf: &mut [u8]) -> Input
     Input::Text(done)
 }
 
-// The `ensures` gives the length alone: the prover does not write out that many zeros.
+// A buffer that every log fits.
 fn log_room() -> [u8; LOG_ROOM]
-    ensures { λ r. ⌜ 1179679 ≡ length r ⌝ }
+    ensures { λ r. ⌜ r ≡ replicate 1179679 0 ⌝ }
 {
     [0; LOG_ROOM]
 }

@@ -1,11 +1,11 @@
 -- `picture::column_reads` meets its contract. Assumes nothing.
 use Prim.Native.Nat.{ℕ, _-_, _≤_}
-use mathlib.Core.Path.{_≡_, subst}
+use mathlib.Core.Path.{_≡_, subst, _∙_}
 use native.Mathlib.Omega.{arith}
-use lib.ListN.{length-replicate}
+use lib.ListN.{length-replicate, getD-replicate}
 use Rattle.definitions.specs.Geometry.{fullSize, macroblocks}
 use Rattle.macroblock.specs.declared.AxisRead.{AxisRead}
-use Rattle.picture.specs.Reads.{AxisReads}
+use Rattle.picture.specs.Reads.{noRead, AxisReads}
 use Rattle.picture.proofs.Filling.{read-more}
 use borrow.Author.Needs.{needs}
 use Rattle.picture.proofs.column_reads.Statement.{statement}
@@ -21,7 +21,7 @@ read-nowhere-requires : tie.Need-read-nowhere-requires Inv-loop μ-loop
 read-nowhere-requires c κs = search needs
 
 loop-holds : tie.Need-loop-holds Inv-loop μ-loop
-loop-holds c = (omega arith, record { size = length-replicate {A = AxisRead} 256 (c .read-nowhere .result); each = λ k l. absurd (omega arith) })
+loop-holds c = (omega arith, record { size = length-replicate {A = AxisRead} 256 (c .read-nowhere .result); each = λ k l. absurd (omega arith); rest = λ k l m. getD-replicate {A = AxisRead} 256 k (c .read-nowhere .result) noRead m ∙ c .read-nowhere .ensures })
 
 axis-read-requires : tie.Need-axis-read-requires Inv-loop μ-loop
 axis-read-requires c κs = (c .before .before .before .before .pre, omega (arith, c .before .before .before .before .pre .full-high))

@@ -47,7 +47,7 @@ returns c =
     let s = c .before .before .before .before .before .before .before .before .before .before .before .before .before .args in
     let r = c .before .before .before .before .before .before .before .before .before .before .lower-of3 .result in
     let low : r .reference ≡ lower (lower (s .p .reference) (s .q .reference)) (lower (s .s .reference) (s .t .reference)) =
-    let a = c .before .before .before .before .before .before .before .before .before .before .before .before .lower-of .ensures in let b = c .before .before .before .before .before .before .before .before .before .before .before .lower-of2 .ensures in c .before .before .before .before .before .before .before .before .before .before .lower-of3 .ensures ∙ (λ i. lower (a i) (b i)) in
+    let a = c .before .before .before .before .before .before .before .before .before .before .before .before .lower-of .ensures .0 in let b = c .before .before .before .before .before .before .before .before .before .before .before .lower-of2 .ensures .0 in c .before .before .before .before .before .before .before .before .before .before .lower-of3 .ensures .0 ∙ (λ i. lower (a i) (b i)) in
     merged-used (s .p) (s .q) (s .s) (s .t) (r .reference) low (sym (c .before .before .before .before .before .before .before .before .before .is-used .ensures) ∙ c .before .before .before .before .before .before .before .before .if1 .taken)
     (c .before .before .before .before .before .before .before .same-reference .ensures) (c .before .before .before .before .before .before .same-reference2 .ensures) (c .before .before .before .before .before .same-reference3 .ensures) (c .before .before .before .before .same-reference4 .ensures)
     (c .before .before .before .taken .ensures) (c .before .before .taken2 .ensures) (c .before .taken3 .ensures) (c .taken4 .ensures)
@@ -60,7 +60,7 @@ returns-2 c =
     let s = c .before .before .before .before .before .before .args in
     let r = c .before .before .before .lower-of3 .result in
     let low : r .reference ≡ lower (lower (s .p .reference) (s .q .reference)) (lower (s .s .reference) (s .t .reference)) =
-    let a = c .before .before .before .before .before .lower-of .ensures in let b = c .before .before .before .before .lower-of2 .ensures in c .before .before .before .lower-of3 .ensures ∙ (λ i. lower (a i) (b i)) in
+    let a = c .before .before .before .before .before .lower-of .ensures .0 in let b = c .before .before .before .before .lower-of2 .ensures .0 in c .before .before .before .lower-of3 .ensures .0 ∙ (λ i. lower (a i) (b i)) in
     merged-unused (s .p) (s .q) (s .s) (s .t) (r .reference) low (sym (c .before .before .is-used .ensures) ∙ c .before .if1 .left) (c .unused-list .ensures)
 
 pub merge-list-spec : {M : Type 1} → statement M
