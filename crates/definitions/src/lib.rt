@@ -1,4 +1,4 @@
-// The types that the definitions of specs/ speak of. No function stands here.
+// The types that the definitions of specs/ speak of, and the words of a record. No function stands here.
 
 // ---- Geometry
 // Two scales, in luma samples, and a position on one never serves on the other: base samples (003's base layer reference) and enhancement samples
@@ -54,6 +54,9 @@ pub enum Class {
 }
 
 // ---- Motion
+// The words of a motion record.
+pub const RECORD_WORDS: usize = 77;
+
 // A list's part of a block's motion: its reference, -1 unused, and its vector in quarter samples.
 pub struct Prediction {
     pub reference: i16,

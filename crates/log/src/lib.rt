@@ -8,6 +8,7 @@ ghost use Rattle.log.specs.Promised.{LogPromised};
 ghost use lib.ListN.{length};
 ghost use mathlib.Core.Path.{_≡_};
 use definitions::LogReply;
+use definitions::RECORD_WORDS;
 use definitions::Refusal;
 use definitions::TextRead;
 use definitions::TextReply;
@@ -17,17 +18,13 @@ use geometry::Geometry;
 use log_lines::put_line;
 use log_picture::picture_lines;
 use records::check;
+use sync_text::TEXT_WORDS;
 use sync_text::read_text;
 use upsample::base_count;
 use upsample::refused;
 
-const RECORD_WORDS: usize = 77;
-
-// The words of the 99 records that a text can have.
-const TEXT_WORDS: usize = 7623;
-
 // The bytes that every log fits: 65,536 lines of at most 18, and a last one of at most 31.
-const LOG_BYTES: usize = 1179679;
+pub const LOG_BYTES: usize = 1179679;
 
 // The text is read: refusals 1 to 5 and 8, or the lines.
 fn read_lines(t: TextRead, base: &[i16], out: &mut [u8]) -> LogReply

@@ -12,6 +12,7 @@ ghost use mathlib.Core.Path.{_≡_};
 use definitions::Answer;
 use definitions::Axes;
 use definitions::Counts;
+use definitions::RECORD_WORDS;
 use definitions::Split;
 use definitions::SubSplit;
 use log_lines::put_line;
@@ -103,7 +104,7 @@ fn answer_at(g: Axes, base: &[i16], a: usize) -> Answer
     let width = (g.horizontal.full.0 / 16) as usize;
     let h = axis_read(g.horizontal, (a % width) as u32);
     let v = axis_read(g.vertical, (a / width) as u32);
-    let mut words = [0i16; 77];
+    let mut words = [0i16; RECORD_WORDS];
     place(g, base, h, v, &mut words)
 }
 

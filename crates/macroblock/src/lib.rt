@@ -4,7 +4,7 @@ ghost use Rattle.definitions.specs.Accepted.{AcceptedAxis};
 ghost use Rattle.definitions.specs.Answer.{subTypes, unusedMotion};
 ghost use Rattle.definitions.specs.Geometry.{baseSize, macroblocks};
 ghost use Rattle.definitions.specs.Inheriting.{chosen, clearOf, filled, merged, motionAt};
-ghost use Rattle.definitions.specs.Record.{laidOut, subTypeNumber, typeNumber};
+ghost use Rattle.definitions.specs.Record.{laidOut, recordWords, subTypeNumber, typeNumber};
 ghost use Rattle.gather.specs.Reads.{ReadableAt, motionRead, setBy};
 ghost use Rattle.macroblock.specs.Made.{Placeable, Ready, Small, inheritedBy, madeBy, motionsBy, namedBy, nowhere, onePart, placedBy, readIn, readOf, resolvedBy};
 ghost use lib.ListN.{getD, length};
@@ -131,7 +131,7 @@ pub fn sub_types(s: Split) -> [u8; 4]
 }
 
 fn write_split(out: &mut [i16], s: Split, m: [[Motion; 4]; 4])
-    requires { ⌜ length (now out) ≡ 77 ⌝ }
+    requires { ⌜ length (now out) ≡ recordWords ⌝ }
     ensures { λ _. ⌜ now (out .exit) ≡ laidOut (typeNumber s) (λ q. getD (subTypes s) q 0) (motionAt m) ⌝ }
 {
     write_record(out, type_number(s), sub_types(s), m);
@@ -145,7 +145,7 @@ const UNUSED: Prediction = Prediction {
 
 // A record without motion, of type 0 (intra) or 5 (outside).
 fn write_unused(out: &mut [i16], kind: u8)
-    requires { ⌜ length (now out) ≡ 77 ⌝ }
+    requires { ⌜ length (now out) ≡ recordWords ⌝ }
     ensures { λ _. ⌜ now (out .exit) ≡ laidOut kind (λ q. 0) (λ b. unusedMotion) ⌝ }
 {
     let m = Motion {
@@ -213,7 +213,7 @@ fn make_inherited(
     set: u16,
     out: &mut [i16],
 ) -> Split
-    requires { ⌜ Ready g h v (now base) × (set ≡ setBy (macroblocks (baseSize (g .horizontal))) (h .reads) (v .reads) (now base)) × (length (now out) ≡ 77) ⌝ }
+    requires { ⌜ Ready g h v (now base) × (set ≡ setBy (macroblocks (baseSize (g .horizontal))) (h .reads) (v .reads) (now base)) × (length (now out) ≡ recordWords) ⌝ }
     ensures split { λ r. ⌜ r ≡ chosen (motionsBy g h v (now (base .entry))) ⌝ }
     ensures written { λ r. ⌜ now (out .exit) ≡ inheritedBy g h v (now (base .entry)) ⌝ }
 {
@@ -241,7 +241,7 @@ fn is_half(reads: [u16; 4]) -> bool
 
 // Where one macroblock is read: intra, or of one motion (it is 16×16, or one quadrant of it is read that is not divided), it needs no step.
 fn make_of_one(g: Axes, base: &[i16], h: AxisRead, v: AxisRead, out: &mut [i16]) -> Answer
-    requires { ⌜ Ready g h v (now base) × ((onePart 4 (h .reads) && onePart 4 (v .reads)) ≡ true) × (length (now out) ≡ 77) ⌝ }
+    requires { ⌜ Ready g h v (now base) × ((onePart 4 (h .reads) && onePart 4 (v .reads)) ≡ true) × (length (now out) ≡ recordWords) ⌝ }
     ensures answer { λ r. ⌜ r ≡ madeBy g h v (now (base .entry)) .answer ⌝ }
     ensures written { λ r. ⌜ now (out .exit) ≡ madeBy g h v (now (base .entry)) .written ⌝ }
 {
@@ -266,7 +266,7 @@ fn make_of_one(g: Axes, base: &[i16], h: AxisRead, v: AxisRead, out: &mut [i16])
 }
 
 fn make_of_more(g: Axes, base: &[i16], h: AxisRead, v: AxisRead, out: &mut [i16]) -> Answer
-    requires { ⌜ Ready g h v (now base) × (length (now out) ≡ 77) ⌝ }
+    requires { ⌜ Ready g h v (now base) × (length (now out) ≡ recordWords) ⌝ }
     ensures answer { λ r. ⌜ r ≡ madeBy g h v (now (base .entry)) .answer ⌝ }
     ensures written { λ r. ⌜ now (out .exit) ≡ madeBy g h v (now (base .entry)) .written ⌝ }
 {
@@ -285,7 +285,7 @@ fn make_of_more(g: Axes, base: &[i16], h: AxisRead, v: AxisRead, out: &mut [i16]
 
 // ---- In or out of the window
 pub fn place(g: Axes, base: &[i16], h: AxisRead, v: AxisRead, out: &mut [i16]) -> Answer
-    requires { ⌜ Placeable g h v (now base) × (length (now out) ≡ 77) ⌝ }
+    requires { ⌜ Placeable g h v (now base) × (length (now out) ≡ recordWords) ⌝ }
     ensures answer { λ r. ⌜ r ≡ placedBy g h v (now (base .entry)) .answer ⌝ }
     ensures written { λ r. ⌜ now (out .exit) ≡ placedBy g h v (now (base .entry)) .written ⌝ }
 {

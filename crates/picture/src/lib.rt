@@ -17,6 +17,7 @@ use definitions::Axis;
 use definitions::Counts;
 use definitions::Numbers;
 use definitions::PictureReply;
+use definitions::RECORD_WORDS;
 use definitions::Verdict;
 use geometry::Checked;
 use geometry::Geometry;
@@ -27,8 +28,6 @@ use macroblock::read_nowhere;
 use records::check;
 use upsample::base_count;
 use upsample::refused;
-
-const RECORD_WORDS: usize = 77;
 
 // The horizontal axis at each column of the picture; 256 is the most.
 fn column_reads(a: Axis) -> [AxisRead; 256]

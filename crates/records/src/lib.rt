@@ -11,10 +11,9 @@ ghost use Rattle.definitions.specs.Refusals.{verdictOf, recordTests};
 ghost use Rattle.records.specs.Checking.{within, allWithin, quadrantUsed, blockWithin, vectorsRight, subFirstBlock, firstBlockOf, sameReferences, sameVectors, sameAsFirst, headBroken, foundAt, addresses};
 use definitions::Motion;
 use definitions::Prediction;
+use definitions::RECORD_WORDS;
 use definitions::Refusal;
 use definitions::Verdict;
-
-const RECORD_WORDS: usize = 77;
 
 const UNUSED: i16 = -1;
 

@@ -5,12 +5,10 @@ ghost use Rattle.sync_log.specs.Input.{Within};
 ghost use lib.ListN.{length, replicate};
 ghost use mathlib.Core.Path.{_≡_};
 use definitions::LogReply;
+use log::LOG_BYTES;
 
 // One byte more than the longest text, which tells a longer one: of a longer input these bytes have the log of all (`first-bytes` of crate grammar).
 const TEXT_ROOM: usize = 65537;
-
-// The bytes that every log fits.
-const LOG_ROOM: usize = 1179679;
 
 // The bytes that were read, up to the end of the input or of the room for them; or a read failed.
 enum Input {
@@ -38,10 +36,10 @@ fn read_input(buf: &mut [u8]) -> Input
 }
 
 // A buffer that every log fits.
-fn log_room() -> [u8; LOG_ROOM]
-    ensures { λ r. ⌜ r ≡ replicate 1179679 0 ⌝ }
+fn log_room() -> [u8; LOG_BYTES]
+    ensures { λ r. ⌜ r ≡ replicate logBytes 0 ⌝ }
 {
-    [0; LOG_ROOM]
+    [0; LOG_BYTES]
 }
 
 // The log of a text, at the start of a buffer that every log fits.

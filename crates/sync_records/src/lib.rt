@@ -11,14 +11,12 @@ ghost use Rattle.grammar.specs.Machine.{Sym, field, gap};
 ghost use Rattle.grammar.specs.Promises.{fields, RecordTo, StoresTo, TailTo, ThenStores, ThenWord, Within};
 use definitions::Motion;
 use definitions::Prediction;
+use definitions::RECORD_WORDS;
 use grammar::Got;
 use grammar::Num;
 use sync_notes::word_at;
 use sync_numbers::field;
 use write::write_record;
-
-// The words of a record.
-pub const RECORD_WORDS: usize = 77;
 
 // n + 1 numbers and the closing bracket. The numbers are stored from `from` on.
 fn store_fields(s: &[u8], at: usize, n: usize, out: &mut [i16], from: usize) -> Got

@@ -5,6 +5,7 @@ ghost use lib.ListN.{length};
 ghost use Rattle.definitions.specs.Record.{recordWords};
 ghost use Rattle.definitions.specs.Text.{ReadExactly, TextAnswer, textRecords};
 ghost use Rattle.grammar.specs.Promises.{AllStored, Room};
+use definitions::RECORD_WORDS;
 use definitions::Refusal;
 use definitions::TextRead;
 use definitions::TextReply;
@@ -12,13 +13,12 @@ use grammar::Got;
 use grammar::Judged;
 use sync_notes::note;
 use sync_read::judge;
-use sync_records::RECORD_WORDS;
 use sync_records::record_line;
 
 // The records whose words are lent, and these words; and the bytes of the longest text.
 const RECORDS: usize = 99;
 
-const WORDS: usize = RECORD_WORDS * RECORDS;
+pub const TEXT_WORDS: usize = RECORD_WORDS * RECORDS;
 
 const BYTES: usize = 65536;
 
@@ -82,7 +82,7 @@ pub fn read_text(bytes: &[u8], words: &mut [i16]) -> TextReply
     ensures answer { λ r. ⌜ TextAnswer (now (bytes .entry)) (now (words .entry)) r (now (words .exit)) ⌝ }
     ensures demand2 { λ r. ⌜ (length (now (words .entry)) ≡ recordWords * textRecords → ReadExactly (now (bytes .entry)) (now (words .entry)) r (now (words .exit))) ⌝ }
 {
-    if words.len() != WORDS {
+    if words.len() != TEXT_WORDS {
         return refused(WRONG_WORDS, 0);
     }
     if bytes.len() > BYTES {

@@ -14,6 +14,7 @@ use definitions::Axes;
 use definitions::EnhancementSample;
 use definitions::MacroblockReply;
 use definitions::Numbers;
+use definitions::RECORD_WORDS;
 use definitions::Refusal;
 use definitions::Verdict;
 use geometry::Checked;
@@ -22,8 +23,6 @@ use macroblock::AxisRead;
 use macroblock::axis_read;
 use macroblock::place;
 use records::check;
-
-const RECORD_WORDS: usize = 77;
 
 pub fn refused(number: u32) -> Refusal
     ensures { λ r. ⌜ r ≡ refusal number ⌝ }
