@@ -19,7 +19,7 @@
 
 static int from_malloc;
 static unsigned long long state;
-static unsigned long calls[256];
+static unsigned long calls[5];
 static unsigned long refusals[32];
 
 static unsigned below(unsigned n) {

@@ -5,7 +5,7 @@ use crate::lent::Lent;
 use crate::sessions::Happened;
 use crate::texts::Met;
 use compare::generate::{library, Eight};
-use second::geometry::Geometry;
+use second::geometry::{Axis, Geometry};
 use second::map::{reading, Reading};
 use second::record::broken_rule;
 use second::{Numbers, WORDS};
@@ -98,10 +98,9 @@ fn intra_blocks(base: &[i16], base_columns: usize, x: &Reading, y: &Reading) -> 
     count
 }
 
-/// Along one axis, for each macroblock inside: what it reads and the map's row.
-fn readings(axis: &second::geometry::Axis) -> Vec<Option<(Reading, usize)>> {
-    let one = |at: usize| reading(axis, at).map(|reading| (reading, map_row(axis, 16 * at as i32)));
-    (0..axis.full_count()).map(one).collect()
+/// Along one axis, for a macroblock inside: what it reads and the map's row.
+fn along(axis: &Axis, at: usize) -> Option<(Reading, usize)> {
+    reading(axis, at).map(|reading| (reading, map_row(axis, 16 * at as i32)))
 }
 
 /// Counts what an answered macroblock had.
@@ -164,7 +163,8 @@ fn same_split(library: spiewomir::Split, second: second::Split) -> bool {
     }
 }
 
-fn answered(refusal: u32, words: &Lent) -> Result<Vec<i16>, u32> {
+/// The words that were written, or the number of the refusal.
+pub fn answered(refusal: u32, words: &Lent) -> Result<Vec<i16>, u32> {
     match refusal {
         0 => Ok(words.words().to_vec()),
         number => Err(number),
@@ -263,7 +263,10 @@ impl Calls {
             Err(refusal) => self.coverage.picture.refused(refusal.number, refusal.rule),
             Ok(_) => {
                 let geometry = Geometry::new(Numbers::from_array(*eight)).expect("accepted");
-                let (columns, rows) = (readings(&geometry.x), readings(&geometry.y));
+                let all = |axis: &Axis| -> Vec<Option<(Reading, usize)>> {
+                    (0..axis.full_count()).map(|at| along(axis, at)).collect()
+                };
+                let (columns, rows) = (all(&geometry.x), all(&geometry.y));
                 for (address, words) in theirs.chunks(WORDS).enumerate() {
                     let (x, y) = (
                         &columns[address % columns.len()],
@@ -320,10 +323,8 @@ impl Calls {
             Err(refusal) => self.coverage.single.refused(refusal.number, refusal.rule),
             Ok(_) => {
                 let geometry = Geometry::new(numbers).expect("accepted");
-                let along = |axis: &second::geometry::Axis, at: i32| {
-                    reading(axis, at as usize).map(|reading| (reading, map_row(axis, 16 * at)))
-                };
-                let (x, y) = (along(&geometry.x, column), along(&geometry.y, row));
+                let x = along(&geometry.x, column as usize);
+                let y = along(&geometry.y, row as usize);
                 count(
                     &mut self.coverage.single,
                     base.words(),

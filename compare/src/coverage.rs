@@ -263,7 +263,8 @@ impl Coverage {
     }
 }
 
-fn line(name: &str, counts: &[u64]) {
+/// A line of a table.
+pub fn line(name: &str, counts: &[u64]) {
     let counts: String = counts.iter().map(|count| format!("{count:>10}")).collect();
-    println!("{name:>16}{counts}");
+    println!("{name:>24}{counts}");
 }

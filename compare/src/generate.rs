@@ -125,7 +125,7 @@ impl Mood {
         mood
     }
 
-    /// Records of every type, one of eight intra, for the benchmark.
+    /// Records of every type, one of eight intra.
     pub fn mixed(random: &mut Random) -> Mood {
         let mut mood = Mood {
             intra: 2,
@@ -203,7 +203,7 @@ pub fn intra() -> Record {
     record
 }
 
-pub fn quadrant(block: usize) -> usize {
+fn quadrant(block: usize) -> usize {
     block / 8 * 2 + block % 4 / 2
 }
 

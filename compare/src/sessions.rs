@@ -1,7 +1,8 @@
 //! Sessions: random lists of calls in both implementations, whole pictures
 //! against the picture call, and session values that no list of calls makes.
 
-use crate::calls::{macroblock_numbers, same_answer, Calls, FILL, FILL_SECOND};
+use crate::calls::{answered, macroblock_numbers, same_answer, Calls, FILL, FILL_SECOND};
+use crate::coverage::line;
 use crate::lent::Lent;
 use compare::generate::{base_macroblocks, break_record, full_macroblocks, library, Eight, Mood};
 use compare::random::Random;
@@ -75,11 +76,6 @@ impl Happened {
             ),
         ]
     }
-}
-
-fn line(name: &str, counts: &[u64]) {
-    let counts: String = counts.iter().map(|count| format!("{count:>10}")).collect();
-    println!("{name:>24}{counts}");
 }
 
 /// The sort of an accepted answer by its kind: inherited, intra, outside.
@@ -272,10 +268,7 @@ impl Both {
         self.library = advanced.session;
         self.wrapped = wrapped.0;
         self.second = session;
-        match numbers.refusal {
-            0 => Ok(ours.words().to_vec()),
-            number => Err(number),
-        }
+        answered(numbers.refusal, &ours)
     }
 
     /// The totals, which are also counted here.

@@ -18,12 +18,6 @@ pub struct Session {
     totals: Counts,
 }
 
-impl Default for Session {
-    fn default() -> Session {
-        Session::fresh()
-    }
-}
-
 impl Session {
     pub fn fresh() -> Session {
         Session { state: State::Fresh, totals: Counts::default() }

@@ -9,12 +9,13 @@ use lib.IntN.{ℤ, pos, negsuc, natAbs, _+ℤ_, _-ℤ_}
 use lib.Signed.{leZ, _≤ℤ_, leZ-yes}
 use borrow.Author.Tests.{eqb-true, leb-true}
 use Rattle.definitions.specs.declared.Axis.{Axis}
+use Rattle.definitions.specs.declared.Axes.{Axes}
 use Rattle.definitions.specs.declared.AxisNumbers.{AxisNumbers}
 use Rattle.definitions.specs.declared.Numbers.{Numbers}
 use Rattle.definitions.specs.declared.Refusal.{Refusal}
 use Rattle.definitions.specs.declared.Verdict.{Verdict}
 use Rattle.definitions.specs.declared.Verdict.the-variants.{Accepted, Refused}
-use Rattle.definitions.specs.Accepted.{Inside, AcceptedAxis}
+use Rattle.definitions.specs.Accepted.{Inside, AcceptedAxis, AcceptedAxes}
 use Rattle.definitions.specs.Tests.{pick, minus}
 use Rattle.definitions.specs.Geometry.{baseSize, scaledSize, fullSize, offsetOf, axisOf, axesOf, insideAxis, inside, cOf, sampleOf, macroblocks}
 use Rattle.definitions.specs.Refusals.{sizeRight, scaledRight, offsetRight, geometryTests, geometryVerdict}
@@ -105,8 +106,8 @@ accepted-numbers n e =
     let t₄ = passed _ _ _ _ (t₃ .1) in
     (axis-right (n .horizontal) (t₁ .0 .0) (t₂ .0 .0) (t₃ .0 .0) (t₄ .0 .0), axis-right (n .vertical) (t₁ .0 .1) (t₂ .0 .1) (t₃ .0 .1) (t₄ .0 .1))
 
-pub accepted-axes : (n : Numbers) → geometryVerdict n ≡ Accepted → AcceptedAxis (axisOf (n .horizontal)) × AcceptedAxis (axisOf (n .vertical))
-accepted-axes n e = let both = accepted-numbers n e in (both .0 .accepted, both .1 .accepted)
+pub accepted-axes : (n : Numbers) → geometryVerdict n ≡ Accepted → AcceptedAxes (axesOf n)
+accepted-axes n e = let both = accepted-numbers n e in record { horizontal = both .0 .accepted; vertical = both .1 .accepted }
 
 -- ---- a macroblock inside
 -- P − o is not below 0, so that natAbs is the number itself and c is document 01's
@@ -136,12 +137,12 @@ inside-axis a p accepted e =
     record { sized = accepted .sized; c-low = omega arith; c-high = fits (offsetOf a) p (scaledSize a) (both .0) (both .1) }
 
 -- on both axes
-module _ (n : Numbers) (column row : ℕ) (accepted : geometryVerdict n ≡ Accepted) where
-  pub across-inside : inside (axesOf n) column row ≡ true → Inside (baseSize (axesOf n .horizontal)) (scaledSize (axesOf n .horizontal)) (cOf (axesOf n .horizontal) (sampleOf column))
-  across-inside e = inside-axis (axesOf n .horizontal) (sampleOf column) (accepted-axes n accepted .0) (and-true (insideAxis (axesOf n .horizontal) (sampleOf column)) (insideAxis (axesOf n .vertical) (sampleOf row)) e .0)
+module _ (g : Axes) (column row : ℕ) (accepted : AcceptedAxes g) where
+  pub across-inside : inside g column row ≡ true → Inside (baseSize (g .horizontal)) (scaledSize (g .horizontal)) (cOf (g .horizontal) (sampleOf column))
+  across-inside e = inside-axis (g .horizontal) (sampleOf column) (accepted .horizontal) (and-true (insideAxis (g .horizontal) (sampleOf column)) (insideAxis (g .vertical) (sampleOf row)) e .0)
 
-  pub down-inside : inside (axesOf n) column row ≡ true → Inside (baseSize (axesOf n .vertical)) (scaledSize (axesOf n .vertical)) (cOf (axesOf n .vertical) (sampleOf row))
-  down-inside e = inside-axis (axesOf n .vertical) (sampleOf row) (accepted-axes n accepted .1) (and-true (insideAxis (axesOf n .horizontal) (sampleOf column)) (insideAxis (axesOf n .vertical) (sampleOf row)) e .1)
+  pub down-inside : inside g column row ≡ true → Inside (baseSize (g .vertical)) (scaledSize (g .vertical)) (cOf (g .vertical) (sampleOf row))
+  down-inside e = inside-axis (g .vertical) (sampleOf row) (accepted .vertical) (and-true (insideAxis (g .horizontal) (sampleOf column)) (insideAxis (g .vertical) (sampleOf row)) e .1)
 
 -- ---- the column and row of an address of the picture
 module _ (n : Numbers) (accepted : geometryVerdict n ≡ Accepted) where
@@ -149,7 +150,7 @@ module _ (n : Numbers) (accepted : geometryVerdict n ≡ Accepted) where
   columns = macroblocks (fullSize (axesOf n .horizontal))
 
   some-columns : 0 < columns
-  some-columns = omega (arith, accepted-axes n accepted .0 .full-low)
+  some-columns = omega (arith, accepted-axes n accepted .horizontal .full-low)
 
   pub column-within : (address : ℕ) → address % columns < columns
   column-within address = mod-lt address some-columns
@@ -166,4 +167,4 @@ pub whole-inside : Inside 16 32 24 × Inside 16 32 8
 unfolding insideAxis
 whole-inside =
     let axes = accepted-axes wholeCase whole-accepted in
-    (inside-axis (axisOf (wholeCase .horizontal)) (sampleOf 1) (axes .0) refl, inside-axis (axisOf (wholeCase .vertical)) (sampleOf 0) (axes .1) refl)
+    (inside-axis (axisOf (wholeCase .horizontal)) (sampleOf 1) (axes .horizontal) refl, inside-axis (axisOf (wholeCase .vertical)) (sampleOf 0) (axes .vertical) refl)

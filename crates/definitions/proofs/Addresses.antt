@@ -1,7 +1,7 @@
 -- The base macroblocks that an answer names: their columns and rows lie inside the base, and every block reads one of them. Assumes nothing.
 use Prim.Native.Nat.{ℕ, _*_, _/_, _%_, _<_}
 use mathlib.Core.Path.{_≡_, refl, ap, subst}
-use mathlib.Core.List.{List, [], _∷_, map, List·Memᴰ, List·Memᴰ·head, List·Memᴰ·tail, List·Memᴰ·cases-cons, List·Memᴰ·not-nil, Memᴰ·append-left, Memᴰ·append-right, List·Memᴰ·append-cases}
+use mathlib.Core.List.{List, [], _∷_, map, List·Memᴰ, List·Memᴰ·head, List·Memᴰ·tail, List·Memᴰ·cases-cons, List·Memᴰ·not-nil, Memᴰ·append-left, Memᴰ·append-right, List·Memᴰ·append-cases, Memᴰ·map, Memᴰ·of-map}
 use mathlib.Core.Logic.{⊎-elim}
 use native.Mathlib.Nat.{mul-le-mul-right}
 use native.Mathlib.Omega.{arith}
@@ -15,19 +15,10 @@ use Rattle.definitions.proofs.Choices.{four-at}
 use Rattle.definitions.proofs.Map.{read-named, named-below, class-columns, class-rows}
 
 -- ---- members of made lists
-map-member : {A B : Type 0} (f : A → B) {x : A} (l : List A) → List·Memᴰ x l → List·Memᴰ (f x) (map f l)
-map-member f [] m = absurd (List·Memᴰ·not-nil m)
-map-member f (y ∷ ys) m = ⊎-elim (λ e. List·Memᴰ·head (ap f e)) (λ t. List·Memᴰ·tail (map-member f ys t)) (List·Memᴰ·cases-cons m)
-
 for-member : {A B : Type 0} (f : A → List B) {x : A} {y : B} (l : List A) → List·Memᴰ x l → List·Memᴰ y (f x) → List·Memᴰ y (forEach l f)
 for-member f [] m k = absurd (List·Memᴰ·not-nil m)
 for-member f {x} {y} (z ∷ zs) m k =
     ⊎-elim (λ e. Memᴰ·append-left (forEach zs f) (subst (λ l. List·Memᴰ y l) (ap f e) k)) (λ t. Memᴰ·append-right (f z) (for-member f zs t k)) (List·Memᴰ·cases-cons m)
-
-pub member-map : {A B : Type 0} (f : A → B) {y : B} (l : List A) → List·Memᴰ y (map f l) → (x : A) × List·Memᴰ x l × (y ≡ f x)
-member-map f [] m = absurd (List·Memᴰ·not-nil m)
-member-map f (z ∷ zs) m =
-    ⊎-elim (λ e. (z, List·Memᴰ·head refl, e)) (λ t. let w = member-map f zs t in (w .0, List·Memᴰ·tail (w .1), w .2)) (List·Memᴰ·cases-cons m)
 
 pub member-for : {A B : Type 0} (f : A → List B) {y : B} (l : List A) → List·Memᴰ y (forEach l f) → (x : A) × List·Memᴰ x l × List·Memᴰ y (f x)
 member-for f [] m = absurd (List·Memᴰ·not-nil m)
@@ -65,7 +56,7 @@ module _ (g : Axes) (column row : ℕ) where
         let y : i / 4 < 4 = omega arith in
         for-member (λ r. map (λ c. baseAddress g c r) (columnsOf (namedAt g column row))) (rowsOf (namedAt g column row))
         (rw (rows-are, four-at (coordinateOf (baseSize (g .vertical)) (scaledSize (g .vertical)) ver) 0 (i / 4) y) (read-named _ _ _ v (i / 4) y))
-        (map-member (λ c. baseAddress g c _) (columnsOf (namedAt g column row))
+        (Memᴰ·map (λ c. baseAddress g c _) {l = columnsOf (namedAt g column row)}
         (rw (columns-are, four-at (coordinateOf (baseSize (g .horizontal)) (scaledSize (g .horizontal)) hor) 0 (i % 4) x) (read-named _ _ _ h (i % 4) x)))
 
     -- and each macroblock that is named has an address of the base
@@ -73,7 +64,7 @@ module _ (g : Axes) (column row : ℕ) where
     unfolding addressesOf
     address-below {a} m =
         let r = member-for (λ r. map (λ c. baseAddress g c r) (columnsOf (namedAt g column row))) (rowsOf (namedAt g column row)) m in
-        let c = member-map (λ c. baseAddress g c (r .0)) (columnsOf (namedAt g column row)) (r .2) in
+        let c = Memᴰ·of-map (λ c. baseAddress g c (r .0)) (columnsOf (namedAt g column row)) (r .2) in
         let width = macroblocks (baseSize (g .horizontal)) in
         let x : c .0 < width = column-below (c .1) in
         let y : r .0 < macroblocks (baseSize (g .vertical)) = row-below (r .1) in

@@ -1,6 +1,6 @@
 -- Laws of the tests and of the lists made by an index (specs/Tests), and of Boolean and, or. Assumes nothing.
 use Prim.Native.Nat.{ℕ, zero, suc, _<_}
-use mathlib.Core.Path.{_≡_, refl, ap, _∙_}
+use mathlib.Core.Path.{_≡_, refl, sym, ap, _∙_}
 use mathlib.Core.Bool.{Bool, true, false, _&&_, _||_}
 use mathlib.Core.List.{List, [], _∷_, _++_, List·Memᴰ, List·Memᴰ·cases-cons, List·Memᴰ·not-nil}
 use mathlib.Core.Logic.{_⊎_, inl, inr, ⊎-elim}
@@ -56,6 +56,12 @@ or-right false q = q
 pub or-false : (a b : Bool) → (a || b) ≡ false → (a ≡ false) × (b ≡ false)
 or-false true b e = (cc, cc)
 or-false false b e = (refl, e)
+
+-- two tests that hold in the same cases
+pub both-ways : (s t : Bool) → (s ≡ true → t ≡ true) → (t ≡ true → s ≡ true) → s ≡ t
+both-ways true t f g = sym (f refl)
+both-ways false true f g = g refl
+both-ways false false f g = refl
 
 -- where the first test holds, the second does
 unfoldable pub implies : Bool → Bool → Bool

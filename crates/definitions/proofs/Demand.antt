@@ -6,9 +6,9 @@ use mathlib.Core.List.{List, [], _∷_, _++_, List·Memᴰ, List·Memᴰ·head, 
 use native.Mathlib.Nat.{div-eq-of-lt-le, mod-eq-of-lt, mul-add-mod-self-right, mul-le-mul-right}
 use native.Mathlib.Omega.{arith}
 use lib.Dec.{eqb, leb, ltb}
-use lib.IntN.{ℤ, pos}
+use lib.IntN.{ℤ, pos, negsuc, natAbs}
 use lib.ListN.{length, replicate, length-replicate}
-use borrow.Author.Tests.{eq-eqb, eqb-true, le-leb, lt-ltb, ltb-true}
+use borrow.Author.Tests.{eq-eqb, eqb-true, le-leb, lt-ltb, ltb-true, not-false}
 use Rattle.definitions.specs.declared.Axes.{Axes}
 use Rattle.definitions.specs.declared.Numbers.{Numbers}
 use Rattle.definitions.specs.declared.Verdict.{Verdict}
@@ -28,11 +28,11 @@ use Rattle.definitions.specs.Record.{recordWords, recordAt, wellFormed, 
 use Rattle.definitions.specs.Answer.{Made, answerOf, writtenFor, madeOf, addressesNamed}
 use Rattle.definitions.specs.Refusals.{test, refusal, verdictOf, geometryTests, geometryVerdict, baseCount, baseTest, outputTest, positionTest, recordTests, withinAxis, addressesRead, allAddresses}
 use Rattle.definitions.specs.Calls.{Outcome, byVerdict, macroblockTests, macroblockCall, fullCount, pictureTests, madeAt, countsOf, pictureCall}
-use Rattle.definitions.specs.Demand3.{Demand3, AnyWords, SinglyGives, Demand3Singly, FormedWords, PictureGives, Demand3Picture, Case, Demand3Entire}
+use Rattle.definitions.specs.Demand3.{Demand3, AnyWords, SinglyGives, Demand3Singly, AllFormed, FormedWords, PictureGives, Demand3Picture, Case, Demand3Entire}
 use Rattle.definitions.proofs.Choices.{yes, no, and-true, and-intro}
 use Rattle.definitions.proofs.Verdicts.{first-passed, both-passed, then-verdict, reply-accepted}
-use Rattle.definitions.proofs.RecordLists.{not-false, all-formed, formed-all, index-member, member-index, record-of}
-use Rattle.definitions.proofs.Accepted.{across-inside, down-inside}
+use Rattle.definitions.proofs.RecordLists.{all-formed, formed-all, index-member, member-index, record-of}
+use Rattle.definitions.proofs.Accepted.{accepted-axes, across-inside, down-inside}
 use Rattle.definitions.proofs.Answers.{Decided, is-outside, is-intra, is-inherited, decided, made-outside}
 use Rattle.definitions.proofs.Sameness.{same-made}
 use Rattle.definitions.proofs.Addresses.{address-named, address-below}
@@ -72,8 +72,8 @@ module _ (n : Numbers) (column row : ℕ) (accepted : geometryVerdict n ≡ Acce
     where
       by : {answer : Answer} → Decided axes base column row answer → Agree (addressesNamed axes answer) base other → madeOf axes other column row ≡ madeOf axes base column row
       by (is-outside i) a = made-outside axes other column row i ∙ sym (made-outside axes base column row i)
-      by (is-intra i m) a = same-made axes base other column row (λ k h. a _ (address-named axes column row (across-inside n column row accepted i) (down-inside n column row accepted i) k h))
-      by (is-inherited i m) a = same-made axes base other column row (λ k h. a _ (address-named axes column row (across-inside n column row accepted i) (down-inside n column row accepted i) k h))
+      by (is-intra i m) a = same-made axes base other column row (λ k h. a _ (address-named axes column row (across-inside axes column row (accepted-axes n accepted) i) (down-inside axes column row (accepted-axes n accepted) i) k h))
+      by (is-inherited i m) a = same-made axes base other column row (λ k h. a _ (address-named axes column row (across-inside axes column row (accepted-axes n accepted) i) (down-inside axes column row (accepted-axes n accepted) i) k h))
 
   -- all sentences but the one on other records
   pub promised : (base : List ℤ) (Other : List ℤ → Type 0) (Gives : List ℤ → Answer → List ℤ → Type 0)
@@ -86,8 +86,8 @@ module _ (n : Numbers) (column row : ℕ) (accepted : geometryVerdict n ≡ Acce
         class = ap (λ (m : Named). m .class) (named-right axes base column row d);
         first-column = ap (λ (m : Named). m .column) (named-right axes base column row d);
         first-row = ap (λ (m : Named). m .row) (named-right axes base column row d);
-        columns-inside = columns-below axes base column row (across-inside n column row accepted) (down-inside n column row accepted) d;
-        rows-inside = rows-below axes base column row (across-inside n column row accepted) (down-inside n column row accepted) d;
+        columns-inside = columns-below axes base column row (across-inside axes column row (accepted-axes n accepted)) (down-inside axes column row (accepted-axes n accepted)) d;
+        rows-inside = rows-below axes base column row (across-inside axes column row (accepted-axes n accepted)) (down-inside axes column row (accepted-axes n accepted)) d;
         others = same;
         inherited = inherited-when axes base column row d;
         intra = intra-when axes base column row d;
@@ -189,7 +189,7 @@ module _ (n : Numbers) (words base : List ℤ) where
     pub geometry : geometryVerdict n ≡ Accepted
     pub base-length : baseTest g base .applies ≡ false
     pub word-length : outputTest (fullCount g) words .applies ≡ false
-    pub formed : (a : ℕ) → a < baseCount g → wellFormed (recordAt base a) ≡ true
+    pub formed : AllFormed g base
 
   pub passed : whole ≡ Accepted → Passed
   unfolding pictureTests
@@ -227,7 +227,7 @@ module _ (n : Numbers) (words base : List ℤ) where
     read-below k a m = by (inside g column row) refl
       where
         by : (b : Bool) → inside g column row ≡ b → a < baseCount g
-        by true e = address-below g column row (across-inside n column row k e) (down-inside n column row k e) (subst (List·Memᴰ a) (yes _ _ e) m)
+        by true e = address-below g column row (across-inside g column row (accepted-axes n k) e) (down-inside g column row (accepted-axes n k) e) (subst (List·Memᴰ a) (yes _ _ e) m)
         by false e = absurd (List·Memᴰ·not-nil (subst (List·Memᴰ a) (no _ _ e) m))
 
     -- so the one-macroblock call on the same base is accepted
@@ -251,8 +251,27 @@ module _ (n : Numbers) (words base : List ℤ) where
         ∙ (λ i. madeOf g base (p i) (q i) .written))
 
 -- a macroblock whose call is accepted is one of the picture, and was lent 77 words
-within-picture : (size k : ℕ) → withinAxis size (pos k) ≡ true → k < macroblocks size
-within-picture size k e = ltb-true k (macroblocks size) (and-true (leb 0 k) (ltb k (macroblocks size)) e .1)
+pub within-low : (size : ℕ) (x : ℤ) → withinAxis size x ≡ true → natAbs x < macroblocks size
+within-low size (pos k) e = ltb-true k (macroblocks size) (and-true (leb 0 k) (ltb k (macroblocks size)) e .1)
+within-low size (negsuc k) e = absurd (let z : _≡_ {A = ℕ} 0 1 = cc in omega arith)
+
+pub record AskedAt (n : Numbers) (column row : ℤ) (words : List ℤ) : Type 0 where
+  pub column-within : withinAxis (fullSize (axesOf n .horizontal)) column ≡ true
+  pub row-within : withinAxis (fullSize (axesOf n .vertical)) row ≡ true
+  pub words-length : length words ≡ recordWords
+
+pub asked-at : (n : Numbers) (base : List ℤ) (column row : ℤ) (words : List ℤ) → verdictOf (macroblockTests n base column row words) ≡ Accepted → AskedAt n column row words
+unfolding macroblockTests
+asked-at n base column row words v =
+    let g = axesOf n in
+    let records = recordTests base (addressesRead g (natAbs column) (natAbs row)) in
+    let place = positionTest g column row in
+    let p = both-passed (geometryTests n) (baseTest g base ∷ outputTest 1 words ∷ place ∷ records) v in
+    let q = first-passed (baseTest g base) (outputTest 1 words ∷ place ∷ records) (p .1) in
+    let r = first-passed (outputTest 1 words) (place ∷ records) (q .1) in
+    let t = first-passed place records (r .1) in
+    let both = and-true (withinAxis (fullSize (g .horizontal)) column) (withinAxis (fullSize (g .vertical)) row) (not-false _ (t .0)) in
+    record { column-within = both .0; row-within = both .1; words-length = eqb-true (length words) recordWords (not-false (eqb (length words) recordWords) (r .0)) }
 
 record Asked (n : Numbers) (column row : ℕ) (alone : List ℤ) : Type 0 where
   column-within : column < macroblocks (fullSize (axesOf n .horizontal))
@@ -260,22 +279,9 @@ record Asked (n : Numbers) (column row : ℕ) (alone : List ℤ) : Type 0 where
   alone-length : length alone ≡ recordWords
 
 asked : (n : Numbers) (column row : ℕ) (alone base : List ℤ) → verdictOf (macroblockTests n base (pos column) (pos row) alone) ≡ Accepted → Asked n column row alone
-unfolding macroblockTests
 asked n column row alone base v =
-    let g = axesOf n in
-    let records = recordTests base (addressesRead g column row) in
-    let place = positionTest g (pos column) (pos row) in
-    let p = both-passed (geometryTests n) (baseTest g base ∷ outputTest 1 alone ∷ place ∷ records) v in
-    let q = first-passed (baseTest g base) (outputTest 1 alone ∷ place ∷ records) (p .1) in
-    let r = first-passed (outputTest 1 alone) (place ∷ records) (q .1) in
-    let t = first-passed place records (r .1) in
-    let h = withinAxis (fullSize (g .horizontal)) (pos column) in
-    let both = and-true h (withinAxis (fullSize (g .vertical)) (pos row)) (not-false _ (t .0)) in
-    record {
-      column-within = within-picture (fullSize (g .horizontal)) column (both .0);
-      row-within = within-picture (fullSize (g .vertical)) row (both .1);
-      alone-length = eqb-true (length alone) recordWords (not-false (eqb (length alone) recordWords) (r .0));
-    }
+    let p = asked-at n base (pos column) (pos row) alone v in
+    record { column-within = within-low _ (pos column) (p .column-within); row-within = within-low _ (pos row) (p .row-within); alone-length = p .words-length }
 
 -- where a picture is accepted, it gives what is made of each macroblock
 picture-gives : (n : Numbers) (column row : ℕ) (words alone base : List ℤ) → Passed n words base → Asked n column row alone

@@ -6,6 +6,7 @@ use native.Mathlib.Omega.{arith}
 use lib.Dec.{ltb}
 use lib.IntN.{ℤ, pos, negsuc, subℕ, _-ℤ_}
 use borrow.Author.Tests.{lt-ltb, le-ltb, ltb-true, ltb-false}
+use Rattle.definitions.specs.Tests.{minus}
 
 pub sub-neg : (a b : ℕ) → a < b → subℕ a b ≡ negsuc (b - suc a)
 sub-neg a b h = simp (lt-ltb a b h)
@@ -31,3 +32,7 @@ sub-shift a b n m e =
 pub pos-minus : (a b : ℕ) → pos a -ℤ pos b ≡ subℕ a b
 pos-minus a zero = let e : a + 0 ≡ a - 0 = omega arith in ap pos e ∙ sym (sub-pos a 0 (omega arith))
 pos-minus a (suc b) = refl
+
+pub zero-minus : (n : ℕ) → pos 0 -ℤ pos n ≡ minus n
+zero-minus zero = refl
+zero-minus (suc n) = sub-neg 0 (suc n) (omega arith) ∙ ap negsuc (let e : suc n - 1 ≡ n = omega arith in e)

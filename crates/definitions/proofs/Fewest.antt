@@ -144,11 +144,12 @@ each-join : {A : Type 0} (P : A → Type 0) (xs ys : List A) → Each P xs → E
 each-join P [] ys h k = k
 each-join P (x ∷ xs) ys h k = (h .0, each-join P xs ys (h .1) k)
 
-record Quads (m : ℕ → Motion) (t : SubSplits) : Type 0 where
-  qa : One m 0 (t .a)
-  qb : One m 2 (t .b)
-  qc : One m 8 (t .c)
-  qd : One m 10 (t .d)
+-- P of each quadrant, by its first block and its sub-split
+record Quadrants (P : ℕ → SubSplit → Type 0) (t : SubSplits) : Type 0 where
+  a : P 0 (t .a)
+  b : P 2 (t .b)
+  c : P 8 (t .c)
+  d : P 10 (t .d)
 
 positive : (s : SubSplit) → 1 ≤ subCount s
 positive S8x8 = omega arith
@@ -172,25 +173,22 @@ more-whole S8x16 n = omega arith
 more-whole (Quarters u) n = omega (arith, four-or-more u)
 
 module _ (m : ℕ → Motion) where
-  quads-of : (t : SubSplits) → OneEach m (Quarters t) → Quads m t
+  quads-of : (t : SubSplits) → OneEach m (Quarters t) → Quadrants (One m) t
   quads-of t o =
       let x = each-split (Alike m) (subPieces 0 (t .a)) (subPieces 2 (t .b) ++ (subPieces 8 (t .c) ++ subPieces 10 (t .d))) o in
       let y = each-split (Alike m) (subPieces 2 (t .b)) (subPieces 8 (t .c) ++ subPieces 10 (t .d)) (x .1) in
       let z = each-split (Alike m) (subPieces 8 (t .c)) (subPieces 10 (t .d)) (y .1) in
-      record { qa = x .0; qb = y .0; qc = z .0; qd = z .1 }
+      record { a = x .0; b = y .0; c = z .0; d = z .1 }
 
-  of-quads : (t : SubSplits) → Quads m t → OneEach m (Quarters t)
+  of-quads : (t : SubSplits) → Quadrants (One m) t → OneEach m (Quarters t)
   of-quads t q =
-      each-join (Alike m) (subPieces 0 (t .a)) (subPieces 2 (t .b) ++ (subPieces 8 (t .c) ++ subPieces 10 (t .d))) (q .qa)
-      (each-join (Alike m) (subPieces 2 (t .b)) (subPieces 8 (t .c) ++ subPieces 10 (t .d)) (q .qb)
-      (each-join (Alike m) (subPieces 8 (t .c)) (subPieces 10 (t .d)) (q .qc) (q .qd)))
+      each-join (Alike m) (subPieces 0 (t .a)) (subPieces 2 (t .b) ++ (subPieces 8 (t .c) ++ subPieces 10 (t .d))) (q .a)
+      (each-join (Alike m) (subPieces 2 (t .b)) (subPieces 8 (t .c) ++ subPieces 10 (t .d)) (q .b)
+      (each-join (Alike m) (subPieces 8 (t .c)) (subPieces 10 (t .d)) (q .c) (q .d)))
 
   -- four quadrants of one motion each, and how their motions agree
-  record Whole : Type 0 where
-    wa : One m 0 S8x8
-    wb : One m 2 S8x8
-    wc : One m 8 S8x8
-    wd : One m 10 S8x8
+  abbrev Whole : Type 0
+  Whole = Quadrants (One m) (record { a = S8x8; b = S8x8; c = S8x8; d = S8x8 })
 
   record Rows₂ : Type 0 where
     top : m 2 ≡ m 0
@@ -211,13 +209,13 @@ module _ (m : ℕ → Motion) where
 
   of-16x8 : OneEach m S16x8 → Whole × Rows₂
   of-16x8 o = (
-    record { wa = ((cc, (cc, (cc, tt))), tt); wb = ((cc, (cc, (cc, tt))), tt); wc = ((cc, (cc, (cc, tt))), tt); wd = ((cc, (cc, (cc, tt))), tt) },
+    record { a = ((cc, (cc, (cc, tt))), tt); b = ((cc, (cc, (cc, tt))), tt); c = ((cc, (cc, (cc, tt))), tt); d = ((cc, (cc, (cc, tt))), tt) },
     record { top = cc; low = cc },
   )
 
   of-8x16 : OneEach m S8x16 → Whole × Columns₂
   of-8x16 o = (
-    record { wa = ((cc, (cc, (cc, tt))), tt); wb = ((cc, (cc, (cc, tt))), tt); wc = ((cc, (cc, (cc, tt))), tt); wd = ((cc, (cc, (cc, tt))), tt) },
+    record { a = ((cc, (cc, (cc, tt))), tt); b = ((cc, (cc, (cc, tt))), tt); c = ((cc, (cc, (cc, tt))), tt); d = ((cc, (cc, (cc, tt))), tt) },
     record { left = cc; right = cc },
   )
 
@@ -227,22 +225,16 @@ module _ (m : ℕ → Motion) where
     ((cc, (cc, (cc, (cc, (cc, (cc, (cc, tt))))))), ((cc, (cc, (cc, (cc, (cc, (cc, (cc, tt))))))), tt)),
   )
 
-  record AllLeast (t : SubSplits) : Type 0 where
-    la : Least m 0 (t .a)
-    lb : Least m 2 (t .b)
-    lc : Least m 8 (t .c)
-    ld : Least m 10 (t .d)
+  quarters-one : (t : SubSplits) → Quadrants (Least m) t → OneEach m (Quarters t)
+  quarters-one t l = of-quads t (record { a = l .a .one; b = l .b .one; c = l .c .one; d = l .d .one })
 
-  quarters-one : (t : SubSplits) → AllLeast t → OneEach m (Quarters t)
-  quarters-one t l = of-quads t (record { qa = l .la .one; qb = l .lb .one; qc = l .lc .one; qd = l .ld .one })
-
-  quarters-more : (t : SubSplits) → AllLeast t → (u : SubSplits) → OneEach m (Quarters u) → Quarters u ≢ Quarters t → count (Quarters t) < count (Quarters u)
+  quarters-more : (t : SubSplits) → Quadrants (Least m) t → (u : SubSplits) → OneEach m (Quarters u) → Quarters u ≢ Quarters t → count (Quarters t) < count (Quarters u)
   quarters-more t l u o other =
       let q = quads-of u o in
-      let a = l .la .least (u .a) (q .qa) in
-      let b = l .lb .least (u .b) (q .qb) in
-      let c = l .lc .least (u .c) (q .qc) in
-      let d = l .ld .least (u .d) (q .qd) in
+      let a = l .a .least (u .a) (q .a) in
+      let b = l .b .least (u .b) (q .b) in
+      let c = l .c .least (u .c) (q .c) in
+      let d = l .d .least (u .d) (q .d) in
       let most : count (Quarters t) ≤ count (Quarters u) = omega (arith, a .0, b .0, c .0, d .0) in
       ⊎-elim
       (λ same. let ea : u .a ≡ t .a = a .1 (omega (arith, a .0, b .0, c .0, d .0)) in
@@ -256,24 +248,24 @@ module _ (m : ℕ → Motion) where
   whole-least : (i : ℕ) (s : SubSplit) → Least m i s → One m i S8x8 → isWhole s ≡ true
   whole-least i s l o = ap isWhole (sym (l .least S8x8 o .1 (positive s)))
 
-  not-whole : (t : SubSplits) → AllLeast t → allWhole t ≡ false → Whole → ⊥
+  not-whole : (t : SubSplits) → Quadrants (Least m) t → allWhole t ≡ false → Whole → ⊥
   unfolding allWhole
   not-whole t l e w =
       true≢false (sym
-      (and-intro (whole-least 0 (t .a) (l .la) (w .wa)) (and-intro (whole-least 2 (t .b) (l .lb) (w .wb)) (and-intro (whole-least 8 (t .c) (l .lc) (w .wc)) (whole-least 10 (t .d) (l .ld) (w .wd)))))
+      (and-intro (whole-least 0 (t .a) (l .a) (w .a)) (and-intro (whole-least 2 (t .b) (l .b) (w .b)) (and-intro (whole-least 8 (t .c) (l .c) (w .c)) (whole-least 10 (t .d) (l .d) (w .d)))))
       ∙ e)
 
-  all-whole : (t : SubSplits) → AllLeast t → allWhole t ≡ true → Whole
+  all-whole : (t : SubSplits) → Quadrants (Least m) t → allWhole t ≡ true → Whole
   unfolding allWhole
   all-whole t l e =
       let x = and-true (isWhole (t .a)) (isWhole (t .b) && (isWhole (t .c) && isWhole (t .d))) e in
       let y = and-true (isWhole (t .b)) (isWhole (t .c) && isWhole (t .d)) (x .1) in
       let z = and-true (isWhole (t .c)) (isWhole (t .d)) (y .1) in
       record {
-        wa = subst (One m 0) (is-whole (t .a) (x .0)) (l .la .one);
-        wb = subst (One m 2) (is-whole (t .b) (y .0)) (l .lb .one);
-        wc = subst (One m 8) (is-whole (t .c) (z .0)) (l .lc .one);
-        wd = subst (One m 10) (is-whole (t .d) (z .1)) (l .ld .one);
+        a = subst (One m 0) (is-whole (t .a) (x .0)) (l .a .one);
+        b = subst (One m 2) (is-whole (t .b) (y .0)) (l .b .one);
+        c = subst (One m 8) (is-whole (t .c) (z .0)) (l .c .one);
+        d = subst (One m 10) (is-whole (t .d) (z .1)) (l .d .one);
       }
 
   abbrev TopRows : Bool → Type 0
@@ -307,7 +299,7 @@ module _ (m : ℕ → Motion) where
   more-columns e S8x16 o n = absurd (n refl)
   more-columns e (Quarters u) o n = omega (arith, four-or-more u)
 
-  more-quarters : (s : SubSplits) → AllLeast s → (OneEach m S16x8 → ⊥) → (OneEach m S8x16 → ⊥) → (t : Split) → OneEach m t → t ≢ Quarters s → count (Quarters s) < count t
+  more-quarters : (s : SubSplits) → Quadrants (Least m) s → (OneEach m S16x8 → ⊥) → (OneEach m S8x16 → ⊥) → (t : Split) → OneEach m t → t ≢ Quarters s → count (Quarters s) < count t
   more-quarters s l r c S16x16 o n = absurd (r (of-16x16 o .0))
   more-quarters s l r c S16x8 o n = absurd (r o)
   more-quarters s l r c S8x16 o n = absurd (c o)
@@ -316,7 +308,7 @@ module _ (m : ℕ → Motion) where
   fewest-of : (s : Split) → OneEach m s → ((t : Split) → OneEach m t → t ≢ s → count s < count t) → Fewest m s
   fewest-of s o h = record { one = each-one m s o; more = λ t e n. h t (one-each m t e) n }
 
-  fewest-by : (s : SubSplits) → AllLeast s → (w r c : Bool) → allWhole s ≡ w → TopRows r → TopColumns c → Fewest m (pick w (joined (cut r c) s) (Quarters s))
+  fewest-by : (s : SubSplits) → Quadrants (Least m) s → (w r c : Bool) → allWhole s ≡ w → TopRows r → TopColumns c → Fewest m (pick w (joined (cut r c) s) (Quarters s))
   unfolding pick
   fewest-by s l false r c ew er ec =
       fewest-of (Quarters s) (quarters-one s l) (more-quarters s l (λ o. not-whole s l ew (of-16x8 o .0)) (λ o. not-whole s l ew (of-8x16 o .0)))
@@ -329,7 +321,7 @@ splitOf-fewest : (q : List (List Motion)) → Fewest (motionAt q) (splitOf q)
 unfolding splitOf shapesOf quadrantShape shapeOf
 splitOf-fewest q =
     fewest-by (motionAt q) (shapesOf q)
-    (record { la = shape-least (motionAt q) 0; lb = shape-least (motionAt q) 2; lc = shape-least (motionAt q) 8; ld = shape-least (motionAt q) 10 })
+    (record { a = shape-least (motionAt q) 0; b = shape-least (motionAt q) 2; c = shape-least (motionAt q) 8; d = shape-least (motionAt q) 10 })
     _ _ _ refl refl refl
 
 -- ---- the fewest in a list that has it is the one against which every other has more

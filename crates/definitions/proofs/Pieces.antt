@@ -2,7 +2,7 @@
 use Prim.Native.Nat.{ℕ, zero, suc, _+_, _*_, _<_}
 use mathlib.Core.Path.{_≡_, refl, sym, _∙_, ap}
 use mathlib.Core.Bool.{true, cond}
-use mathlib.Core.List.{List, [], _∷_, _++_, map, append-assoc}
+use mathlib.Core.List.{List, [], _∷_, _++_, map}
 use mathlib.Core.Logic.{_≢_, _⊎_, inl, inr}
 use native.Mathlib.Decide.{ℕ-discrete}
 use native.Mathlib.Nat.{le-of-suc-le-suc, not-suc-le-zero, add-zero, zero-add}
@@ -16,23 +16,18 @@ use Rattle.definitions.specs.declared.SubSplits.{SubSplits}
 use Rattle.definitions.specs.declared.Split.{Split}
 use Rattle.definitions.specs.declared.Split.the-variants.{S16x16, S16x8, S8x16, S8x8 as Quarters}
 use Rattle.definitions.specs.Tests.{allBelow}
-use Rattle.definitions.specs.Splits.{subPieces, pieces, subCount, count, splits, blocksOf, times, Covers}
+use Rattle.definitions.specs.Splits.{subPieces, pieces, subCount, count, subSplits, splits, blocksOf, times, Covers}
+use Rattle.definitions.specs.Record.{subTypeNumber}
 use Rattle.definitions.proofs.Choices.{below-true}
+use Rattle.definitions.proofs.RecordLists.{joined-each}
 
 -- ---- the list of splits
 -- a number for each split: the sub-types are its digits
-subNumber : SubSplit → ℕ
-subNumber S8x8 = 0
-subNumber S8x4 = 1
-subNumber S4x8 = 2
-subNumber S4x4 = 3
-
 number : Split → ℕ
-unfolding subNumber
 number S16x16 = 0
 number S16x8 = 1
 number S8x16 = 2
-number (Quarters t) = 3 + (64 * subNumber (t .a) + 16 * subNumber (t .b) + 4 * subNumber (t .c) + subNumber (t .d))
+number (Quarters t) = 3 + (64 * subTypeNumber (t .a) + 16 * subTypeNumber (t .b) + 4 * subTypeNumber (t .c) + subTypeNumber (t .d))
 
 upFrom : ℕ → ℕ → List ℕ
 upFrom i zero = []
@@ -59,49 +54,48 @@ number-at k h =
 pub all-different : (i j : ℕ) → i < 259 → j < 259 → getD splits i S16x16 ≡ getD splits j S16x16 → i ≡ j
 all-different i j hi hj e = sym (number-at i hi) ∙ (ap number e ∙ number-at j hj)
 
-subNumber-below : (s : SubSplit) → subNumber s < 4
-unfolding subNumber
-subNumber-below S8x8 = omega arith
-subNumber-below S8x4 = omega arith
-subNumber-below S4x8 = omega arith
-subNumber-below S4x4 = omega arith
+sub-type-below : (s : SubSplit) → subTypeNumber s < 4
+sub-type-below S8x8 = omega arith
+sub-type-below S8x4 = omega arith
+sub-type-below S4x8 = omega arith
+sub-type-below S4x4 = omega arith
 
 number-below : (s : Split) → number s < 259
 unfolding number
 number-below S16x16 = omega arith
 number-below S16x8 = omega arith
 number-below S8x16 = omega arith
-number-below (Quarters t) = omega (arith, subNumber-below (t .a), subNumber-below (t .b), subNumber-below (t .c), subNumber-below (t .d))
+number-below (Quarters t) = omega (arith, sub-type-below (t .a), sub-type-below (t .b), sub-type-below (t .c), sub-type-below (t .d))
 
 -- the numbers tell the splits apart: back from a number
 subSplitAt : ℕ → SubSplit
-subSplitAt n = getD (S8x8 ∷ S8x4 ∷ S4x8 ∷ S4x4 ∷ []) n S8x8
+subSplitAt n = getD subSplits n S8x8
 
-subSplit-back : (s : SubSplit) → subSplitAt (subNumber s) ≡ s
-unfolding subNumber subSplitAt
+subSplit-back : (s : SubSplit) → subSplitAt (subTypeNumber s) ≡ s
+unfolding subSplitAt
 subSplit-back S8x8 = refl
 subSplit-back S8x4 = refl
 subSplit-back S4x8 = refl
 subSplit-back S4x4 = refl
 
-subNumber-same : (s t : SubSplit) → subNumber s ≡ subNumber t → s ≡ t
-subNumber-same s t e = sym (subSplit-back s) ∙ (ap subSplitAt e ∙ subSplit-back t)
+sub-type-same : (s t : SubSplit) → subTypeNumber s ≡ subTypeNumber t → s ≡ t
+sub-type-same s t e = sym (subSplit-back s) ∙ (ap subSplitAt e ∙ subSplit-back t)
 
 quarters-same : (t u : SubSplits) → number (Quarters t) ≡ number (Quarters u) → Quarters t ≡ Quarters u
 unfolding number
 quarters-same t u e =
-    let ta = subNumber-below (t .a) in
-    let tb = subNumber-below (t .b) in
-    let tc = subNumber-below (t .c) in
-    let td = subNumber-below (t .d) in
-    let ua = subNumber-below (u .a) in
-    let ub = subNumber-below (u .b) in
-    let uc = subNumber-below (u .c) in
-    let ud = subNumber-below (u .d) in
-    let ea = subNumber-same (t .a) (u .a) (omega arith) in
-    let eb = subNumber-same (t .b) (u .b) (omega arith) in
-    let ec = subNumber-same (t .c) (u .c) (omega arith) in
-    let ed = subNumber-same (t .d) (u .d) (omega arith) in
+    let ta = sub-type-below (t .a) in
+    let tb = sub-type-below (t .b) in
+    let tc = sub-type-below (t .c) in
+    let td = sub-type-below (t .d) in
+    let ua = sub-type-below (u .a) in
+    let ub = sub-type-below (u .b) in
+    let uc = sub-type-below (u .c) in
+    let ud = sub-type-below (u .d) in
+    let ea = sub-type-same (t .a) (u .a) (omega arith) in
+    let eb = sub-type-same (t .b) (u .b) (omega arith) in
+    let ec = sub-type-same (t .c) (u .c) (omega arith) in
+    let ed = sub-type-same (t .d) (u .d) (omega arith) in
     λ i. Quarters (record { a = ea i; b = eb i; c = ec i; d = ed i })
 
 number-same : (s t : Split) → number s ≡ number t → s ≡ t
@@ -150,8 +144,7 @@ count-is (Quarters t) = simp (length-append, sub-length) (omega arith)
 
 -- ---- pieces cover the sixteen blocks once each
 blocks-join : (xs ys : List (List ℕ)) → blocksOf (xs ++ ys) ≡ blocksOf xs ++ blocksOf ys
-blocks-join [] ys = refl
-blocks-join (x ∷ xs) ys = ap (λ (l : List ℕ). x ++ l) (blocks-join xs ys) ∙ sym (append-assoc x (blocksOf xs) (blocksOf ys))
+blocks-join = joined-each (λ p. p)
 
 times-join : (i : ℕ) (xs ys : List ℕ) → times i (xs ++ ys) ≡ times i xs + times i ys
 times-join i [] ys = sym (zero-add (times i ys))

@@ -1,7 +1,7 @@
 -- Lists of records: the tests of many records, and the records of a list made one after the other. Assumes nothing.
 use Prim.Native.Nat.{ℕ, zero, suc, _*_, _<_}
 use mathlib.Core.Path.{_≡_, refl, sym, ap, _∙_}
-use mathlib.Core.Bool.{Bool, true, false, not}
+use mathlib.Core.Bool.{true, not}
 use mathlib.Core.List.{List, [], _∷_, _++_, append-assoc, List·Memᴰ, List·Memᴰ·head, List·Memᴰ·tail, List·Memᴰ·cases-cons, List·Memᴰ·not-nil, Memᴰ·append-left, Memᴰ·append-right, List·Memᴰ·append-cases, List·Memᴰ·eq-of-singleton}
 use mathlib.Core.Logic.{⊎-elim}
 use native.Mathlib.Nat.{eq-or-lt-of-le, le-of-suc-le-suc, not-suc-le-zero}
@@ -9,18 +9,16 @@ use native.Mathlib.Omega.{arith}
 use lib.IntN.{ℤ}
 use lib.ListN.{length, take, drop, length-append, length-drop}
 use lib.Seq.{take-append-le, drop-append-le, take-all, drop-at}
+use borrow.Author.Tests.{not-false}
+use Rattle.definitions.specs.declared.Refusal.{Refusal}
 use Rattle.definitions.specs.declared.Verdict.the-variants.{Accepted}
 use Rattle.definitions.specs.Tests.{upTo, forEach}
 use Rattle.definitions.specs.Record.{recordWords, recordAt, wellFormed}
 use Rattle.definitions.specs.Refusals.{verdictOf, recordTest, recordTests}
 use Rattle.definitions.proofs.Choices.{no}
-use Rattle.definitions.proofs.Verdicts.{first-passed}
+use Rattle.definitions.proofs.Verdicts.{first-passed, EachGives}
 
 -- ---- the tests of some records are passed exactly when each is well formed
-pub not-false : (b : Bool) → not b ≡ false → b ≡ true
-not-false true e = refl
-not-false false e = sym e
-
 pub all-formed : (base : List ℤ) (addresses : List ℕ) → verdictOf (recordTests base addresses) ≡ Accepted → (a : ℕ) → List·Memᴰ a addresses → wellFormed (recordAt base a) ≡ true
 unfolding recordTests
 all-formed base [] v a m = absurd (List·Memᴰ·not-nil m)
@@ -34,18 +32,27 @@ formed-all base [] f = refl
 formed-all base (b ∷ rest) f =
     no _ _ (ap not (f b (List·Memᴰ·head refl))) ∙ formed-all base rest (λ a m. f a (List·Memᴰ·tail m))
 
--- ---- the members of 0, 1, .. n−1
+-- what holds of what each record's test gives
+pub records-give : (P : Refusal → Type 0) (base : List ℤ) (addresses : List ℕ) → ((a : ℕ) → List·Memᴰ a addresses → P (recordTest base a .gives)) → EachGives P (recordTests base addresses)
+unfolding recordTests
+records-give P base [] h = tt
+records-give P base (a ∷ rest) h = (h a (List·Memᴰ·head refl), records-give P base rest (λ b m. h b (List·Memᴰ·tail m)))
+
+-- ---- the members of f 0, f 1, .. f (n−1), and of 0, 1, .. n−1
 pub index-member : (n a : ℕ) → a < n → List·Memᴰ a (upTo n (λ k. k))
 unfolding upTo
 index-member zero a h = absurd (not-suc-le-zero h)
 index-member (suc n) a h =
     ⊎-elim (λ e. Memᴰ·append-right (upTo n (λ k. k)) (List·Memᴰ·head e)) (λ l. Memᴰ·append-left (n ∷ []) (index-member n a l)) (eq-or-lt-of-le (le-of-suc-le-suc h))
 
-pub member-index : (n a : ℕ) → List·Memᴰ a (upTo n (λ k. k)) → a < n
+pub member-upTo : (n : ℕ) (f : ℕ → ℕ) {x : ℕ} → List·Memᴰ x (upTo n f) → (k : ℕ) × (k < n) × (x ≡ f k)
 unfolding upTo
-member-index zero a m = absurd (List·Memᴰ·not-nil m)
-member-index (suc n) a m =
-    ⊎-elim (λ l. let h = member-index n a l in omega arith) (λ l. let e = List·Memᴰ·eq-of-singleton l in omega arith) (List·Memᴰ·append-cases (upTo n (λ k. k)) m)
+member-upTo zero f m = absurd (List·Memᴰ·not-nil m)
+member-upTo (suc n) f m =
+    ⊎-elim (λ l. let w = member-upTo n f l in (w .0, omega (arith, w .1), w .2)) (λ l. (n, omega arith, List·Memᴰ·eq-of-singleton l)) (List·Memᴰ·append-cases (upTo n f) m)
+
+pub member-index : (n a : ℕ) → List·Memᴰ a (upTo n (λ k. k)) → a < n
+member-index n a m = let w = member-upTo n (λ k. k) m in omega (arith, w .1, w .2)
 
 -- ---- records one after the other
 pub joined-each : {A B : Type 0} (f : A → List B) (xs ys : List A) → forEach (xs ++ ys) f ≡ forEach xs f ++ forEach ys f

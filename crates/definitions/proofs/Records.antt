@@ -5,7 +5,7 @@ use mathlib.Core.List.{List, [], _∷_}
 use native.Mathlib.Nat.{div-add-mod}
 use native.Mathlib.Omega.{arith}
 use lib.IntN.{ℤ, pos}
-use lib.ListN.{length, getD, take, drop, length-take, length-drop}
+use lib.ListN.{length, getD, take, drop, replicate, length-take, length-drop}
 use Rattle.definitions.specs.declared.Motion.{Motion}
 use Rattle.definitions.specs.Tests.{upTo}
 use Rattle.definitions.specs.Splits.{quadrantOf, placeOf, rasterOf}
@@ -115,3 +115,8 @@ module _ (type : ℕ) (sub : ℕ → ℕ) (m : ℕ → Motion) where
   laid-motion b h e f =
       let refs = laid-references (quadrantOf b) (omega arith) in
       motion-is (laidOut type sub m) b (m b) (refs .0 ∙ e, refs .1 ∙ f) (laid-vectors b h)
+
+-- of four quadrants of four blocks, all with one motion
+pub laid-alike : (type : ℕ) (m : Motion) → laidOut type (λ q. getD (replicate 4 0) q 0) (motionAt (replicate 4 (replicate 4 m))) ≡ laidOut type (λ q. 0) (λ b. m)
+unfolding laidOut upTo
+laid-alike type m = refl

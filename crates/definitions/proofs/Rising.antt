@@ -3,7 +3,7 @@
 use Prim.Native.Nat.{ℕ, zero, suc, _+_, _<_}
 use mathlib.Core.Path.{_≡_, refl, sym, ap, subst, _∙_}
 use mathlib.Core.Bool.{Bool, true, false, not, false≢true}
-use mathlib.Core.List.{List, [], _∷_, _++_, map, List·Memᴰ, List·Memᴰ·head, List·Memᴰ·tail, List·Memᴰ·cases-cons, List·Memᴰ·not-nil, List·Memᴰ·append-cases, List·Memᴰ·eq-of-singleton}
+use mathlib.Core.List.{List, [], _∷_, _++_, map, List·Memᴰ, List·Memᴰ·head, List·Memᴰ·tail, List·Memᴰ·cases-cons, List·Memᴰ·not-nil, List·Memᴰ·append-cases, List·Memᴰ·eq-of-singleton, Memᴰ·of-map}
 use mathlib.Core.Logic.{⊎-elim}
 use native.Mathlib.Nat.{mul-le-mul-right}
 use native.Mathlib.Omega.{arith}
@@ -25,9 +25,9 @@ use Rattle.definitions.specs.Calls.{macroblockTests, macroblockCall, ful
 use Rattle.definitions.specs.Log.{linesTest, programTests, LowestInProgram}
 use Rattle.definitions.proofs.Choices.{yes, no, pick-cases}
 use Rattle.definitions.proofs.Verdicts.{refused-later, reply-refused}
-use Rattle.definitions.proofs.Accepted.{across-inside, down-inside}
-use Rattle.definitions.proofs.RecordLists.{all-formed, formed-all}
-use Rattle.definitions.proofs.Addresses.{member-map, member-for, columns-are, rows-are, column-below}
+use Rattle.definitions.proofs.Accepted.{accepted-axes, across-inside, down-inside}
+use Rattle.definitions.proofs.RecordLists.{all-formed, formed-all, member-upTo}
+use Rattle.definitions.proofs.Addresses.{member-for, columns-are, rows-are, column-below}
 
 -- ---- the first malformed record of a rising list is its lowest
 refused-lowest : (base : List ℤ) (addresses : List ℕ) → Rising addresses → (r : Refusal) → verdictOf (recordTests base addresses) ≡ Refused r → LowestMalformed base addresses r
@@ -65,12 +65,6 @@ rising-join (x ∷ xs) ys p q h =
 rising-one : (x : ℕ) → Rising (x ∷ [])
 rising-one x = (λ b m. absurd (List·Memᴰ·not-nil m), tt)
 
-member-upTo : (n : ℕ) (f : ℕ → ℕ) {x : ℕ} → List·Memᴰ x (upTo n f) → (k : ℕ) × (k < n) × (x ≡ f k)
-unfolding upTo
-member-upTo zero f m = absurd (List·Memᴰ·not-nil m)
-member-upTo (suc n) f m =
-    ⊎-elim (λ l. let w = member-upTo n f l in (w .0, omega (arith, w .1), w .2)) (λ l. (n, omega arith, List·Memᴰ·eq-of-singleton l)) (List·Memᴰ·append-cases (upTo n f) m)
-
 rising-upTo : (n : ℕ) (f : ℕ → ℕ) → ((i j : ℕ) → i < j → j < n → f i < f j) → Rising (upTo n f)
 unfolding upTo
 rising-upTo zero f h = tt
@@ -96,16 +90,16 @@ module _ (g : Axes) where
   rising-row : (row : ℕ) (columns : List ℕ) → Rising columns → Rising (map (at row) columns)
   rising-row row [] p = tt
   rising-row row (c ∷ cs) p =
-      (λ b m. let k = member-map (at row) cs m in omega (arith, p .0 (k .0) (k .1), k .2), rising-row row cs (p .1))
+      (λ b m. let k = Memᴰ·of-map (at row) cs m in omega (arith, p .0 (k .0) (k .1), k .2), rising-row row cs (p .1))
 
   rising-raster : (rows columns : List ℕ) → Rising rows → Rising columns → ((c : ℕ) → List·Memᴰ c columns → c < width) → Rising (forEach rows (λ row. map (at row) columns))
   rising-raster [] columns p q h = tt
   rising-raster (r ∷ rs) columns p q h =
       rising-join (map (at r) columns) (forEach rs (λ row. map (at row) columns)) (rising-row r columns q) (rising-raster rs columns (p .1) q h)
       (λ x y m k.
-      let c = member-map (at r) columns m in
+      let c = Memᴰ·of-map (at r) columns m in
       let s = member-for (λ row. map (at row) columns) rs k in
-      let d = member-map (at (s .0)) columns (s .2) in
+      let d = Memᴰ·of-map (at (s .0)) columns (s .2) in
       omega (arith, c .2, d .2, h (c .0) (c .1), mul-le-mul-right width (p .0 (s .0) (s .1))))
 
 rising-read : (n : Numbers) (column row : ℕ) → geometryVerdict n ≡ Accepted → Rising (addressesRead (axesOf n) column row)
@@ -113,11 +107,12 @@ unfolding addressesRead addressesOf
 rising-read n column row accepted =
     let g = axesOf n in
     let named = namedAt g column row in
+    let axes = accepted-axes n accepted in
     pick-cases Rising (inside g column row) (addressesOf g named) []
     (λ e. rising-raster g (rowsOf named) (columnsOf named)
     (subst Rising (sym (rows-are g column row)) (rising-columns _ _))
     (subst Rising (sym (columns-are g column row)) (rising-columns _ _))
-    (λ c m. column-below g column row (across-inside n column row accepted e) (down-inside n column row accepted e) m))
+    (λ c m. column-below g column row (across-inside g column row axes e) (down-inside g column row axes e) m))
     (λ e. tt)
 
 pub records-judged : RecordsJudged

@@ -2,7 +2,7 @@
 use Prim.Native.Nat.{ℕ, zero, suc, _+_, _*_, _/_, _≤_, _<_}
 use mathlib.Core.Path.{_≡_, refl, sym, _∙_, ap}
 use mathlib.Core.Bool.{Bool, true, false, _&&_}
-use mathlib.Core.List.{List, []}
+use mathlib.Core.List.{List}
 use native.Mathlib.Nat.{le-div-iff-mul-le, div-mul-le-self, mul-le-mul-right, le-antisymm}
 use native.Mathlib.Omega.{arith}
 use lib.Dec.{ltb}
@@ -17,14 +17,13 @@ use Rattle.definitions.specs.Geometry.{baseSize, scaledSize}
 use Rattle.definitions.specs.Accepted.{Sized}
 use Rattle.definitions.specs.Splits.{sameMotion}
 use Rattle.definitions.specs.Inheriting.{at, scaledWord, scaledPrediction, scaledMotion, chosen}
+use Rattle.definitions.proofs.Choices.{both-ways}
+use Rattle.definitions.proofs.Rounding.{sizeOf}
 use Rattle.definitions.proofs.Motions.{motion-true, motion-same}
 use Rattle.definitions.proofs.Shapes.{cut, samePairs, shapeOf, quadrantShape, shapesOf, allWhole, joined, splitOf}
 use Rattle.definitions.proofs.Fewest.{chosen-is}
 
 -- ---- words
-abbrev sizeOf : ℕ → ℕ → ℕ → ℕ
-sizeOf b s n = (n * s + b / 2) / b
-
 size-rises : (b s m n : ℕ) → Sized b s → m < n → sizeOf b s m < sizeOf b s n
 size-rises b s m n z h =
     let hb : 0 < b = omega arith in
@@ -62,11 +61,6 @@ word-apart b s (negsuc m) (negsuc n) z e =
     ap negsuc k
 
 -- ---- motions, by accepted axes
-both-ways : (s t : Bool) → (s ≡ true → t ≡ true) → (t ≡ true → s ≡ true) → s ≡ t
-both-ways true t f g = sym (f refl)
-both-ways false true f g = g refl
-both-ways false false f g = refl
-
 module _ (g : Axes) (h : Sized (baseSize (g .horizontal)) (scaledSize (g .horizontal))) (v : Sized (baseSize (g .vertical)) (scaledSize (g .vertical))) where
   prediction-apart : (p q : Prediction) → scaledPrediction g p ≡ scaledPrediction g q → p ≡ q
   unfolding scaledPrediction

@@ -225,81 +225,85 @@ pub record Settled (q : List Motion) : Type 0 where
   pub zero0 : (k : ℕ) → k < 4 → used (getD q k zeroMotion .list0 .reference) ≡ false → getD q k zeroMotion .list0 ≡ unused
   pub zero1 : (k : ℕ) → k < 4 → used (getD q k zeroMotion .list1 .reference) ≡ false → getD q k zeroMotion .list1 ≡ unused
 
-abbrev list0Of : List Motion → List Prediction
-list0Of m = four (λ j. getD m j zeroMotion .list0)
+-- one list: part is what a motion has of it, and m are the four motions
+module _ (part : Motion → Prediction) (m : List Motion) where
+  abbrev listOf : List Prediction
+  listOf = four (λ j. part (getD m j zeroMotion))
 
-abbrev list1Of : List Motion → List Prediction
-list1Of m = four (λ j. getD m j zeroMotion .list1)
+  in-list : (j : ℕ) → j < 4 → getD listOf j zeroPrediction ≡ part (getD m j zeroMotion)
+  in-list = four-at (λ i. part (getD m i zeroMotion)) zeroPrediction
 
-merged-is : (m : List Motion) (k : ℕ) → k < 4
-    → getD (merged m) k zeroMotion ≡ record { list0 = getD (mergedList (list0Of m)) k zeroPrediction; list1 = getD (mergedList (list1Of m)) k zeroPrediction }
-unfolding merged
-merged-is m k h =
-    four-at (λ j. record { list0 = getD (mergedList (list0Of m)) j zeroPrediction; list1 = getD (mergedList (list1Of m)) j zeroPrediction }) zeroMotion k h
+  -- where the four have one reference, and each is unused or empty, merging leaves them
+  list-leaves : ((j : ℕ) → j < 4 → part (getD m j zeroMotion) .reference ≡ part (getD m 0 zeroMotion) .reference)
+      → ((j : ℕ) → j < 4 → used (part (getD m j zeroMotion) .reference) ≡ false → part (getD m j zeroMotion) ≡ unused)
+      → (k : ℕ) → k < 4 → getD (mergedList listOf) k zeroPrediction ≡ part (getD m k zeroMotion)
+  list-leaves one empty k h =
+      merged-leaves listOf k h (λ j l. ap reference (in-list j l) ∙ (one j l ∙ sym (ap reference (in-list 0 (omega arith)))))
+      (λ u. in-list k h ∙ empty k h (ap (λ (e : Prediction). used (e .reference)) (sym (in-list k h)) ∙ u))
+      ∙ in-list k h
+    where
+      reference : Prediction → ℤ
+      reference e = e .reference
 
+  -- what merging makes of it: all four have r, and what holds of the four, and of an unused list, holds of each
+  module _ (merges : (k : ℕ) → k < 4 → part (getD (merged m) k zeroMotion) ≡ getD (mergedList listOf) k zeroPrediction) where
+    list-reference : (k : ℕ) → k < 4 → part (getD (merged m) k zeroMotion) .reference ≡ lowest listOf
+    list-reference k h = ap (λ (e : Prediction). e .reference) (merges k h) ∙ merged-reference listOf k h
+
+    list-one : (k : ℕ) → k < 4 → part (getD (merged m) k zeroMotion) .reference ≡ part (getD (merged m) 0 zeroMotion) .reference
+    list-one k h = list-reference k h ∙ sym (list-reference 0 (omega arith))
+
+    list-unused : (k : ℕ) → k < 4 → used (part (getD (merged m) k zeroMotion) .reference) ≡ false → part (getD (merged m) k zeroMotion) ≡ unused
+    list-unused k h e = merges k h ∙ merged-none listOf k h (ap used (sym (list-reference k h)) ∙ e)
+
+    list-keeps : (P : Prediction → Type 0) → P unused → ((j : ℕ) → j < 4 → P (part (getD m j zeroMotion))) → (k : ℕ) → k < 4 → P (part (getD (merged m) k zeroMotion))
+    list-keeps P n a k h = subst P (sym (merges k h)) (merged-keeps listOf k h P n (λ j l. subst P (sym (in-list j l)) (a j l)))
+
+    list-uses : used (part (getD m 0 zeroMotion) .reference) ≡ true → (k : ℕ) → k < 4 → used (part (getD (merged m) k zeroMotion) .reference) ≡ true
+    list-uses u k h = ap used (list-reference k h) ∙ lowest-under listOf 0 (omega arith) u .0
+
+-- both
 module _ (m : List Motion) where
-  at0 : (k : ℕ) → k < 4 → getD (merged m) k zeroMotion .list0 ≡ getD (mergedList (list0Of m)) k zeroPrediction
-  at0 k h = ap (λ (x : Motion). x .list0) (merged-is m k h)
+  abbrev first : Motion → Prediction
+  first x = x .list0
 
-  at1 : (k : ℕ) → k < 4 → getD (merged m) k zeroMotion .list1 ≡ getD (mergedList (list1Of m)) k zeroPrediction
-  at1 k h = ap (λ (x : Motion). x .list1) (merged-is m k h)
+  abbrev second : Motion → Prediction
+  second x = x .list1
 
-  reference0 : (k : ℕ) → k < 4 → getD (merged m) k zeroMotion .list0 .reference ≡ lowest (list0Of m)
-  reference0 k h = ap (λ (e : Prediction). e .reference) (at0 k h) ∙ merged-reference (list0Of m) k h
+  merged-is : (k : ℕ) → k < 4 → getD (merged m) k zeroMotion ≡ record { list0 = getD (mergedList (listOf first m)) k zeroPrediction; list1 = getD (mergedList (listOf second m)) k zeroPrediction }
+  unfolding merged
+  merged-is = four-at (λ j. record { list0 = getD (mergedList (listOf first m)) j zeroPrediction; list1 = getD (mergedList (listOf second m)) j zeroPrediction }) zeroMotion
 
-  reference1 : (k : ℕ) → k < 4 → getD (merged m) k zeroMotion .list1 .reference ≡ lowest (list1Of m)
-  reference1 k h = ap (λ (e : Prediction). e .reference) (at1 k h) ∙ merged-reference (list1Of m) k h
+  at0 : (k : ℕ) → k < 4 → getD (merged m) k zeroMotion .list0 ≡ getD (mergedList (listOf first m)) k zeroPrediction
+  at0 k h = ap first (merged-is k h)
+
+  at1 : (k : ℕ) → k < 4 → getD (merged m) k zeroMotion .list1 ≡ getD (mergedList (listOf second m)) k zeroPrediction
+  at1 k h = ap second (merged-is k h)
 
   merged-settled : Settled (merged m)
-  merged-settled = record {
-    one0 = λ k h. reference0 k h ∙ sym (reference0 0 (omega arith));
-    one1 = λ k h. reference1 k h ∙ sym (reference1 0 (omega arith));
-    zero0 = λ k h e. at0 k h ∙ merged-none (list0Of m) k h (ap used (sym (reference0 k h)) ∙ e);
-    zero1 = λ k h e. at1 k h ∙ merged-none (list1Of m) k h (ap used (sym (reference1 k h)) ∙ e);
-  }
+  merged-settled = record { one0 = list-one first m at0; one1 = list-one second m at1; zero0 = list-unused first m at0; zero1 = list-unused second m at1 }
 
   -- merging leaves a quadrant that is settled
   pub settled-merged : Settled m → merged m ≡ four (λ k. getD m k zeroMotion)
   unfolding merged
   settled-merged s = four-same (both 0 (omega arith)) (both 1 (omega arith)) (both 2 (omega arith)) (both 3 (omega arith))
     where
-      in0 : (j : ℕ) → j < 4 → getD (list0Of m) j zeroPrediction ≡ getD m j zeroMotion .list0
-      in0 = four-at (λ i. getD m i zeroMotion .list0) zeroPrediction
-
-      in1 : (j : ℕ) → j < 4 → getD (list1Of m) j zeroPrediction ≡ getD m j zeroMotion .list1
-      in1 = four-at (λ i. getD m i zeroMotion .list1) zeroPrediction
-
-      reference : Prediction → ℤ
-      reference e = e .reference
-
-      left0 : (k : ℕ) → k < 4 → getD (mergedList (list0Of m)) k zeroPrediction ≡ getD m k zeroMotion .list0
-      left0 k h =
-          merged-leaves (list0Of m) k h (λ j l. ap reference (in0 j l) ∙ (s .one0 j l ∙ sym (ap reference (in0 0 (omega arith)))))
-          (λ u. in0 k h ∙ s .zero0 k h (ap (λ (e : Prediction). used (e .reference)) (sym (in0 k h)) ∙ u))
-          ∙ in0 k h
-
-      left1 : (k : ℕ) → k < 4 → getD (mergedList (list1Of m)) k zeroPrediction ≡ getD m k zeroMotion .list1
-      left1 k h =
-          merged-leaves (list1Of m) k h (λ j l. ap reference (in1 j l) ∙ (s .one1 j l ∙ sym (ap reference (in1 0 (omega arith)))))
-          (λ u. in1 k h ∙ s .zero1 k h (ap (λ (e : Prediction). used (e .reference)) (sym (in1 k h)) ∙ u))
-          ∙ in1 k h
-
       both : (k : ℕ) → k < 4
-          → record { list0 = getD (mergedList (list0Of m)) k zeroPrediction; list1 = getD (mergedList (list1Of m)) k zeroPrediction } ≡ getD m k zeroMotion
-      both k h = let a = left0 k h in let b = left1 k h in λ i. record { list0 = a i; list1 = b i }
+          → record { list0 = getD (mergedList (listOf first m)) k zeroPrediction; list1 = getD (mergedList (listOf second m)) k zeroPrediction } ≡ getD m k zeroMotion
+      both k h =
+          let a = list-leaves first m (s .one0) (s .zero0) k h in
+          let b = list-leaves second m (s .one1) (s .zero1) k h in
+          λ i. record { list0 = a i; list1 = b i }
 
   merged-both : (P : Prediction → Type 0) → P unused → ((j : ℕ) → j < 4 → Both P (getD m j zeroMotion)) → (k : ℕ) → k < 4 → Both P (getD (merged m) k zeroMotion)
-  merged-both P n a k h = (
-    subst P (sym (at0 k h)) (merged-keeps (list0Of m) k h P n (λ j l. subst P (sym (four-at (λ i. getD m i zeroMotion .list0) zeroPrediction j l)) (a j l .0))),
-    subst P (sym (at1 k h)) (merged-keeps (list1Of m) k h P n (λ j l. subst P (sym (four-at (λ i. getD m i zeroMotion .list1) zeroPrediction j l)) (a j l .1))),
-  )
+  merged-both P n a k h = (list-keeps first m at0 P n (λ j l. a j l .0) k h, list-keeps second m at1 P n (λ j l. a j l .1) k h)
 
   -- where one block uses a list, each does after merging
   merged-uses : usesList (getD m 0 zeroMotion) ≡ true → (k : ℕ) → k < 4 → usesList (getD (merged m) k zeroMotion) ≡ true
   merged-uses u k h =
       ⊎-elim
-      (λ v. or-left (used (getD (merged m) k zeroMotion .list1 .reference)) (ap used (reference0 k h) ∙ lowest-under (list0Of m) 0 (omega arith) v .0))
-      (λ v. or-right (used (getD (merged m) k zeroMotion .list0 .reference)) (ap used (reference1 k h) ∙ lowest-under (list1Of m) 0 (omega arith) v .0))
+      (λ v. or-left (used (getD (merged m) k zeroMotion .list1 .reference)) (list-uses first m at0 v k h))
+      (λ v. or-right (used (getD (merged m) k zeroMotion .list0 .reference)) (list-uses second m at1 v k h))
       (or-true (used (getD m 0 zeroMotion .list0 .reference)) (used (getD m 0 zeroMotion .list1 .reference)) u)
 
 -- ---- step 1

@@ -1,6 +1,6 @@
 -- Laws of verdicts: tests one after the other, and what a call makes of a verdict (specs/Refusals, specs/Calls). Assumes nothing.
 use Prim.Native.Nat.{ℕ}
-use mathlib.Core.Path.{_≡_, refl, sym, ap, _∙_}
+use mathlib.Core.Path.{_≡_, refl, sym, ap, subst, _∙_}
 use mathlib.Core.Bool.{Bool, true, false, not, false≢true}
 use mathlib.Core.List.{List, [], _∷_, _++_}
 use native.Mathlib.Omega.{arith}
@@ -52,6 +52,20 @@ refused-first (x ∷ xs) ys r e = by (x .applies) (λ q. refused-first xs ys r q
   where
     by : (b : Bool) → (verdictOf xs ≡ Refused r → verdictOf (xs ++ ys) ≡ Refused r) → pick b (Refused (x .gives)) (verdictOf xs) ≡ Refused r → pick b (Refused (x .gives)) (verdictOf (xs ++ ys)) ≡ Refused r
     by true f p = p
+    by false f p = f p
+
+-- what holds of the refusals that the tests give holds of the verdict's
+abbrev pub EachGives : (Refusal → Type 0) → List Test → Type 0
+EachGives P [] = Unit
+EachGives P (t ∷ ts) = P (t .gives) × EachGives P ts
+
+pub given-by : (P : Refusal → Type 0) (ts : List Test) → EachGives P ts → (r : Refusal) → verdictOf ts ≡ Refused r → P r
+unfolding pick
+given-by P [] h r e = absurd (let z : _≡_ {A = ℕ} 0 1 = cc in omega arith)
+given-by P (t ∷ ts) h r e = by (t .applies) (given-by P ts (h .1) r) e
+  where
+    by : (b : Bool) → (verdictOf ts ≡ Refused r → P r) → pick b (Refused (t .gives)) (verdictOf ts) ≡ Refused r → P r
+    by true f p = let q : t .gives ≡ r = cc in subst P q (h .0)
     by false f p = f p
 
 -- a refusal by a number that the first tests do not give comes of the rest

@@ -6,6 +6,7 @@ use lib.IntN.{natAbs}
 use lib.Signed.{_≤ℤ_}
 use lib.IntN.{pos}
 use Rattle.definitions.specs.declared.Axis.{Axis}
+use Rattle.definitions.specs.declared.Axes.{Axes}
 use Rattle.definitions.specs.Tests.{minus}
 use Rattle.definitions.specs.Geometry.{baseSize, scaledSize, fullSize, offsetOf}
 
@@ -33,3 +34,8 @@ pub record AcceptedAxis (a : Axis) : Type 0 where
   pub offset-even : natAbs (offsetOf a) % 2 ≡ 0
   pub offset-low : minus 8192 ≤ℤ offsetOf a
   pub offset-high : offsetOf a ≤ℤ pos 8190
+
+-- both axes of one
+pub record AcceptedAxes (g : Axes) : Type 0 where
+  pub horizontal : AcceptedAxis (g .horizontal)
+  pub vertical : AcceptedAxis (g .vertical)

@@ -106,9 +106,12 @@ subTypes (Quarters t) = subTypeNumber (t .a) ∷ subTypeNumber (t .b) ∷ subTyp
 abbrev pub unusedMotion : Motion
 unusedMotion = record { list0 = unused; list1 = unused }
 
+abbrev pub withoutMotion : ℕ → List ℤ
+withoutMotion type = laidOut type (λ q. 0) (λ b. unusedMotion)
+
 unfoldable pub writtenFor : Answer → List (List Motion) → List ℤ
-writtenFor Outside m = laidOut 5 (λ q. 0) (λ b. unusedMotion)
-writtenFor (Intra n) m = laidOut 0 (λ q. 0) (λ b. unusedMotion)
+writtenFor Outside m = withoutMotion 5
+writtenFor (Intra n) m = withoutMotion 0
 writtenFor (Inherited n s) m = laidOut (typeNumber s) (λ q. getD (subTypes s) q 0) (motionAt m)
 
 -- what is made of one macroblock: the answer and its written record

@@ -16,7 +16,7 @@ use Rattle.definitions.specs.Tests.{minus}
 use Rattle.definitions.specs.Geometry.{axesOf}
 use Rattle.definitions.specs.Record.{recordWords, laidOut}
 use Rattle.definitions.specs.Inheriting.{unused}
-use Rattle.definitions.specs.Answer.{unusedMotion}
+use Rattle.definitions.specs.Answer.{withoutMotion}
 use Rattle.definitions.specs.Calls.{fullCount, AsSingly}
 use Rattle.definitions.specs.Demand3.{SinglyGives, PictureGives, Case}
 use Rattle.definitions.specs.Examples.{centred, intraRecord, wholeRecord, onlyLast, allButLast, wholeCase}
@@ -41,7 +41,7 @@ abbrev pub doubledRecord : List ℤ
 doubledRecord = laidOut 1 (λ q. 0) (λ b. record { list0 = record { reference = pos 0; x = pos 8; y = minus 16 }; list1 = unused })
 
 abbrev pub outsideRecord : List ℤ
-outsideRecord = laidOut 5 (λ q. 0) (λ b. unusedMotion)
+outsideRecord = withoutMotion 5
 
 abbrev pub counts : ℕ → ℕ → ℕ → Counts
 counts inherited intra outside = record { inherited = inherited; intra = intra; outside = outside }

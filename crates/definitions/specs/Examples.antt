@@ -20,7 +20,7 @@ use Rattle.definitions.specs.BlockMap.{digitsOf, coordinateOf, stepOf, a
 use Rattle.definitions.specs.Splits.{quadrantOf, placeOf, sameMotion, samePrediction, alike, oneEach, fewestIn}
 use Rattle.definitions.specs.Record.{recordWords, recordAt, motionOf, splitSaid, rule1, rule2, rule3, rule4, rule5, rule6, firstBroken, laidOut}
 use Rattle.definitions.specs.Inheriting.{setOf, intraSet, gathered, source, clearOf, filled, lower, lowest, having, unused, zeroPrediction, mergedList, merged, someOf, liveOf, copiedFrom, copied, resolved, scaledWord, scaledPrediction, scaledMotion, inheritedMotions}
-use Rattle.definitions.specs.Answer.{namedAt, answerOf, answerType, addressesOf, unusedMotion, writtenFor, madeOf}
+use Rattle.definitions.specs.Answer.{namedAt, answerOf, answerType, addressesOf, withoutMotion, writtenFor, madeOf}
 use Rattle.definitions.specs.Refusals.{geometryTests, recordTests, addressesRead}
 use Rattle.definitions.specs.Calls.{macroblockTests, macroblockCall, madeAt, countsOf}
 use Rattle.definitions.specs.Text.{Entry, whole, BreaksAt, baseOf}
@@ -79,7 +79,7 @@ holds (merge p k) = allBelow 4 (λ j. samePrediction (getD (mergedList p) j zero
 
 -- an intra record, and one of type 1
 abbrev pub intraRecord : List ℤ
-intraRecord = laidOut 0 (λ q. 0) (λ b. unusedMotion)
+intraRecord = withoutMotion 0
 
 abbrev pub wholeRecord : List ℤ
 wholeRecord = laidOut 1 (λ q. 0) (λ b. record { list0 = record { reference = pos 0; x = pos 4; y = minus 8 }; list1 = unused })

@@ -15,7 +15,7 @@ use Rattle.definitions.specs.declared.TextReply.{TextReply}
 use Rattle.definitions.specs.declared.TextReply.the-variants.{Read, Refused}
 use Rattle.definitions.specs.Tests.{forEach}
 use Rattle.definitions.specs.Record.{recordWords, wordOf, laidOut}
-use Rattle.definitions.specs.Answer.{unusedMotion}
+use Rattle.definitions.specs.Answer.{withoutMotion}
 use Rattle.definitions.specs.Refusals.{refusal}
 
 -- ---- Words and numbers
@@ -200,7 +200,7 @@ wholeMotion v =
 
 -- (intra) is type 0; (whole ..) is type 1, with its motion in all blocks; the numbers of (mb ..) are the words, in order
 abbrev pub wordsFor : RecordKind → List ℤ → List ℤ
-wordsFor intra v = laidOut 0 (λ q. 0) (λ b. unusedMotion)
+wordsFor intra v = withoutMotion 0
 wordsFor whole v = laidOut 1 (λ q. 0) (λ b. wholeMotion v)
 wordsFor mb v = v
 

@@ -12,15 +12,18 @@ use Rattle.definitions.specs.Splits.{rasterOf}
 use Rattle.definitions.specs.Record.{recordWords, recordAt, isIntra, motionOf, wellFormed}
 use Rattle.definitions.specs.Inheriting.{setOf}
 
--- the record, and the motion, that a block with coordinates x and y reads
+-- the record that a block with coordinates x and y reads, which of its blocks, and the motion
 abbrev pub addressRead : ℕ → ℕ → ℕ → ℕ
 addressRead width x y = columnOf y * width + columnOf x
 
 abbrev pub recordRead : ℕ → List ℤ → ℕ → ℕ → List ℤ
 recordRead width base x y = recordAt base (addressRead width x y)
 
+abbrev pub blockAt : ℕ → ℕ → ℕ
+blockAt x y = 4 * blockIn y + blockIn x
+
 unfoldable pub motionRead : ℕ → List ℤ → ℕ → ℕ → Motion
-motionRead width base x y = motionOf (recordRead width base x y) (4 * blockIn y + blockIn x)
+motionRead width base x y = motionOf (recordRead width base x y) (blockAt x y)
 
 -- that record lies in the base and is well formed
 pub record ReadableAt (width : ℕ) (base : List ℤ) (x y : ℕ) : Type 0 where
@@ -28,21 +31,15 @@ pub record ReadableAt (width : ℕ) (base : List ℤ) (x y : ℕ) : Type 0 where
   pub fits : (addressRead width x y + 1) * recordWords ≤ length base
   pub formed : wellFormed (recordRead width base x y) ≡ true
 
--- the address and the block that block i reads
-abbrev pub addressBy : ℕ → List ℕ → List ℕ → ℕ → ℕ
-addressBy width across down i = columnOf (getD down (i / 4) 0) * width + columnOf (getD across (i % 4) 0)
-
-abbrev pub blockBy : List ℕ → List ℕ → ℕ → ℕ
-blockBy across down i = 4 * blockIn (getD down (i / 4) 0) + blockIn (getD across (i % 4) 0)
-
+-- the same of block i: the record and the motion that it reads, and of all sixteen
 abbrev pub readBy : ℕ → List ℕ → List ℕ → List ℤ → ℕ → List ℤ
-readBy width across down base i = recordAt base (addressBy width across down i)
+readBy width across down base i = recordRead width base (getD across (i % 4) 0) (getD down (i / 4) 0)
 
 unfoldable pub setBy : ℕ → List ℕ → List ℕ → List ℤ → ℕ
 setBy width across down base = setOf 16 (λ i. isIntra (readBy width across down base i))
 
-unfoldable pub motionBy : ℕ → List ℕ → List ℕ → List ℤ → ℕ → Motion
-motionBy width across down base i = motionOf (readBy width across down base i) (blockBy across down i)
+abbrev pub motionBy : ℕ → List ℕ → List ℕ → List ℤ → ℕ → Motion
+motionBy width across down base i = motionRead width base (getD across (i % 4) 0) (getD down (i / 4) 0)
 
 unfoldable pub gatheredBy : ℕ → List ℕ → List ℕ → List ℤ → List (List Motion)
 gatheredBy width across down base = four (λ q. four (λ k. motionBy width across down base (rasterOf q k)))
@@ -55,7 +52,5 @@ unfoldable pub rowSet : (ℕ → Bool) → ℕ
 rowSet on = bitOf (on 0) + 2 * bitOf (on 1) + 4 * bitOf (on 2) + 8 * bitOf (on 3)
 
 -- the records that the blocks read lie in the base and are well formed
-pub record Readable (width : ℕ) (across down : List ℕ) (base : List ℤ) : Type 0 where
-  pub low : (i : ℕ) → i < 16 → addressBy width across down i < 65536
-  pub fits : (i : ℕ) → i < 16 → (addressBy width across down i + 1) * recordWords ≤ length base
-  pub formed : (i : ℕ) → i < 16 → wellFormed (readBy width across down base i) ≡ true
+abbrev pub Readable : ℕ → List ℕ → List ℕ → List ℤ → Type 0
+Readable width across down base = (i : ℕ) → i < 16 → ReadableAt width base (getD across (i % 4) 0) (getD down (i / 4) 0)

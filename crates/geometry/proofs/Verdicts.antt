@@ -2,18 +2,18 @@
 use mathlib.Core.Path.{_≡_, refl, sym, ap, subst, _∙_}
 use mathlib.Core.Bool.{Bool, true, false, not, _&&_}
 use borrow.Author.Tests.{not-true, not-false}
-use Rattle.definitions.specs.declared.Axes.{Axes}
 use Rattle.definitions.specs.declared.AxisNumbers.{AxisNumbers}
 use Rattle.definitions.specs.declared.Numbers.{Numbers}
+use Rattle.definitions.specs.declared.Refusal.{Refusal}
 use Rattle.definitions.specs.declared.Verdict.{Verdict}
 use Rattle.definitions.specs.declared.Verdict.the-variants.{Accepted, Refused}
 use Rattle.definitions.specs.Refusals.{geometryTests, geometryVerdict, offsetRight, refusal, scaledRight, sizeRight}
 use Rattle.definitions.specs.Tests.{pick}
-use Rattle.definitions.specs.Accepted.{AcceptedAxis}
+use Rattle.definitions.specs.Accepted.{AcceptedAxes}
 use Rattle.definitions.specs.Geometry.{axesOf}
 use Rattle.definitions.proofs.Accepted.{AcceptedNumbers, accepted-axes}
-use Rattle.geometry.specs.Checked.{checkedBy, checkedOf, NoneNegative, Valid}
-use Rattle.geometry.specs.declared.Checked.the-variants.{Geometry as Right}
+use Rattle.geometry.specs.Checked.{checkedBy, checkedOf, NoneNegative}
+use Rattle.geometry.specs.declared.Checked.the-variants.{Geometry as Right, Refused as Declined}
 use Rattle.geometry.specs.declared.Geometry.{Geometry}
 
 module _ (n : Numbers) where
@@ -65,14 +65,23 @@ pub checked-by : (n : Numbers) {v : Verdict} → geometryVerdict n ≡ v → che
 unfolding checkedOf
 checked-by n e = ap (λ (v : Verdict). checkedBy v n) e
 
-by-verdict : (v : Verdict) (n : Numbers) (g : Geometry) → checkedBy v n ≡ Right g → (v ≡ Accepted) × (axesOf n ≡ g .axes)
-by-verdict Accepted n g e = (refl, cc)
-by-verdict (Refused r) n g e = (cc, cc)
+-- and what it gave tells the verdict
+pub checked-accepted : (n : Numbers) (g : Geometry) → checkedOf n ≡ Right g → (geometryVerdict n ≡ Accepted) × (g .axes ≡ axesOf n)
+unfolding checkedOf
+checked-accepted n g = by (geometryVerdict n)
+  where
+    by : (v : Verdict) → checkedBy v n ≡ Right g → (v ≡ Accepted) × (g .axes ≡ axesOf n)
+    by Accepted e = (refl, cc)
+    by (Refused r) e = (cc, cc)
+
+pub checked-refused : (n : Numbers) (r : Refusal) → checkedOf n ≡ Declined r → geometryVerdict n ≡ Refused r
+unfolding checkedOf
+checked-refused n r = by (geometryVerdict n)
+  where
+    by : (v : Verdict) → checkedBy v n ≡ Declined r → v ≡ Refused r
+    by Accepted e = cc
+    by (Refused q) e = cc
 
 -- a geometry that `new` gives has two accepted axes
-pub checked-valid : (n : Numbers) (g : Geometry) → checkedOf n ≡ Right g → Valid g
-unfolding checkedOf
-checked-valid n g e =
-    let h = by-verdict (geometryVerdict n) n g e in
-    let both = accepted-axes n (h .0) in
-    record { horizontal = subst (λ (a : Axes). AcceptedAxis (a .horizontal)) (h .1) (both .0); vertical = subst (λ (a : Axes). AcceptedAxis (a .vertical)) (h .1) (both .1) }
+pub checked-valid : (n : Numbers) (g : Geometry) → checkedOf n ≡ Right g → AcceptedAxes (g .axes)
+checked-valid n g e = let h = checked-accepted n g e in subst AcceptedAxes (sym (h .1)) (accepted-axes n (h .0))

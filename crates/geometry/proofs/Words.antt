@@ -1,11 +1,11 @@
 -- Signed words: quotients, remainders and products that fit, and the tests on them. Assumes nothing.
 use Prim.Native.Nat.{ℕ, zero, suc, _-_, _/_, _%_, _<_, _^_}
-use mathlib.Core.Path.{_≡_, refl, sym, ap, subst, _∙_}
+use mathlib.Core.Path.{_≡_, refl, sym, subst, _∙_}
 use mathlib.Core.Bool.{Bool, true, false, _&&_, false≢true}
 use native.Mathlib.Nat.{div-le-self, mod-lt, mul-le-mul}
 use native.Mathlib.Omega.{arith}
 use lib.Dec.{T, eqb, leb}
-use lib.IntN.{ℤ, pos, negsuc, negℤ, natAbs, subℕ, _-ℤ_, _*ℤ_}
+use lib.IntN.{ℤ, pos, negsuc, negℤ, natAbs, subℕ, _*ℤ_}
 use lib.Signed.{mag, ltZ, nonNeg, quotZ, remZ}
 use borrow.Author.Tests.{eq-eqb, ne-eqb, leb-true, ltb-true}
 use mir.Syntax.{w32}
@@ -14,7 +14,7 @@ use mir.Facts.{toZ-ofZ, fits-natAbs}
 use Rattle.definitions.specs.Refusals.{sizeRight}
 use Rattle.definitions.specs.Tests.{minus}
 use Rattle.definitions.proofs.Choices.{and-true}
-use Rattle.definitions.proofs.Differences.{sub-neg, sub-cases}
+use Rattle.definitions.proofs.Differences.{sub-cases}
 
 -- a negated natural, by cases
 neg-cases : (P : ℤ → Type 0) (n : ℕ) → (n ≡ 0 → P (pos 0)) → (0 < n → P (negsuc (n - 1))) → P (negℤ (pos n))
@@ -59,10 +59,6 @@ is-natural (pos n) t = refl
 is-natural (negsuc n) t = absurd (false≢true (sym t))
 
 -- ---- differences
-pub zero-minus : (n : ℕ) → pos 0 -ℤ pos n ≡ minus n
-zero-minus zero = refl
-zero-minus (suc n) = sub-neg 0 (suc n) (omega arith) ∙ ap negsuc (let e : suc n - 1 ≡ n = omega arith in e)
-
 pub minus-fits : (n : ℕ) → n < 2 ^ 31 → SFits w32 (minus n)
 minus-fits n h = neg-cases (SFits w32) n (λ e. record { sfits = omega arith }) (λ l. record { sfits = omega arith })
 

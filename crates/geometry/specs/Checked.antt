@@ -5,12 +5,10 @@ use Rattle.definitions.specs.declared.AxisNumbers.{AxisNumbers}
 use Rattle.definitions.specs.declared.Numbers.{Numbers}
 use Rattle.definitions.specs.declared.Verdict.{Verdict}
 use Rattle.definitions.specs.declared.Verdict.the-variants.{Accepted, Refused}
-use Rattle.definitions.specs.Accepted.{AcceptedAxis}
 use Rattle.definitions.specs.Geometry.{axesOf}
 use Rattle.definitions.specs.Refusals.{geometryVerdict}
 use Rattle.geometry.specs.declared.Checked.{Checked}
 use Rattle.geometry.specs.declared.Checked.the-variants.{Geometry as Right, Refused as Declined}
-use Rattle.geometry.specs.declared.Geometry.{Geometry}
 
 abbrev pub checkedBy : Verdict → Numbers → Checked
 checkedBy Accepted n = Right (record { axes = axesOf n })
@@ -24,8 +22,3 @@ pub record NoneNegative (n : AxisNumbers) : Type 0 where
   pub base : T (nonNeg (n .base))
   pub scaled : T (nonNeg (n .scaled))
   pub full : T (nonNeg (n .full))
-
--- What holds of each geometry that `new` gives (checked-valid of proofs/Verdicts)
-pub record Valid (g : Geometry) : Type 0 where
-  pub horizontal : AcceptedAxis (g .axes .horizontal)
-  pub vertical : AcceptedAxis (g .axes .vertical)

@@ -3,7 +3,7 @@ use Prim.Native.Nat.{ℕ, suc, _≤_, _<_, _+_, _*_}
 use mathlib.Core.Path.{_≡_, refl, sym, _∙_, ap}
 use mathlib.Core.Bool.{Bool, true, false}
 use mathlib.Core.Logic.{⊎-elim}
-use mathlib.Core.List.{List, [], _∷_, _++_, append-assoc, append-nil}
+use mathlib.Core.List.{List, [], _∷_, _++_, append-assoc, append-nil, append-cancel-left}
 use native.Mathlib.Omega.{arith}
 use native.Mathlib.Nat.{eq-or-lt-of-le}
 use lib.Dec.{eqb}
@@ -11,14 +11,14 @@ use lib.IntN.{ℤ}
 use lib.ListN.{length, take, drop, getD, take-append-drop, length-append}
 use lib.Seq.{sets, sets-eq, take-length, take-at, drop-at, drop-drop}
 use borrow.Author.Tests.{eqb-true, eqb-false}
-use Rattle.definitions.specs.Tests.{forEach}
 use Rattle.definitions.specs.Record.{recordWords}
-use Rattle.definitions.specs.Text.{letter, RecordKind, intra, whole, mb, kindOf, Entry, wordsOf}
+use Rattle.definitions.specs.Text.{letter, RecordKind, intra, whole, mb, kindOf, Entry, wordsOf, baseOf}
 use Rattle.definitions.proofs.RecordLists.{joined-each}
 use Rattle.grammar.specs.Machine.{Sym, entry, Ev, num, rec, nums, flat, Delta, halt, go, emit, stepK, Cfg, dead, live, enter, step, runs, start, stateAt, Waiting}
 use Rattle.grammar.specs.Promises.{Stuck, tail, Ended}
 use Rattle.grammar.proofs.Runs.{runs-append, same-flat}
-use Rattle.grammar.proofs.Openings.{entry-end, entry-go, entry-bad, base-go, base-bad, stuck-ended, told-one-more}
+use Rattle.grammar.proofs.Steps.{top-end}
+use Rattle.grammar.proofs.Openings.{entry-go, entry-bad, base-go, base-bad, stuck-ended, told-one-more}
 
 -- ---- what the machine was told only grows
 record Grown (g h : List Ev) : Type 0 where
@@ -69,10 +69,6 @@ begun-flat : (rs : List Entry) → begun (flat rs) ≡ length rs
 begun-flat [] = refl
 begun-flat (r ∷ rs) = ap suc (begun-nums (r .fields) (flat rs) ∙ begun-flat rs)
 
-cancel : (g a b : List Ev) → g ++ a ≡ g ++ b → a ≡ b
-cancel [] a b e = e
-cancel (x ∷ g) a b e = cancel g a b (let q : g ++ a ≡ g ++ b = cc in q)
-
 -- ---- a text whose machine ends with nothing more asked
 module _ (s : List ℕ) (fin : List Ev) (ends : stateAt s (length s) ≡ live fin []) where
   never-dead : (i : ℕ) → stateAt s i ≡ dead → ⊥
@@ -109,7 +105,7 @@ module _ (s : List ℕ) (fin : List Ev) (ends : stateAt s (length s) ≡ live fi
     -- the byte after the bracket is there
     pub letter-there : p + 1 < length s
     letter-there =
-        ⊎-elim (λ e. absurd (never-stuck (p + 1) (entry-end s (p + 1) g [] line-begins (omega arith) (omega arith)))) (λ q. q)
+        ⊎-elim (λ e. absurd (never-stuck (p + 1) (top-end s (p + 1) entry g [] line-begins (omega arith) (omega arith)))) (λ q. q)
         (eq-or-lt-of-le (let q : p + 1 ≤ length s = omega arith in q))
 
     module _ (no-note : getD s (p + 1) 0 ≡ 110 → ⊥) where
@@ -141,9 +137,9 @@ module _ (s : List ℕ) (fin : List Ev) (ends : stateAt s (length s) ≡ live fi
 pub record Held (s : List ℕ) (p : ℕ) (g : List Ev) (from : ℕ) (old new : List ℤ) : Type 0 where
   pub done : List Entry
   pub here : from ≡ recordWords * length done
-  pub many : length (forEach done wordsOf) ≡ from
+  pub many : length (baseOf done) ≡ from
   pub state : stateAt s p ≡ live (g ++ flat done) []
-  pub words : new ≡ forEach done wordsOf ++ drop from old
+  pub words : new ≡ baseOf done ++ drop from old
 
 pub held-none : (s : List ℕ) (p : ℕ) (g : List Ev) (old : List ℤ) → stateAt s p ≡ live g [] → Held s p g 0 old old
 held-none s p g old h =
@@ -165,21 +161,21 @@ module _ (s : List ℕ) (p : ℕ) (g : List Ev) (from : ℕ) (old new : List ℤ
         omega (arith, begun-flat (h .done), begun-flat entries)
 
     -- at the end all are done
-    pub held-all : length s ≤ p → p ≤ length s → new ≡ forEach entries wordsOf ++ drop (recordWords * length entries) old
+    pub held-all : length s ≤ p → p ≤ length s → new ≡ baseOf entries ++ drop (recordWords * length entries) old
     held-all l m =
         let e : p ≡ length s = omega arith in
         let f : live (g ++ flat (h .done)) [] ≡ live (g ++ flat entries) [] = sym (h .state) ∙ ap (λ (j : ℕ). stateAt s j) e ∙ ends in
         let q : g ++ flat (h .done) ≡ g ++ flat entries = cc in
-        let d : h .done ≡ entries = same-flat (h .done) entries (cancel g (flat (h .done)) (flat entries) q) in
-        h .words ∙ ap (λ (j : ℕ). forEach (h .done) wordsOf ++ drop j old) (h .here)
-        ∙ ap (λ (es : List Entry). forEach es wordsOf ++ drop (recordWords * length es) old) d
+        let d : h .done ≡ entries = same-flat (h .done) entries (append-cancel-left g (flat (h .done)) (flat entries) q) in
+        h .words ∙ ap (λ (j : ℕ). baseOf (h .done) ++ drop j old) (h .here)
+        ∙ ap (λ (es : List Entry). baseOf es ++ drop (recordWords * length es) old) d
 
   -- a record line
   pub held-more :
       (e : ℕ) (one : Entry) (next : List ℤ) → from + recordWords ≤ length new → length (wordsOf one) ≡ recordWords → next ≡ sets new from (wordsOf one)
       → stateAt s e ≡ live ((g ++ flat (h .done)) ++ flat (one ∷ [])) [] → Held s e g (from + recordWords) old next
   held-more e one next l n w q =
-      let a = forEach (h .done) wordsOf in
+      let a = baseOf (h .done) in
       let b = wordsOf one in
       let k : from ≡ recordWords * length (h .done) = h .here in
       let m : length a ≡ from = h .many in
@@ -188,7 +184,7 @@ module _ (s : List ℕ) (p : ℕ) (g : List Ev) (from : ℕ) (old new : List ℤ
       let r : drop from new ≡ drop from old = ap (drop from) (h .words) ∙ drop-at a (drop from old) from m in
       let d : drop (from + length b) new ≡ drop (from + recordWords) old =
       sym (drop-drop (length b) from new) ∙ ap (drop (length b)) r ∙ drop-drop (length b) from old ∙ ap (λ (j : ℕ). drop (from + j) old) n in
-      let j : forEach (h .done ++ (one ∷ [])) wordsOf ≡ a ++ b = joined-each wordsOf (h .done) (one ∷ []) ∙ ap (λ (o : List ℤ). a ++ o) (append-nil b) in
+      let j : baseOf (h .done ++ (one ∷ [])) ≡ a ++ b = joined-each wordsOf (h .done) (one ∷ []) ∙ ap (λ (o : List ℤ). a ++ o) (append-nil b) in
       record {
         done = h .done ++ (one ∷ []);
         here = simp length-append (omega arith);

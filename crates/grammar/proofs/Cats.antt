@@ -1,8 +1,7 @@
 -- Languages set one after the other.
 use Prim.Native.Nat.{ℕ}
 use mathlib.Core.Path.{_≡_, refl, sym, _∙_, ap, subst}
-use mathlib.Core.List.{List, [], _∷_, _++_, append-assoc}
-use native.Mathlib.Omega.{arith}
+use mathlib.Core.List.{List, [], _∷_, _++_, append-assoc, nil≢cons, head-eq-of-cons-eq as heads, tail-eq-of-cons-eq as tails}
 
 pub record Cat (P B : List ℕ → Type 0) (u : List ℕ) : Type 0 where
   pub left : List ℕ
@@ -11,14 +10,8 @@ pub record Cat (P B : List ℕ → Type 0) (u : List ℕ) : Type 0 where
   pub then : B right
   pub cut : u ≡ left ++ right
 
-pub no-cons : {A : Type 0} {b : ℕ} {t : List ℕ} → [] ≡ b ∷ t → A
-no-cons {b = b} {t = t} e = absurd (let z : _≡_ {A = ℕ} 0 1 = cc in omega arith)
-
-pub heads : {b c : ℕ} {t u : List ℕ} → b ∷ t ≡ c ∷ u → b ≡ c
-heads e = cc
-
-pub tails : {b c : ℕ} {t u : List ℕ} → b ∷ t ≡ c ∷ u → t ≡ u
-tails e = cc
+pub no-cons : {A X : Type 0} {x : X} {l : List X} → [] ≡ x ∷ l → A
+no-cons e = absurd (nil≢cons e)
 
 module _ {P B : List ℕ → Type 0} where
   -- the first byte of two languages is the first one's, if that one has no empty text

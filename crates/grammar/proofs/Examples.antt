@@ -1,16 +1,18 @@
 -- The examples of a text (specs/Examples of crate definitions): refusal 9's place, by one statement over the table, and the Whole case from its text to its log. The machine
 -- computes each.
 use Prim.Native.Nat.{ℕ, _+_}
-use mathlib.Core.Path.{_≡_, refl, sym, ap, subst}
-use mathlib.Core.Bool.{Bool, true, false, _&&_, cond}
+use mathlib.Core.Path.{_≡_, refl, sym, ap}
+use mathlib.Core.Bool.{Bool, true, false, not, _&&_, cond, false≢true}
 use mathlib.Core.List.{List, [], _∷_}
 use native.Mathlib.Omega.{arith}
-use lib.Dec.{T, ltb, leb}
+use lib.Dec.{ltb, leb}
 use lib.ListN.{length}
 use borrow.Author.Tests.{ltb-true, ltb-false, leb-true}
-use Rattle.definitions.specs.Text.{BreaksAt, readAs, read}
+use Rattle.definitions.specs.Tests.{allOf}
+use Rattle.definitions.specs.Text.{readAs, read}
 use Rattle.definitions.specs.Log.{logFor, LogOf}
 use Rattle.definitions.specs.Examples.{wholeCase, wholeEntries, wholeText, wholeLog, whole-holds, Broken, broken, PlacesRight}
+use Rattle.definitions.proofs.Choices.{and-true}
 use Rattle.grammar.specs.Machine.{Cfg, dead, live, step, stepK, δ, classOf, runs, stateAt, Alive, Waiting}
 use Rattle.grammar.specs.Promises.{Ended}
 use Rattle.grammar.proofs.Runs.{ends-text-as}
@@ -26,75 +28,46 @@ isWaiting dead = false
 isWaiting (live g []) = false
 isWaiting (live g (y ∷ k)) = true
 
-abbrev isAlive : Cfg → Bool
-isAlive dead = false
-isAlive (live g k) = true
-
 -- the machine ends at p
 abbrev endsAt : List ℕ → ℕ → Bool
-endsAt s p = cond (ltb p (length s)) (isAlive (stateAt s p) && isDead (stateAt s (p + 1))) (leb p (length s) && isWaiting (stateAt s p))
+endsAt s p = cond (ltb p (length s)) (not (isDead (stateAt s p)) && isDead (stateAt s (p + 1))) (leb p (length s) && isWaiting (stateAt s p))
 
-dead-is : (c : Cfg) → T (isDead c) → c ≡ dead
-dead-is dead h = refl
-dead-is (live g k) h = absurd h
+dead-is : (c : Cfg) → isDead c ≡ true → c ≡ dead
+dead-is dead e = refl
+dead-is (live g k) e = cc
 
-alive-is : (c : Cfg) → T (isAlive c) → Alive c
-alive-is dead h = h
-alive-is (live g k) h = tt
+alive-is : (c : Cfg) → not (isDead c) ≡ true → Alive c
+alive-is dead e = false≢true e
+alive-is (live g k) e = tt
 
-waiting-is : (c : Cfg) → T (isWaiting c) → Waiting c
-waiting-is dead h = h
-waiting-is (live g []) h = h
-waiting-is (live g (y ∷ k)) h = tt
-
-one-of : (a b : Bool) → T (a && b) → T a
-one-of true b h = tt
-one-of false b h = h
-
-other-of : (a b : Bool) → T (a && b) → T b
-other-of true b h = h
-other-of false b h = absurd h
-
-is-true : (b : Bool) → T b → b ≡ true
-is-true true h = refl
-is-true false h = absurd h
+waiting-is : (c : Cfg) → isWaiting c ≡ true → Waiting c
+waiting-is dead e = false≢true e
+waiting-is (live g []) e = false≢true e
+waiting-is (live g (y ∷ k)) e = tt
 
 ended-by :
     (s : List ℕ) (p : ℕ) (t : Bool) → ltb p (length s) ≡ t
-    → T (cond t (isAlive (stateAt s p) && isDead (stateAt s (p + 1))) (leb p (length s) && isWaiting (stateAt s p))) → Ended s p
+    → cond t (not (isDead (stateAt s p)) && isDead (stateAt s (p + 1))) (leb p (length s) && isWaiting (stateAt s p)) ≡ true → Ended s p
 ended-by s p true e h =
     let l = ltb-true p (length s) e in
-    record {
-      within = omega arith;
-      alive = alive-is (stateAt s p) (one-of (isAlive (stateAt s p)) (isDead (stateAt s (p + 1))) h);
-      stuck = λ q. dead-is (stateAt s (p + 1)) (other-of (isAlive (stateAt s p)) (isDead (stateAt s (p + 1))) h);
-      asks = λ q. absurd (omega arith);
-    }
+    let both = and-true (not (isDead (stateAt s p))) (isDead (stateAt s (p + 1))) h in
+    record { within = omega arith; alive = alive-is (stateAt s p) (both .0); stuck = λ q. dead-is (stateAt s (p + 1)) (both .1); asks = λ q. absurd (omega arith) }
 ended-by s p false e h =
     let l = ltb-false p (length s) e in
-    let w = waiting-is (stateAt s p) (other-of (leb p (length s)) (isWaiting (stateAt s p)) h) in
-    record {
-      within = leb-true p (length s) (is-true (leb p (length s)) (one-of (leb p (length s)) (isWaiting (stateAt s p)) h));
-      alive = waiting-alive (stateAt s p) w;
-      stuck = λ q. absurd (omega arith);
-      asks = λ q. w;
-    }
+    let both = and-true (leb p (length s)) (isWaiting (stateAt s p)) h in
+    let w = waiting-is (stateAt s p) (both .1) in
+    record { within = leb-true p (length s) (both .0); alive = waiting-alive (stateAt s p) w; stuck = λ q. absurd (omega arith); asks = λ q. w }
 
-pub breaks-by : (s : List ℕ) (p : ℕ) → T (endsAt s p) → BreaksAt s p
-breaks-by s p h = ended-breaks s p (ended-by s p (ltb p (length s)) refl h)
-
-abbrev allEnd : List Broken → Bool
-allEnd [] = true
-allEnd (r ∷ rs) = endsAt (r .text) (r .place) && allEnd rs
-
-all-right : (rs : List Broken) → T (allEnd rs) → PlacesRight rs
+all-right : (rs : List Broken) → allOf (λ r. endsAt (r .text) (r .place)) rs ≡ true → PlacesRight rs
+unfolding allOf
 all-right [] h = tt
 all-right (r ∷ rs) h =
-    (breaks-by (r .text) (r .place) (one-of (endsAt (r .text) (r .place)) (allEnd rs) h), all-right rs (other-of (endsAt (r .text) (r .place)) (allEnd rs) h))
+    let both = and-true (endsAt (r .text) (r .place)) (allOf (λ r. endsAt (r .text) (r .place)) rs) h in
+    (ended-breaks (r .text) (r .place) (ended-by (r .text) (r .place) _ refl (both .0)), all-right rs (both .1))
 
 pub places-right : PlacesRight broken
-unfolding stateAt runs step stepK δ classOf
-places-right = all-right broken tt
+unfolding allOf stateAt runs step stepK δ classOf
+places-right = all-right broken refl
 
 -- Whole case of document 01, from the text to the log
 pub whole-log : LogOf wholeText wholeLog

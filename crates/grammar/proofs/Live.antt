@@ -3,7 +3,7 @@ use Prim.Native.Nat.{ℕ, zero, suc, _≤_, _-_}
 use mathlib.Core.Path.{_≡_, refl}
 use mathlib.Core.Bool.{Bool, true, false, cond}
 use mathlib.Core.Logic.{inl, inr}
-use mathlib.Core.List.{List, [], _∷_, _++_}
+use mathlib.Core.List.{List, [], _∷_, _++_, tail-eq-of-cons-eq as tails}
 use native.Mathlib.Omega.{arith}
 use lib.IntN.{ℤ, pos, negsuc}
 use lib.Dec.{leb, eqb}
@@ -12,7 +12,7 @@ use Rattle.grammar.specs.declared.Class.{Class}
 use Rattle.grammar.specs.declared.Class.the-variants.{Alpha, Nought, Nonzero, Dash, Open, Close, Space, Other}
 use Rattle.definitions.specs.Text.{Letter, none, word, Plain, nought, digits, Number, unsigned, close, isWord, Item, Note, note, Notes, more, Part, byte, spaced, ended, isByte, Kind, intraLine, wholeLine, mbLine, letter, tailOf, LineOf, kindOf}
 use Rattle.grammar.specs.Machine.{Follow, gap, shut, inList, Sym, lit, first, letters, rest, field, dashed, zeroed, figures, line, opened, entry, Ev, num, Delta, halt, go, emit, limit, signed, choose, classOf, shuts, gaps, grow, opens, noteTail, syms, δ}
-use Rattle.grammar.proofs.Cats.{Cat, no-cons, tails}
+use Rattle.grammar.proofs.Cats.{Cat, no-cons}
 use Rattle.grammar.proofs.Bytes.{class-in}
 use Rattle.grammar.proofs.Forward.{rest-none, item-none, plain-none, number-none}
 use Rattle.grammar.proofs.Backward.{Sound, seq-form, formed-line}

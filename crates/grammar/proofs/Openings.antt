@@ -13,41 +13,29 @@ use Rattle.grammar.specs.declared.Four.the-variants.{Each, Cut}
 use Rattle.grammar.specs.declared.Got.{Got}
 use Rattle.grammar.specs.declared.Got.the-variants.{At, Bad}
 use Rattle.grammar.specs.Machine.{gap, shut, Sym, lit, field, lits, line, opened, entry, Ev, num, rec, nums, flat, stepK, syms, noteTail, classOf, Cfg, dead, live, enter, step, stateAt, Alive, Waiting}
-use Rattle.grammar.specs.Promises.{As, Stuck, Begins, pairOf, TwoTo, PairTo, FourTo, tail, TailTo, RecordTo, Ended, Counted}
-use Rattle.grammar.proofs.Runs.{state-next}
-use Rattle.grammar.proofs.Steps.{as-of, stuck-end, stuck-by, take-step}
+use Rattle.grammar.specs.Promises.{Stuck, Begins, pairOf, TwoTo, PairTo, FourTo, tail, TailTo, RecordTo, Ended, Counted}
+use Rattle.grammar.proofs.Runs.{state-next, nums-then}
+use Rattle.grammar.proofs.Steps.{top-step, top-bad}
 
 module _ (s : List ℕ) (p : ℕ) (g : List Ev) (k : List Sym) (d : Kind) where
   module _ (here : stateAt s p ≡ live g (line d ∷ k)) where
-    line-as : As s p g (line d ∷ k)
-    line-as = as-of s p g (line d ∷ k) here tt
-
-    pub line-end : length s ≤ p → p ≤ length s → Stuck s p
-    line-end e l = stuck-end s p g (line d ∷ k) line-as e l
-
     pub line-go : p < length s → getD s p 0 ≡ 40 → stateAt s (p + 1) ≡ live g (opened d ∷ k)
-    line-go l e = take-step s p g (line d) k line-as l (classOf (getD s p 0)) refl ∙ rw (eq-eqb (getD s p 0) 40 e)
+    line-go l e = top-step s p (line d) g k here l (classOf (getD s p 0)) refl ∙ rw (eq-eqb (getD s p 0) 40 e)
 
     pub line-bad : p ≤ length s → (getD s p 0 ≡ 40 → ⊥) → Stuck s p
-    line-bad l n = stuck-by s p g (line d) k line-as l (classOf (getD s p 0)) refl (rw (ne-eqb (getD s p 0) 40 n))
+    line-bad l n = top-bad s p (line d) g k here l (classOf (getD s p 0)) refl (rw (ne-eqb (getD s p 0) 40 n))
 
   module _ (here : stateAt s p ≡ live g (opened d ∷ k)) where
-    opened-as : As s p g (opened d ∷ k)
-    opened-as = as-of s p g (opened d ∷ k) here tt
-
-    pub opened-end : length s ≤ p → p ≤ length s → Stuck s p
-    opened-end e l = stuck-end s p g (opened d ∷ k) opened-as e l
-
     pub opened-note : p < length s → getD s p 0 ≡ 110 → stateAt s (p + 1) ≡ live g (noteTail (line d ∷ k))
-    opened-note l e = take-step s p g (opened d) k opened-as l (classOf (getD s p 0)) refl ∙ rw (eq-eqb (getD s p 0) 110 e)
+    opened-note l e = top-step s p (opened d) g k here l (classOf (getD s p 0)) refl ∙ rw (eq-eqb (getD s p 0) 110 e)
 
     opened-line : p < length s → (getD s p 0 ≡ 110 → ⊥) → getD s p 0 ≡ letter d → stateAt s (p + 1) ≡ live g (syms (tailOf d) ++ k)
     opened-line l n e =
-        take-step s p g (opened d) k opened-as l (classOf (getD s p 0)) refl ∙ rw (ne-eqb (getD s p 0) 110 n, eq-eqb (getD s p 0) (letter d) e)
+        top-step s p (opened d) g k here l (classOf (getD s p 0)) refl ∙ rw (ne-eqb (getD s p 0) 110 n, eq-eqb (getD s p 0) (letter d) e)
 
     pub opened-bad : p ≤ length s → (getD s p 0 ≡ 110 → ⊥) → (getD s p 0 ≡ letter d → ⊥) → Stuck s p
     opened-bad l n m =
-        stuck-by s p g (opened d) k opened-as l (classOf (getD s p 0)) refl (rw (ne-eqb (getD s p 0) 110 n, ne-eqb (getD s p 0) (letter d) m))
+        top-bad s p (opened d) g k here l (classOf (getD s p 0)) refl (rw (ne-eqb (getD s p 0) 110 n, ne-eqb (getD s p 0) (letter d) m))
 
 lits-append : (w : List ℕ) (x k : List Sym) → lits w x ++ k ≡ lits w (x ++ k)
 lits-append [] x k = refl
@@ -94,23 +82,17 @@ module _ (s : List ℕ) (i c : ℕ) (w : List ℕ) (c′ : ℕ) (w′ : List ℕ
 
 -- ---- record lines
 module _ (s : List ℕ) (p : ℕ) (g : List Ev) (k : List Sym) (here : stateAt s p ≡ live g (entry ∷ k)) where
-  entry-as : As s p g (entry ∷ k)
-  entry-as = as-of s p g (entry ∷ k) here tt
-
-  pub entry-end : length s ≤ p → p ≤ length s → Stuck s p
-  entry-end e l = stuck-end s p g (entry ∷ k) entry-as e l
-
   pub entry-note : p < length s → getD s p 0 ≡ 110 → stateAt s (p + 1) ≡ live g (noteTail k)
-  entry-note l e = take-step s p g entry k entry-as l (classOf (getD s p 0)) refl ∙ rw (eq-eqb (getD s p 0) 110 e)
+  entry-note l e = top-step s p entry g k here l (classOf (getD s p 0)) refl ∙ rw (eq-eqb (getD s p 0) 110 e)
 
   pub entry-go : p < length s → (r : RecordKind) → getD s p 0 ≡ letter (kindOf r) → stateAt s (p + 1) ≡ live (g ++ (rec r ∷ [])) (tail r k)
-  entry-go l intra e = take-step s p g entry k entry-as l (classOf (getD s p 0)) refl ∙ rw e
-  entry-go l whole e = take-step s p g entry k entry-as l (classOf (getD s p 0)) refl ∙ rw e
-  entry-go l mb e = take-step s p g entry k entry-as l (classOf (getD s p 0)) refl ∙ rw e
+  entry-go l intra e = top-step s p entry g k here l (classOf (getD s p 0)) refl ∙ rw e
+  entry-go l whole e = top-step s p entry g k here l (classOf (getD s p 0)) refl ∙ rw e
+  entry-go l mb e = top-step s p entry g k here l (classOf (getD s p 0)) refl ∙ rw e
 
   pub entry-bad : p ≤ length s → (getD s p 0 ≡ 110 → ⊥) → (getD s p 0 ≡ 105 → ⊥) → (getD s p 0 ≡ 119 → ⊥) → (getD s p 0 ≡ 109 → ⊥) → Stuck s p
   entry-bad l n i w m =
-      stuck-by s p g entry k entry-as l (classOf (getD s p 0)) refl
+      top-bad s p entry g k here l (classOf (getD s p 0)) refl
       (rw (ne-eqb (getD s p 0) 110 n, ne-eqb (getD s p 0) 105 i, ne-eqb (getD s p 0) 119 w, ne-eqb (getD s p 0) 109 m))
 
 pub record-of :
@@ -150,14 +132,10 @@ module _ (s : List ℕ) (p : ℕ) (g : List Ev) (here : stateAt s p ≡ live g [
   base-bad n =
       record { within = omega arith; alive = rw here tt; stuck = λ q. base-step ∙ rw (ne-eqb (getD s p 0) 40 n); asks = λ q. absurd (omega arith) }
 
-nums-append : (vs : List ℤ) (os xs : List Ev) → nums vs os ++ xs ≡ nums vs (os ++ xs)
-nums-append [] os xs = refl
-nums-append (v ∷ vs) os xs = ap (λ (o : List Ev). num v ∷ o) (nums-append vs os xs)
-
 flat-append : (rs qs : List Entry) → flat rs ++ flat qs ≡ flat (rs ++ qs)
 flat-append [] qs = refl
 flat-append (r ∷ rs) qs =
-    ap (λ (o : List Ev). rec (r .kind) ∷ o) (nums-append (r .fields) (flat rs) (flat qs) ∙ ap (λ (o : List Ev). nums (r .fields) o) (flat-append rs qs))
+    ap (λ (o : List Ev). rec (r .kind) ∷ o) (nums-then (r .fields) (flat rs) (flat qs) ∙ ap (λ (o : List Ev). nums (r .fields) o) (flat-append rs qs))
 
 pub told-one-more : (g : List Ev) (rs : List Entry) (r : Entry) → (g ++ flat rs) ++ flat (r ∷ []) ≡ g ++ flat (rs ++ (r ∷ []))
 told-one-more g rs r = append-assoc g (flat rs) (flat (r ∷ [])) ∙ ap (λ (o : List Ev). g ++ o) (flat-append rs (r ∷ []))

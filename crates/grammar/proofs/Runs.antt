@@ -4,7 +4,7 @@ use Prim.Native.Nat.{ℕ, suc, _<_, _+_}
 use mathlib.Core.Path.{_≡_, refl, sym, _∙_, ap, subst}
 use mathlib.Core.Bool.{Bool, true, false, cond}
 use mathlib.Core.Logic.{inl, inr}
-use mathlib.Core.List.{List, [], _∷_, _++_, append-assoc, append-nil}
+use mathlib.Core.List.{List, [], _∷_, _++_, append-assoc, append-nil, head-eq-of-cons-eq as heads, tail-eq-of-cons-eq as tails}
 use native.Mathlib.Omega.{arith}
 use native.Mathlib.Numerals.{add-one}
 use lib.IntN.{ℤ}
@@ -15,7 +15,7 @@ use borrow.Author.Tests.{eqb-true, eq-eqb}
 use Rattle.definitions.specs.Text.{Note, note, Form, isByte, Kind, LineOf, Heads, noHead, head, RecordKind, kindOf, Entry, Records, noRecord, aNote, aRecord, Text, CanGoOn, headNumbers, Part, byte, spaced, ended, nothing, isSpaced, isEnded, tailOf, baseLine, scaledLine, atLine, fullLine}
 use Rattle.definitions.specs.declared.Numbers.{Numbers}
 use Rattle.grammar.specs.Machine.{Sym, line, entry, Ev, num, rec, Delta, halt, go, emit, push, δ, stepK, Cfg, dead, live, enter, step, runs, start, stateAt, Alive, nums, flat}
-use Rattle.grammar.proofs.Cats.{no-cons, heads}
+use Rattle.grammar.proofs.Cats.{no-cons}
 use Rattle.grammar.proofs.Residue.{Lang, Gives, EntryOf, L, Seq, Next}
 use Rattle.grammar.proofs.Forward.{forward, note-first}
 use Rattle.grammar.proofs.Backward.{backward}
@@ -170,9 +170,13 @@ unfolding runs
 runs-backward [] c fin u ok h = h
 runs-backward (b ∷ t) c fin u ok h = step-backward c fin b (t ++ u) ok (runs-backward t (step c b) fin u (fine-step c b ok) h)
 
-nums-append : (vs ws : List ℤ) (os : List Ev) → nums (vs ++ ws) os ≡ nums vs (nums ws os)
+pub nums-append : (vs ws : List ℤ) (os : List Ev) → nums (vs ++ ws) os ≡ nums vs (nums ws os)
 nums-append [] ws os = refl
 nums-append (z ∷ vs) ws os = ap (λ (o : List Ev). num z ∷ o) (nums-append vs ws os)
+
+pub nums-then : (vs : List ℤ) (os xs : List Ev) → nums vs os ++ xs ≡ nums vs (os ++ xs)
+nums-then [] os xs = refl
+nums-then (z ∷ vs) os xs = ap (λ (o : List Ev). num z ∷ o) (nums-then vs os xs)
 
 abbrev lines : List Kind → List Sym
 lines [] = []
@@ -360,39 +364,30 @@ unfolding stateAt runs
 state-next s i h = rw (add-one, take-suc s i 0, runs-append)
 
 -- ---- what the machine holds says which numbers and record lines they were
-ev-head : {x y : Ev} {xs ys : List Ev} → x ∷ xs ≡ y ∷ ys → x ≡ y
-ev-head e = cc
-
-ev-tail : {x y : Ev} {xs ys : List Ev} → x ∷ xs ≡ y ∷ ys → xs ≡ ys
-ev-tail e = cc
-
-apart : {C : Type 0} {x : Ev} {xs : List Ev} → [] ≡ x ∷ xs → C
-apart e = absurd (let z : _≡_ {A = ℕ} 0 1 = cc in omega arith)
-
 unlike : {C : Type 0} {z : ℤ} {r : RecordKind} {xs ys : List Ev} → num z ∷ xs ≡ rec r ∷ ys → C
 unlike e = absurd (let z : _≡_ {A = ℕ} 0 1 = cc in omega arith)
 
 -- numbers, up to the first record line
 same-nums : (g h : List ℤ) (rs qs : List Entry) → nums g (flat rs) ≡ nums h (flat qs) → (g ≡ h) × (flat rs ≡ flat qs)
 same-nums [] [] rs qs e = (refl, e)
-same-nums [] (z ∷ h) [] qs e = apart e
+same-nums [] (z ∷ h) [] qs e = no-cons e
 same-nums [] (z ∷ h) (r ∷ rs) qs e = unlike (sym e)
-same-nums (z ∷ g) [] rs [] e = apart (sym e)
+same-nums (z ∷ g) [] rs [] e = no-cons (sym e)
 same-nums (z ∷ g) [] rs (q ∷ qs) e = unlike e
 same-nums (z ∷ g) (y ∷ h) rs qs e =
-    let t = same-nums g h rs qs (ev-tail e) in
-    let k : num z ≡ num y = ev-head e in
+    let t = same-nums g h rs qs (tails e) in
+    let k : num z ≡ num y = heads e in
     let j : g ≡ h = t .0 in
     let i : z ≡ y = cc in
     (cc, t .1)
 
 pub same-flat : (rs qs : List Entry) → flat rs ≡ flat qs → rs ≡ qs
 same-flat [] [] e = refl
-same-flat [] (q ∷ qs) e = apart e
-same-flat (r ∷ rs) [] e = apart (sym e)
+same-flat [] (q ∷ qs) e = no-cons e
+same-flat (r ∷ rs) [] e = no-cons (sym e)
 same-flat (r ∷ rs) (q ∷ qs) e =
-    let t = same-nums (r .fields) (q .fields) rs qs (ev-tail e) in
-    let k : rec (r .kind) ≡ rec (q .kind) = ev-head e in
+    let t = same-nums (r .fields) (q .fields) rs qs (tails e) in
+    let k : rec (r .kind) ≡ rec (q .kind) = heads e in
     let i : r .kind ≡ q .kind = cc in
     let j : r .fields ≡ q .fields = t .0 in
     (λ (x : 𝕀). record { kind = i x; fields = j x } ∷ same-flat rs qs (t .1) x)

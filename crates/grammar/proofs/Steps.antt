@@ -16,12 +16,12 @@ use borrow.Author.Tests.{le-leb, lt-leb, eq-eqb, ne-eqb}
 use Rattle.grammar.specs.declared.Class.{Class}
 use Rattle.grammar.specs.declared.Class.the-variants.{Alpha, Nought, Nonzero, Dash, Open, Close, Space, Other}
 use Rattle.grammar.proofs.Class as class
-use Rattle.grammar.specs.Machine.{Follow, gap, shut, inList, Sym, lit, first, letters, rest, field, dashed, zeroed, figures, Ev, num, Delta, halt, go, limit, signed, lits, noteTail, choose, classOf, shuts, gaps, grow, opens, push, δc, δ, stepK, Cfg, dead, live, enter, step, stateAt, Waiting}
+use Rattle.grammar.specs.Machine.{Follow, inList, Sym, lit, first, letters, rest, field, dashed, zeroed, figures, Ev, num, Delta, halt, go, limit, signed, lits, noteTail, choose, classOf, shuts, gaps, grow, opens, push, δc, δ, stepK, Cfg, dead, live, enter, step, stateAt, Waiting}
 use Rattle.grammar.specs.declared.Num.{Num}
 use Rattle.grammar.specs.declared.Num.the-variants.{Value, Wrong}
 use Rattle.grammar.specs.declared.Got.{Got}
 use Rattle.grammar.specs.declared.Got.the-variants.{At, Bad}
-use Rattle.grammar.specs.Promises.{As, Stuck, Closes, DashedTo, NumberTo, ItemTo, ListTo, Takes, WordTo}
+use Rattle.grammar.specs.Promises.{As, Stuck, Closes, DashedTo, NumberTo, ItemTo, ListTo, Takes, WordTo, followOf}
 use Rattle.grammar.proofs.Bytes.{class-in, class-close, class-space}
 use Rattle.grammar.proofs.Runs.{state-next}
 
@@ -76,22 +76,47 @@ step-by y b c e g k = rw (← e)
 step-halts : (y : Sym) (b : ℕ) (c : Class) → c ≡ classOf b → δc y b c ≡ halt → (g : List Ev) (k : List Sym) → step (live g (y ∷ k)) b ≡ dead
 step-halts y b c e h g k = step-by y b c e g k ∙ ap (λ (x : Delta). enter g (push x k)) h
 
+-- one step, by the class of the byte
+pub take-step :
+    (s : List ℕ) (i : ℕ) (g : List Ev) (y : Sym) (k : List Sym) → As s i g (y ∷ k) → i < length s → (c : Class) → c ≡ classOf (getD s i 0)
+    → stateAt s (i + 1) ≡ enter g (push (δc y (getD s i 0) c) k)
+take-step s i g y k a l c e = a .goes l ∙ step-by y (getD s i 0) c e g k
+
+pub stuck-by :
+    (s : List ℕ) (i : ℕ) (g : List Ev) (y : Sym) (k : List Sym) → As s i g (y ∷ k) → i ≤ length s → (c : Class) → c ≡ classOf (getD s i 0)
+    → δc y (getD s i 0) c ≡ halt → Stuck s i
+stuck-by s i g y k a l c e h = stuck-of s i g (y ∷ k) a l (λ q. step-halts y (getD s i 0) c e h g k)
+
+-- the symbol y is on top
+module _ (s : List ℕ) (i : ℕ) (y : Sym) (g : List Ev) (k : List Sym) (here : stateAt s i ≡ live g (y ∷ k)) where
+  pub top-as : As s i g (y ∷ k)
+  top-as = as-of s i g (y ∷ k) here tt
+
+  pub top-end : length s ≤ i → i ≤ length s → Stuck s i
+  top-end = stuck-end s i g (y ∷ k) top-as
+
+  pub top-step : i < length s → (c : Class) → c ≡ classOf (getD s i 0) → stateAt s (i + 1) ≡ enter g (push (δc y (getD s i 0) c) k)
+  top-step = take-step s i g y k top-as
+
+  pub top-bad : i ≤ length s → (c : Class) → c ≡ classOf (getD s i 0) → δc y (getD s i 0) c ≡ halt → Stuck s i
+  top-bad = stuck-by s i g y k top-as
+
 letters-off : (d b : ℕ) (c : Class) → OneOf (1 ∷ 2 ∷ 3 ∷ 4 ∷ 5 ∷ 6 ∷ 7 ∷ []) (tag c) → δc (letters d) b c ≡ δc (rest d) b c
 letters-off d b c h = class-cases (λ (c : Class). δc (letters d) b c ≡ δc (rest d) b c) (1 ∷ 2 ∷ 3 ∷ 4 ∷ 5 ∷ 6 ∷ 7 ∷ []) c h tt refl refl refl refl refl refl refl
 
 -- `letters`
 module _ (s : List ℕ) (p d : ℕ) (g : List Ev) (k : List Sym) (here : stateAt s p ≡ live g (letters d ∷ k)) where
   pub letters-more : p < length s → (c : Class) → c ≡ classOf (getD s p 0) → c ≡ Alpha → stateAt s (p + 1) ≡ live g (letters d ∷ k)
-  letters-more l c e a = as-of s p g (letters d ∷ k) here tt .goes l ∙ step-by (letters d) (getD s p 0) Alpha (sym a ∙ e) g k
+  letters-more l c e a = top-step s p (letters d) g k here l Alpha (sym a ∙ e)
 
   pub letters-stop : (c : Class) → c ≡ classOf (getD s p 0) → OneOf (1 ∷ 2 ∷ 3 ∷ 4 ∷ 5 ∷ 6 ∷ 7 ∷ []) (tag c) → As s p g (rest d ∷ k)
   letters-stop c e h =
       let b = getD s p 0 in
-      as-as s p g (letters d ∷ k) (as-of s p g (letters d ∷ k) here tt) (rest d ∷ k)
+      as-as s p g (letters d ∷ k) (top-as s p (letters d) g k here) (rest d ∷ k)
       (λ l. step-by (letters d) b c e g k ∙ ap (λ (x : Delta). enter g (push x k)) (letters-off d b c h) ∙ sym (step-by (rest d) b c e g k))
 
   pub letters-end : length s ≤ p → As s p g (rest d ∷ k)
-  letters-end e = as-as s p g (letters d ∷ k) (as-of s p g (letters d ∷ k) here tt) (rest d ∷ k) (λ l. absurd (omega arith))
+  letters-end e = as-as s p g (letters d ∷ k) (top-as s p (letters d) g k here) (rest d ∷ k) (λ l. absurd (omega arith))
 
 -- `figures`: the digits so far are worth n
 figures-off :
@@ -115,41 +140,27 @@ digit-of b c e h =
 
 module _ (s : List ℕ) (p : ℕ) (sg : Bool) (n : ℕ) (f : Follow) (g : List Ev) (k : List Sym) (here : stateAt s p ≡ live g (figures sg n f ∷ k)) where
   figures-as : As s p g (figures sg n f ∷ k)
-  figures-as = as-of s p g (figures sg n f ∷ k) here tt
+  figures-as = top-as s p (figures sg n f) g k here
 
   module _ (c : Class) (e : c ≡ classOf (getD s p 0)) where
     module _ (h : OneOf (1 ∷ 2 ∷ []) (tag c)) where
       pub figures-more : p < length s → 10 * n + (getD s p 0 - 48) ≤ limit sg → stateAt s (p + 1) ≡ live g (figures sg (10 * n + (getD s p 0 - 48)) f ∷ k)
       figures-more l q =
-          figures-as .goes l ∙ step-by (figures sg n f) (getD s p 0) c e g k
-          ∙ ap (λ (x : Delta). enter g (push x k)) (figures-on sg n f (getD s p 0) c h ∙ grown q)
+          top-step s p (figures sg n f) g k here l c e ∙ ap (λ (x : Delta). enter g (push x k)) (figures-on sg n f (getD s p 0) c h ∙ grown q)
 
       pub figures-over : p ≤ length s → limit sg < 10 * n + (getD s p 0 - 48) → Stuck s p
-      figures-over l q =
-          stuck-of s p g (figures sg n f ∷ k) figures-as l
-          (λ l. step-halts (figures sg n f) (getD s p 0) c e (figures-on sg n f (getD s p 0) c h ∙ outgrown sg _ f q) g k)
+      figures-over l q = top-bad s p (figures sg n f) g k here l c e (figures-on sg n f (getD s p 0) c h ∙ outgrown sg _ f q)
 
     pub figures-stop : OneOf (0 ∷ 3 ∷ 4 ∷ 5 ∷ 6 ∷ 7 ∷ []) (tag c) → Closes s p f (signed sg n) g k
     figures-stop h =
         record {
           waits = figures-as .waits;
-          goes = λ l. figures-as .goes l ∙ step-by (figures sg n f) (getD s p 0) c e g k
+          goes = λ l. top-step s p (figures sg n f) g k here l c e
               ∙ ap (λ (x : Delta). enter g (push x k)) (figures-off sg n f (getD s p 0) c h ∙ ap (λ (c : Class). choose c halt halt halt halt halt (shuts f (signed sg n)) (gaps f (signed sg n))) e);
         }
 
   pub figures-end : length s ≤ p → Closes s p f (signed sg n) g k
   figures-end q = record { waits = figures-as .waits; goes = λ l. absurd (omega arith) }
-
--- one step, by the class of the byte
-pub take-step :
-    (s : List ℕ) (i : ℕ) (g : List Ev) (y : Sym) (k : List Sym) → As s i g (y ∷ k) → i < length s → (c : Class) → c ≡ classOf (getD s i 0)
-    → stateAt s (i + 1) ≡ enter g (push (δc y (getD s i 0) c) k)
-take-step s i g y k a l c e = a .goes l ∙ step-by y (getD s i 0) c e g k
-
-pub stuck-by :
-    (s : List ℕ) (i : ℕ) (g : List Ev) (y : Sym) (k : List Sym) → As s i g (y ∷ k) → i ≤ length s → (c : Class) → c ≡ classOf (getD s i 0)
-    → δc y (getD s i 0) c ≡ halt → Stuck s i
-stuck-by s i g y k a l c e h = stuck-of s i g (y ∷ k) a l (λ q. step-halts y (getD s i 0) c e h g k)
 
 pub nonzero-of : (b : ℕ) (c : Class) → c ≡ classOf b → c ≡ Nonzero → (49 ≤ b) × (b ≤ 57)
 nonzero-of b c e n = class-in b (sym e ∙ n)
@@ -159,27 +170,18 @@ dashed-off : (f : Follow) (b : ℕ) (c : Class) → OneOf (0 ∷ 1 ∷ 3 ∷ 4 �
 dashed-off f b c h = class-cases (λ (c : Class). δc (dashed f) b c ≡ halt) (0 ∷ 1 ∷ 3 ∷ 4 ∷ 5 ∷ 6 ∷ 7 ∷ []) c h refl refl tt refl refl refl refl refl
 
 module _ (s : List ℕ) (i : ℕ) (f : Follow) (g : List Ev) (k : List Sym) (here : stateAt s i ≡ live g (dashed f ∷ k)) where
-  dashed-as : As s i g (dashed f ∷ k)
-  dashed-as = as-of s i g (dashed f ∷ k) here tt
-
-  pub dashed-end : length s ≤ i → i ≤ length s → Stuck s i
-  dashed-end e l = stuck-end s i g (dashed f ∷ k) dashed-as e l
-
   module _ (c : Class) (e : c ≡ classOf (getD s i 0)) where
     pub dashed-go : i < length s → c ≡ Nonzero → stateAt s (i + 1) ≡ live g (figures true (getD s i 0 - 48) f ∷ k)
-    dashed-go l n = take-step s i g (dashed f) k dashed-as l Nonzero (sym n ∙ e)
+    dashed-go l n = top-step s i (dashed f) g k here l Nonzero (sym n ∙ e)
 
     pub dashed-bad : i ≤ length s → OneOf (0 ∷ 1 ∷ 3 ∷ 4 ∷ 5 ∷ 6 ∷ 7 ∷ []) (tag c) → Stuck s i
-    dashed-bad l h = stuck-by s i g (dashed f) k dashed-as l c e (dashed-off f (getD s i 0) c h)
+    dashed-bad l h = top-bad s i (dashed f) g k here l c e (dashed-off f (getD s i 0) c h)
 
 -- `number`
 number-off : (f : Follow) (b : ℕ) (c : Class) → OneOf (0 ∷ 4 ∷ 5 ∷ 6 ∷ 7 ∷ []) (tag c) → δc (field f) b c ≡ halt
 number-off f b c h = class-cases (λ (c : Class). δc (field f) b c ≡ halt) (0 ∷ 4 ∷ 5 ∷ 6 ∷ 7 ∷ []) c h refl tt tt tt refl refl refl refl
 
 module _ (s : List ℕ) (i : ℕ) (f : Follow) (g : List Ev) (k : List Sym) (here : As s i g (field f ∷ k)) where
-  pub number-end : length s ≤ i → i ≤ length s → Stuck s i
-  number-end e l = stuck-end s i g (field f ∷ k) here e l
-
   module _ (c : Class) (e : c ≡ classOf (getD s i 0)) where
     pub number-bad : i ≤ length s → OneOf (0 ∷ 4 ∷ 5 ∷ 6 ∷ 7 ∷ []) (tag c) → Stuck s i
     number-bad l h = stuck-by s i g (field f) k here l c e (number-off f (getD s i 0) c h)
@@ -194,7 +196,7 @@ module _ (s : List ℕ) (i : ℕ) (f : Follow) (g : List Ev) (k : List Sym) (her
       pub number-zero : c ≡ Nought → Closes s (i + 1) f (pos 0) g k
       number-zero n =
           let z : stateAt s (i + 1) ≡ live g (zeroed f ∷ k) = take-step s i g (field f) k here l Nought (sym n ∙ e) in
-          let a = as-of s (i + 1) g (zeroed f ∷ k) z tt in
+          let a = top-as s (i + 1) (zeroed f) g k z in
           record { waits = a .waits; goes = λ q. a .goes q ∙ step-by (zeroed f) (getD s (i + 1) 0) (classOf (getD s (i + 1) 0)) refl g k }
 
 -- a number whose minus is at i
@@ -214,34 +216,27 @@ closes-rest : (s : List ℕ) (e d : ℕ) (z : ℤ) (g : List Ev) (k : List Sym) 
 closes-rest s e d z g k h = record { waits = h .waits; goes = λ l. h .goes l ∙ sym (step-by (rest d) (getD s e 0) (classOf (getD s e 0)) refl g k) }
 
 module _ (s : List ℕ) (i d : ℕ) (g : List Ev) (k : List Sym) (here : stateAt s i ≡ live g (first d ∷ k)) where
-  item-as : As s i g (first d ∷ k)
-  item-as = as-of s i g (first d ∷ k) here tt
-
-  pub item-end : length s ≤ i → i ≤ length s → Stuck s i
-  item-end e l = stuck-end s i g (first d ∷ k) item-as e l
-
   module _ (c : Class) (e : c ≡ classOf (getD s i 0)) where
     pub item-bad : i ≤ length s → OneOf (5 ∷ 6 ∷ 7 ∷ []) (tag c) → Stuck s i
-    item-bad l h = stuck-by s i g (first d) k item-as l c e (item-off d (getD s i 0) c h)
+    item-bad l h = top-bad s i (first d) g k here l c e (item-off d (getD s i 0) c h)
 
     pub item-letters : i < length s → c ≡ Alpha → stateAt s (i + 1) ≡ live g (letters d ∷ k)
-    item-letters l n = take-step s i g (first d) k item-as l Alpha (sym n ∙ e)
+    item-letters l n = top-step s i (first d) g k here l Alpha (sym n ∙ e)
 
     pub item-field : OneOf (1 ∷ 2 ∷ 3 ∷ []) (tag c) → As s i g (field (inList d) ∷ k)
     item-field h =
-        as-as s i g (first d ∷ k) item-as (field (inList d) ∷ k)
+        as-as s i g (first d ∷ k) (top-as s i (first d) g k here) (field (inList d) ∷ k)
         (λ l. step-by (first d) (getD s i 0) c e g k ∙ ap (λ (x : Delta). enter g (push x k)) (item-number d (getD s i 0) c h) ∙ sym (step-by (field (inList d)) (getD s i 0) c e g k))
 
 pub item-shallow :
     (s : List ℕ) (i d : ℕ) (g : List Ev) (k : List Sym) → stateAt s i ≡ live g (first d ∷ k) → (c : Class) → c ≡ classOf (getD s i 0) → i ≤ length s
     → c ≡ Open → d ≡ 0 → Stuck s i
-item-shallow s i d g k here c e l n z = stuck-by s i g (first d) k (item-as s i d g k here) l Open (sym n ∙ e) (rw z)
+item-shallow s i d g k here c e l n z = top-bad s i (first d) g k here l Open (sym n ∙ e) (rw z)
 
 item-open :
     (s : List ℕ) (i d : ℕ) (g : List Ev) (k : List Sym) → stateAt s i ≡ live g (first d ∷ k) → (c : Class) → c ≡ classOf (getD s i 0) → i < length s
     → c ≡ Open → (d ≡ 0 → ⊥) → stateAt s (i + 1) ≡ live g (first (d - 1) ∷ rest d ∷ k)
-item-open s i d g k here c e l n z =
-    take-step s i g (first d) k (item-as s i d g k here) l Open (sym n ∙ e) ∙ deeper d z
+item-open s i d g k here c e l n z = top-step s i (first d) g k here l Open (sym n ∙ e) ∙ deeper d z
   where
     deeper : (d : ℕ) → (d ≡ 0 → ⊥) → enter g (push (opens d) k) ≡ live g (first (d - 1) ∷ rest d ∷ k)
     deeper zero z = absurd (z refl)
@@ -257,26 +252,12 @@ item-of-number s i d c q h z e w = (w .0, w .1, λ g k here. closes-rest s e d z
 pub item-of-list :
     (s : List ℕ) (i d : ℕ) (c : Class) → c ≡ classOf (getD s i 0) → i < length s → c ≡ Open → (d ≡ 0 → ⊥) → (r : Got) → ListTo s (i + 1) (d - 1) r
     → ItemTo s i d r
-item-of-list s i d c q l n z (At e) h = (omega arith, h .1, λ g k here. as-of s e g (rest d ∷ k) (h .2 g (rest d ∷ k) (item-open s i d g k here c q l n z)) tt)
+item-of-list s i d c q l n z (At e) h = (omega arith, h .1, λ g k here. top-as s e (rest d) g k (h .2 g (rest d ∷ k) (item-open s i d g k here c q l n z)))
 item-of-list s i d c q l n z (Bad p) h = λ g k here. h g (rest d ∷ k) (item-open s i d g k here c q l n z)
 
 -- `list`
 pub rest-off : (d b : ℕ) (c : Class) → OneOf (0 ∷ 1 ∷ 2 ∷ 3 ∷ 4 ∷ 7 ∷ []) (tag c) → δc (rest d) b c ≡ halt
 rest-off d b c h = class-cases (λ (c : Class). δc (rest d) b c ≡ halt) (0 ∷ 1 ∷ 2 ∷ 3 ∷ 4 ∷ 7 ∷ []) c h refl refl refl refl refl tt tt refl
-
--- one byte
-module _ (s : List ℕ) (i x : ℕ) (g : List Ev) (k : List Sym) (here : stateAt s i ≡ live g (lit x ∷ k)) where
-  lit-as : As s i g (lit x ∷ k)
-  lit-as = as-of s i g (lit x ∷ k) here tt
-
-  lit-end : length s ≤ i → i ≤ length s → Stuck s i
-  lit-end e l = stuck-end s i g (lit x ∷ k) lit-as e l
-
-  lit-go : i < length s → getD s i 0 ≡ x → stateAt s (i + 1) ≡ live g k
-  lit-go l e = take-step s i g (lit x) k lit-as l (classOf (getD s i 0)) refl ∙ rw (eq-eqb (getD s i 0) x e)
-
-  lit-bad : i ≤ length s → (getD s i 0 ≡ x → ⊥) → Stuck s i
-  lit-bad l n = stuck-by s i g (lit x) k lit-as l (classOf (getD s i 0)) refl (rw (ne-eqb (getD s i 0) x n))
 
 -- `word_at`: j bytes of w were read
 module _ (s w : List ℕ) (p j : ℕ) (g : List Ev) (k : List Sym) (here : stateAt s p ≡ live g (lits (drop j w) k)) where
@@ -287,34 +268,29 @@ module _ (s w : List ℕ) (p j : ℕ) (g : List Ev) (k : List Sym) (here : state
         here ∙ ap (λ (v : List ℕ). live g (lits v k)) e
 
     pub word-end : length s ≤ p → p ≤ length s → Stuck s p
-    word-end e l = lit-end s p (getD w j 0) g (lits (drop (j + 1) w) k) word-here e l
+    word-end = top-end s p (lit (getD w j 0)) g (lits (drop (j + 1) w) k) word-here
 
     pub word-bad : p ≤ length s → (getD s p 0 ≡ getD w j 0 → ⊥) → Stuck s p
-    word-bad l n = lit-bad s p (getD w j 0) g (lits (drop (j + 1) w) k) word-here l n
+    word-bad l n = top-bad s p (lit (getD w j 0)) g (lits (drop (j + 1) w) k) word-here l (classOf (getD s p 0)) refl (rw (ne-eqb (getD s p 0) (getD w j 0) n))
 
     pub word-more : p < length s → getD s p 0 ≡ getD w j 0 → stateAt s (p + 1) ≡ live g (lits (drop (j + 1) w) k)
-    word-more l e = lit-go s p (getD w j 0) g (lits (drop (j + 1) w) k) word-here l e
+    word-more l e =
+        top-step s p (lit (getD w j 0)) g (lits (drop (j + 1) w) k) word-here l (classOf (getD s p 0)) refl ∙ rw (eq-eqb (getD s p 0) (getD w j 0) e)
 
   pub word-done : length w ≤ j → stateAt s p ≡ live g k
   word-done h = here ∙ ap (λ (v : List ℕ). live g (lits v k)) (drop-of-length-le w h)
 
 -- `rest_of`
 module _ (s : List ℕ) (i d : ℕ) (g : List Ev) (k : List Sym) (here : stateAt s i ≡ live g (rest d ∷ k)) where
-  rest-as : As s i g (rest d ∷ k)
-  rest-as = as-of s i g (rest d ∷ k) here tt
-
-  pub rest-end : length s ≤ i → i ≤ length s → Stuck s i
-  rest-end e l = stuck-end s i g (rest d ∷ k) rest-as e l
-
   module _ (c : Class) (e : c ≡ classOf (getD s i 0)) where
     pub rest-bad : i ≤ length s → OneOf (0 ∷ 1 ∷ 2 ∷ 3 ∷ 4 ∷ 7 ∷ []) (tag c) → Stuck s i
-    rest-bad l h = stuck-by s i g (rest d) k rest-as l c e (rest-off d (getD s i 0) c h)
+    rest-bad l h = top-bad s i (rest d) g k here l c e (rest-off d (getD s i 0) c h)
 
     pub rest-shut : i < length s → c ≡ Close → stateAt s (i + 1) ≡ live g k
-    rest-shut l n = take-step s i g (rest d) k rest-as l Close (sym n ∙ e)
+    rest-shut l n = top-step s i (rest d) g k here l Close (sym n ∙ e)
 
     rest-gap : i < length s → c ≡ Space → stateAt s (i + 1) ≡ live g (first d ∷ k)
-    rest-gap l n = take-step s i g (rest d) k rest-as l Space (sym n ∙ e)
+    rest-gap l n = top-step s i (rest d) g k here l Space (sym n ∙ e)
 
 pub rest-list :
     (s : List ℕ) (i d : ℕ) (c : Class) → c ≡ classOf (getD s i 0) → i < length s → c ≡ Space → (r : Got) → ListTo s (i + 1) d r
@@ -326,51 +302,37 @@ rest-list s i d c q l n (Bad p) h = λ g k here. h g k (rest-gap s i d g k here 
 pub closes-end : (s : List ℕ) (e : ℕ) (f : Follow) (z : ℤ) (g : List Ev) (k : List Sym) → Closes s e f z g k → length s ≤ e → e ≤ length s → Stuck s e
 closes-end s e f z g k h l m = record { within = m; waits = h .waits; stuck = λ q. absurd (omega arith) }
 
-shut-off : (b : ℕ) (z : ℤ) (c : Class) → c ≡ classOf b → (b ≡ 41 → ⊥) → choose c halt halt halt halt halt (shuts shut z) (gaps shut z) ≡ halt
-shut-off b z Alpha e n = refl
-shut-off b z Nought e n = refl
-shut-off b z Nonzero e n = refl
-shut-off b z Dash e n = refl
-shut-off b z Open e n = refl
-shut-off b z Close e n = absurd (n (class-in b (sym e)))
-shut-off b z Space e n = refl
-shut-off b z Other e n = refl
+-- what parts a number from the next: a closing bracket if it is the last, else a space
+abbrev partOf : Bool → ℕ
+partOf true = 41
+partOf false = 32
 
-gap-off : (b : ℕ) (z : ℤ) (c : Class) → c ≡ classOf b → (b ≡ 32 → ⊥) → choose c halt halt halt halt halt (shuts gap z) (gaps gap z) ≡ halt
-gap-off b z Alpha e n = refl
-gap-off b z Nought e n = refl
-gap-off b z Nonzero e n = refl
-gap-off b z Dash e n = refl
-gap-off b z Open e n = refl
-gap-off b z Close e n = refl
-gap-off b z Space e n = absurd (n (class-in b (sym e)))
-gap-off b z Other e n = refl
+part-off :
+    (last : Bool) (b : ℕ) (z : ℤ) (c : Class) → c ≡ classOf b → (b ≡ partOf last → ⊥)
+    → choose c halt halt halt halt halt (shuts (followOf last) z) (gaps (followOf last) z) ≡ halt
+part-off last b z Alpha e n = refl
+part-off last b z Nought e n = refl
+part-off last b z Nonzero e n = refl
+part-off last b z Dash e n = refl
+part-off last b z Open e n = refl
+part-off true b z Close e n = absurd (n (class-in b (sym e)))
+part-off false b z Close e n = refl
+part-off true b z Space e n = refl
+part-off false b z Space e n = absurd (n (class-in b (sym e)))
+part-off last b z Other e n = refl
 
 module _ (s : List ℕ) (e : ℕ) (z : ℤ) (g : List Ev) (k : List Sym) where
-  pub shut-go : Closes s e shut z g k → e < length s → getD s e 0 ≡ 41 → stateAt s (e + 1) ≡ live (g ++ (num z ∷ [])) k
-  shut-go h l q = h .goes l ∙ rw (class-close (getD s e 0) q)
+  pub part-go : (last : Bool) → Closes s e (followOf last) z g k → e < length s → getD s e 0 ≡ partOf last → stateAt s (e + 1) ≡ live (g ++ (num z ∷ [])) k
+  part-go true h l q = h .goes l ∙ rw (class-close (getD s e 0) q)
+  part-go false h l q = h .goes l ∙ rw (class-space (getD s e 0) q)
 
-  pub shut-bad : Closes s e shut z g k → e ≤ length s → (getD s e 0 ≡ 41 → ⊥) → Stuck s e
-  shut-bad h l n =
+  pub part-bad : (last : Bool) → Closes s e (followOf last) z g k → e ≤ length s → (getD s e 0 ≡ partOf last → ⊥) → Stuck s e
+  part-bad last h l n =
       record {
         within = l;
         waits = h .waits;
-        stuck = λ q. h .goes q ∙ ap (λ (x : Delta). enter g (push x k)) (shut-off (getD s e 0) z (classOf (getD s e 0)) refl n);
+        stuck = λ q. h .goes q ∙ ap (λ (x : Delta). enter g (push x k)) (part-off last (getD s e 0) z (classOf (getD s e 0)) refl n);
       }
-
-  pub gap-go : Closes s e gap z g k → e < length s → getD s e 0 ≡ 32 → stateAt s (e + 1) ≡ live (g ++ (num z ∷ [])) k
-  gap-go h l q = h .goes l ∙ rw (class-space (getD s e 0) q)
-
-  pub gap-bad : Closes s e gap z g k → e ≤ length s → (getD s e 0 ≡ 32 → ⊥) → Stuck s e
-  gap-bad h l n =
-      record {
-        within = l;
-        waits = h .waits;
-        stuck = λ q. h .goes q ∙ ap (λ (x : Delta). enter g (push x k)) (gap-off (getD s e 0) z (classOf (getD s e 0)) refl n);
-      }
-
-pub field-as : (s : List ℕ) (i : ℕ) (f : Follow) (g : List Ev) (k : List Sym) → stateAt s i ≡ live g (field f ∷ k) → As s i g (field f ∷ k)
-field-as s i f g k here = as-of s i g (field f ∷ k) here tt
 
 -- `note`: its bytes, the rest of its list and the line feed
 pub note-ends :

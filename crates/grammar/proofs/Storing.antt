@@ -18,10 +18,7 @@ use Rattle.grammar.specs.declared.Num.the-variants.{Value, Wrong}
 use Rattle.grammar.specs.declared.Pair.the-variants.{Both}
 use Rattle.grammar.specs.Machine.{Sym, field, gap, shut, lits, Ev, num, nums, live, stateAt}
 use Rattle.grammar.specs.Promises.{WordTo, FieldTo, pairOf, TwoTo, fields, Touched, Stored, StoresTo, Within, ThenWordTo, ThenWord, ThenStoresTo, ThenStores, tail, TailTo}
-
-nums-append : (vs ws : List ℤ) → nums vs [] ++ nums ws [] ≡ nums (vs ++ ws) []
-nums-append [] ws = refl
-nums-append (v ∷ vs) ws = ap (λ (o : List Ev). num v ∷ o) (nums-append vs ws)
+use Rattle.grammar.proofs.Runs.{nums-append, nums-then}
 
 -- two runs of words, the second behind the first
 module _ (old : List ℤ) (from n : ℕ) (mid : List ℤ) (xs : List ℤ) (many : length xs ≡ n) (first : mid ≡ sets old from xs) where
@@ -42,7 +39,7 @@ pub untouched : (old : List ℤ) (from n : ℕ) → Touched old from n old
 untouched old from n = record { over = []; few = omega arith; is = refl }
 
 told-more : (g : List Ev) (xs ys : List ℤ) → (g ++ nums xs []) ++ nums ys [] ≡ g ++ nums (xs ++ ys) []
-told-more g xs ys = append-assoc g (nums xs []) (nums ys []) ∙ ap (λ (o : List Ev). g ++ o) (nums-append xs ys)
+told-more g xs ys = append-assoc g (nums xs []) (nums ys []) ∙ ap (λ (o : List Ev). g ++ o) (nums-then xs [] (nums ys []) ∙ sym (nums-append xs ys []))
 
 -- `StoresTo` as a record, so that laws find its arguments
 pub record Stores (s : List ℕ) (X : List Sym → List Sym) (n i : ℕ) (old : List ℤ) (from : ℕ) (new : List ℤ) (r : Got) : Type 0 where

@@ -2,7 +2,7 @@
 use Prim.Native.Nat.{ℕ, _≤_, _+_}
 use mathlib.Core.Path.{_≡_, refl, sym, _∙_, ap}
 use mathlib.Core.Logic.{⊎-elim}
-use mathlib.Core.List.{List, [], _∷_, _++_}
+use mathlib.Core.List.{List, [], _∷_}
 use native.Mathlib.Omega.{arith}
 use native.Mathlib.Nat.{eq-or-lt-of-le}
 use lib.IntN.{ℤ}
@@ -14,7 +14,7 @@ use Rattle.grammar.specs.declared.Four.the-variants.{Each, Cut}
 use Rattle.grammar.specs.declared.Lines.the-variants.{Count, Faulty}
 use Rattle.grammar.specs.Machine.{Ev, num, nums, flat, line, Cfg, dead, live, runs, start, stateAt, Alive, Waiting}
 use Rattle.grammar.specs.Promises.{Stuck, FourTo, LinesTo, Ended, Counted, Judgement}
-use Rattle.grammar.proofs.Runs.{state-start, goes-alive, alive-can, text-ends, ends-text-as}
+use Rattle.grammar.proofs.Runs.{state-start, goes-alive, alive-can, text-ends, ends-text-as, nums-then}
 use Rattle.grammar.proofs.Openings.{stuck-ended}
 
 begins : (s : List ℕ) (n : ℕ) → Belongs s → CanGoOn (take n s)
@@ -55,10 +55,6 @@ ended-breaks s p h =
 stuck-breaks : (s : List ℕ) (p : ℕ) → Stuck s p → BreaksAt s p
 stuck-breaks s p h = ended-breaks s p (stuck-ended s p h)
 
-nums-flat : (g : List ℤ) (o : List Ev) → nums g [] ++ o ≡ nums g o
-nums-flat [] o = refl
-nums-flat (z ∷ g) o = ap (λ (x : List Ev). num z ∷ x) (nums-flat g o)
-
 judged :
     (s : List ℕ) (n : Numbers) (at count : ℕ) → at ≤ length s → stateAt s at ≡ live (nums (headNumbers n) []) []
     → Counted s (length s) (nums (headNumbers n) []) count → Judgement s n at count
@@ -67,7 +63,7 @@ judged s n at count l b h =
     record {
       entries = h .lines;
       many = h .many;
-      text = ends-text-as n (h .lines) (sym (whole s (length s) q) ∙ h .state ∙ ap (λ (o : List Ev). live o []) (nums-flat (headNumbers n) (flat (h .lines))));
+      text = ends-text-as n (h .lines) (sym (whole s (length s) q) ∙ h .state ∙ ap (λ (o : List Ev). live o []) (nums-then (headNumbers n) [] (flat (h .lines))));
       lines = record { within = l; begins = b; ends = h .state };
     }
 

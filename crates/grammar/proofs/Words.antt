@@ -6,10 +6,9 @@ use native.Mathlib.Omega.{arith}
 use lib.IntN.{ℤ}
 use lib.ListN.{length, length-append}
 use Rattle.definitions.specs.declared.Numbers.{Numbers}
-use Rattle.definitions.specs.Tests.{forEach}
 use Rattle.definitions.specs.Record.{recordWords}
 use Rattle.definitions.specs.Answer.{unusedMotion}
-use Rattle.definitions.specs.Text.{LineOf, RecordKind, intra, whole, mb, kindOf, Entry, Records, noRecord, aNote, aRecord, Text, wholeMotion, wordsFor, wordsOf}
+use Rattle.definitions.specs.Text.{LineOf, RecordKind, intra, whole, mb, kindOf, Entry, Records, noRecord, aNote, aRecord, Text, wholeMotion, wordsFor, baseOf}
 use Rattle.definitions.proofs.Records.{laid-length}
 use Rattle.grammar.proofs.Runs.{form-count}
 
@@ -18,10 +17,10 @@ line-words intra h = laid-length 0 (λ q. 0) (λ b. unusedMotion)
 line-words whole {vs} h = laid-length 1 (λ q. 0) (λ b. wholeMotion vs)
 line-words mb h = form-count h
 
-lines-words : {rs : List Entry} {u : List ℕ} → Records rs u → length (forEach rs wordsOf) ≡ recordWords * length rs
+lines-words : {rs : List Entry} {u : List ℕ} → Records rs u → length (baseOf rs) ≡ recordWords * length rs
 lines-words noRecord = refl
 lines-words (aNote n h) = lines-words h
-lines-words (aRecord {r = r} {vs = vs} {rs = rs} l h) = omega (arith, length-append (wordsFor r vs) (forEach rs wordsOf), line-words r l, lines-words h)
+lines-words (aRecord {r = r} {vs = vs} {rs = rs} l h) = omega (arith, length-append (wordsFor r vs) (baseOf rs), line-words r l, lines-words h)
 
-pub text-words : {n : Numbers} {rs : List Entry} {t : List ℕ} → Text n rs t → length (forEach rs wordsOf) ≡ recordWords * length rs
+pub text-words : {n : Numbers} {rs : List Entry} {t : List ℕ} → Text n rs t → length (baseOf rs) ≡ recordWords * length rs
 text-words h = lines-words (h .lines)

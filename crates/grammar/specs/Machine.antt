@@ -4,7 +4,8 @@ use Prim.Native.Nat.{ℕ, zero, suc, _+_, _-_, _*_}
 use mathlib.Core.Bool.{Bool, true, false, cond}
 use mathlib.Core.List.{List, [], _∷_, _++_}
 use lib.ListN.{take}
-use lib.IntN.{ℤ, pos, negsuc}
+use lib.IntN.{ℤ, pos}
+use Rattle.definitions.specs.Tests.{minus}
 use Rattle.definitions.specs.Text.{Part, byte, spaced, ended, Kind, baseLine, scaledLine, atLine, fullLine, intraLine, wholeLine, mbLine, letter, tailOf, RecordKind, intra, whole, mb, Entry}
 use lib.Dec.{leb, eqb}
 use Rattle.grammar.specs.declared.Class.{Class}
@@ -80,8 +81,7 @@ limit true = 32768
 -- the number that digits worth n are, without and with a minus
 abbrev pub signed : Bool → ℕ → ℤ
 signed false n = pos n
-signed true zero = pos 0
-signed true (suc n) = negsuc n
+signed true n = minus n
 
 -- what a closing bracket does after a number z that f follows, and what a space does
 abbrev pub shuts : Follow → ℤ → Delta

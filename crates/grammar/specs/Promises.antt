@@ -7,9 +7,8 @@ use lib.ListN.{length, getD, drop}
 use lib.Seq.{sets}
 use lib.IntN.{ℤ}
 use Rattle.definitions.specs.declared.Numbers.{Numbers}
-use Rattle.definitions.specs.Tests.{forEach}
 use Rattle.definitions.specs.Record.{recordWords}
-use Rattle.definitions.specs.Text.{Kind, letter, tailOf, RecordKind, kindOf, Entry, wordsFor, wordsOf, headNumbers, Text, BreaksAt}
+use Rattle.definitions.specs.Text.{Kind, letter, tailOf, RecordKind, kindOf, Entry, wordsFor, wordsOf, baseOf, headNumbers, Text, BreaksAt}
 use Rattle.grammar.specs.declared.Got.{Got}
 use Rattle.grammar.specs.declared.Got.the-variants.{At, Bad}
 use Rattle.grammar.specs.declared.Digits.{Digits}
@@ -236,7 +235,7 @@ pub record Room (s : List ℕ) (i : ℕ) (words : List ℤ) : Type 0 where
 
 -- the record lines' words stand first, the rest unchanged
 abbrev pub AllStored : List ℕ → ℕ → List ℤ → List ℤ → Type 0
-AllStored s i old new = (g : List Ev) (entries : List Entry) → Bottom s i g entries → new ≡ forEach entries wordsOf ++ drop (recordWords * length entries) old
+AllStored s i old new = (g : List Ev) (entries : List Entry) → Bottom s i g entries → new ≡ baseOf entries ++ drop (recordWords * length entries) old
 
 pub record Judgement (s : List ℕ) (n : Numbers) (at count : ℕ) : Type 0 where
   pub entries : List Entry

@@ -32,7 +32,7 @@ use Rattle.definitions.proofs.Lines.{digits5, refused-short}
 use Rattle.definitions.proofs.Findings.{numbers-wrong, count-wrong, count-right, RefusedBy, by-number, by-record, refused-by}
 use Rattle.grammar.proofs.Words.{text-words}
 use Rattle.grammar.proofs.OneLog.{demand2}
-use Rattle.upsample.specs.Staged.{AcceptedAxes}
+use Rattle.definitions.specs.Accepted.{AcceptedAxes}
 use Rattle.log_lines.specs.Put.{Fits, Put}
 use Rattle.log_picture.proofs.Growing.{picture-short}
 use Rattle.log.specs.Given.{Given, kept, lines}
@@ -154,8 +154,8 @@ unfolding programTests
 finding-short (notRead r) e = absurd (let z : _≡_ {A = ℕ} 0 1 = cc in omega arith)
 finding-short (readAs n entries) {log} e =
     let h = finding-made (verdictOf (programTests n (length entries) (baseOf entries))) (pictureLines (axesOf n) (baseOf entries)) log e in
-    let both = accepted-axes n (both-passed (geometryTests n) _ (h .0) .0) in
-    subst (λ (o : List ℕ). length o ≤ logBytes) (h .1) (picture-short (axesOf n) (baseOf entries) (record { horizontal = both .0; vertical = both .1 }))
+    let axes = accepted-axes n (both-passed (geometryTests n) _ (h .0) .0) in
+    subst (λ (o : List ℕ). length o ≤ logBytes) (h .1) (picture-short (axesOf n) (baseOf entries) axes)
 
 pub log-fits : {t log : List ℕ} → LogOf t log → length log ≤ logBytes
 log-fits h = subst (λ (o : List ℕ). length o ≤ logBytes) (sym (h .is)) (by (findingOf (h .reading)) refl)

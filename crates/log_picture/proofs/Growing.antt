@@ -17,7 +17,7 @@ use Rattle.definitions.specs.Log.{lineOf, mbWord, syncWord, answerPieces, macro
 use Rattle.definitions.proofs.Counting.{counts-sum}
 use Rattle.definitions.proofs.Lines.{mb-short, sync-short, type-low, pieces-low}
 use Rattle.definitions.proofs.Parts.{parts, parts-more}
-use Rattle.upsample.specs.Staged.{AcceptedAxes}
+use Rattle.definitions.specs.Accepted.{AcceptedAxes}
 use Rattle.upsample.proofs.Sizes.{full-small}
 use Rattle.picture.proofs.Filling.{located}
 use Rattle.log_lines.specs.Put.{Fits, Put}

@@ -1,26 +1,20 @@
 -- The cases of what is made of a macroblock. Assumes nothing.
 use Prim.Native.Nat.{ℕ}
-use mathlib.Core.Path.{_≡_, refl, sym, ap, _∙_}
+use mathlib.Core.Path.{_≡_, sym, ap, _∙_}
 use mathlib.Core.Bool.{true, false, _&&_}
 use mathlib.Core.List.{List}
 use lib.IntN.{ℤ}
-use lib.ListN.{getD, replicate}
 use Rattle.definitions.specs.declared.Axes.{Axes}
 use Rattle.definitions.specs.declared.Answer.{Answer}
 use Rattle.definitions.specs.declared.Answer.the-variants.{Outside, Intra, Inherited}
-use Rattle.definitions.specs.Tests.{upTo}
 use Rattle.definitions.specs.Geometry.{baseSize, macroblocks}
 use Rattle.definitions.specs.Record.{laidOut}
-use Rattle.definitions.specs.Inheriting.{mostlyIntra, motionAt, chosen}
+use Rattle.definitions.specs.Inheriting.{mostlyIntra, chosen}
 use Rattle.definitions.specs.Answer.{Made, unusedMotion, writtenFor}
 use Rattle.definitions.proofs.Choices.{yes, no}
 use Rattle.gather.specs.Reads.{setBy}
 use Rattle.macroblock.specs.declared.AxisRead.{AxisRead}
 use Rattle.macroblock.specs.Made.{namedBy, motionsBy, answerBy, madeBy, inheritedBy, placedBy}
-
-pub unused-laid : (kind : ℕ) → laidOut kind (λ q. getD (replicate 4 0) q 0) (motionAt (replicate 4 (replicate 4 unusedMotion))) ≡ laidOut kind (λ q. 0) (λ b. unusedMotion)
-unfolding laidOut upTo
-unused-laid kind = refl
 
 -- what a function hands back and leaves in its words is the answer and the record of what is made
 pub record Gives (answer : Answer) (words : List ℤ) (m : Made) : Type 0 where

@@ -1,5 +1,5 @@
 -- The motions that the blocks read, their range, and what steps 1 to 4 make of them by quadrants. Assumes nothing.
-use Prim.Native.Nat.{ℕ, _+_, _-_, _*_, _<_}
+use Prim.Native.Nat.{ℕ, _+_, _-_, _<_}
 use mathlib.Core.Path.{_≡_, refl, sym, ap, subst, _∙_}
 use mathlib.Core.Bool.{Bool, true, false, _||_}
 use mathlib.Core.List.{List, [], _∷_}
@@ -12,7 +12,6 @@ use Rattle.definitions.specs.declared.Motion.{Motion}
 use Rattle.definitions.specs.declared.Split.{Split}
 use Rattle.definitions.specs.Tests.{minus, between, eqZ, four}
 use Rattle.definitions.specs.Geometry.{baseSize, macroblocks}
-use Rattle.definitions.specs.BlockMap.{blockIn}
 use Rattle.definitions.specs.Splits.{rasterOf}
 use Rattle.definitions.specs.Record.{vectorLimit, used, motionOf, vectorWord, typeNumber, laidOut}
 use Rattle.definitions.specs.Inheriting.{zeroMotion, at, clearOf, filled, merged, liveOf, copied, resolved, scaledMotion, motionAt, chosen}
@@ -24,8 +23,7 @@ use Rattle.definitions.proofs.Scaling.{chosen-scaled}
 use Rattle.definitions.proofs.Steps.{Both, resolved-keeps, not-used}
 use Rattle.motion.specs.Range.{InRange}
 use Rattle.quadrant.specs.Merging.{Empty, AllEmpty}
-use Rattle.gather.specs.Reads.{ReadableAt, recordRead, motionRead, motionBy, setBy, gatheredBy}
-use Rattle.gather.proofs.Reading.{readable-at}
+use Rattle.gather.specs.Reads.{ReadableAt, blockAt, recordRead, motionRead, motionBy, setBy, gatheredBy}
 use Rattle.macroblock.specs.declared.AxisRead.{AxisRead}
 use Rattle.macroblock.specs.Made.{Ready, resolvedBy, motionsBy, inheritedBy}
 
@@ -45,7 +43,7 @@ empty p a b u =
 
 module _ (width : ℕ) (base : List ℤ) (x y : ℕ) (r : ReadableAt width base x y) where
   abbrev block : ℕ
-  block = 4 * blockIn y + blockIn x
+  block = blockAt x y
 
   vectors : (l : ℕ) → l < 2 → Vectors (recordRead width base x y) block l
   vectors l h = vectors-of (recordRead width base x y) (r .formed) block l (omega arith) h
@@ -77,8 +75,7 @@ module _ (g : Axes) (h v : AxisRead) (base : List ℤ) (ready : Ready g h v base
   readAt i j = motionRead width base (getD (h .reads) i 0) (getD (v .reads) j 0)
 
   by-range : (i : ℕ) → i < 16 → Both InRange (motionBy width (h .reads) (v .reads) base i)
-  unfolding motionBy motionRead
-  by-range i l = read-range width base _ _ (readable-at (ready .readable) i l)
+  by-range i l = read-range width base _ _ (ready .readable i l)
 
   gathered-range : (q k : ℕ) → q < 4 → k < 4 → Both InRange (at gathered q k)
   unfolding gatheredBy
@@ -97,7 +94,7 @@ module _ (g : Axes) (h v : AxisRead) (base : List ℤ) (ready : Ready g h v base
 
   pub quadrants-made : {set : ℕ} → set ≡ setBy width (h .reads) (v .reads) base → {a b c d : List Motion} {m : List (List Motion)}
       → a ≡ made set 0 0 0 → b ≡ made set 1 2 0 → c ≡ made set 2 0 2 → d ≡ made set 3 2 2 → m ≡ copied (liveOf set) (a ∷ b ∷ c ∷ d ∷ []) → m ≡ resolvedBy g h v base
-  unfolding resolvedBy resolved gatheredBy motionBy motionRead
+  unfolding resolvedBy resolved gatheredBy
   quadrants-made {set} e ea eb ec ed em =
       em ∙ (ap (copied (liveOf set)) (four-same ea eb ec ed)
       ∙ ap (λ (s : ℕ). copied (liveOf s) (four (λ q. merged (filled (clearOf s q) (getD gathered q []))))) e)
@@ -105,7 +102,7 @@ module _ (g : Axes) (h v : AxisRead) (base : List ℤ) (ready : Ready g h v base
   -- step 4, and the split chosen before it
   pub scaled-split : {s : Split} {m : List (List Motion)} → m ≡ resolvedBy g h v base → s ≡ chosen m → s ≡ chosen (motionsBy g h v base)
   unfolding motionsBy
-  scaled-split e f = f ∙ (ap chosen e ∙ sym (chosen-scaled g (ready .horizontal .sized) (ready .vertical .sized) (resolvedBy g h v base)))
+  scaled-split e f = f ∙ (ap chosen e ∙ sym (chosen-scaled g (ready .axes .horizontal .sized) (ready .axes .vertical .sized) (resolvedBy g h v base)))
 
   pub inherited-written : {s : Split} {m scaled : List (List Motion)} → m ≡ resolvedBy g h v base → s ≡ chosen m → scaled ≡ four (λ q. four (λ k. scaledMotion g (at m q k)))
       → laidOut (typeNumber s) (λ q. getD (subTypes s) q 0) (motionAt scaled) ≡ inheritedBy g h v base

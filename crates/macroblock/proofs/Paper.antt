@@ -1,7 +1,7 @@
 -- Inside, what is made by the axes' steps is what document 01 makes. Assumes nothing.
 use Prim.Native.Nat.{ℕ}
 use mathlib.Core.Path.{_≡_, refl, sym, _∙_}
-use mathlib.Core.Bool.{Bool, true, false, _&&_}
+use mathlib.Core.Bool.{Bool, true, false, and-false}
 use mathlib.Core.List.{List}
 use lib.IntN.{ℤ}
 use Rattle.definitions.specs.declared.Axes.{Axes}
@@ -13,11 +13,7 @@ use Rattle.definitions.specs.Answer.{namedAt, answerOf, writtenFor, madeOf}
 use Rattle.definitions.proofs.Choices.{yes, no, and-intro}
 use Rattle.definitions.proofs.Answers.{made-outside}
 use Rattle.macroblock.specs.Made.{motionsBy, resolvedBy, answerBy, madeBy, readIn, nowhere, readOf, placedBy}
-use Rattle.gather.specs.Reads.{setBy, motionBy, gatheredBy}
-
-and-no : (a : Bool) → (a && false) ≡ false
-and-no true = refl
-and-no false = refl
+use Rattle.gather.specs.Reads.{motionRead, setBy, gatheredBy}
 
 module _ (g : Axes) (column row : ℕ) (base : List ℤ) where
   abbrev hor : AxisRead
@@ -27,11 +23,11 @@ module _ (g : Axes) (column row : ℕ) (base : List ℤ) where
   ver = readIn (stepOf (g .vertical) (sampleOf row))
 
   motions-same : inheritedMotions g base column row ≡ motionsBy g hor ver base
-  unfolding inheritedMotions intraSet gathered addressRead blockRead motionsBy resolvedBy setBy gatheredBy motionBy
+  unfolding inheritedMotions intraSet gathered addressRead blockRead motionsBy resolvedBy setBy gatheredBy motionRead
   motions-same = refl
 
   answer-same : inside g column row ≡ true → answerOf g base column row ≡ answerBy g hor ver base
-  unfolding answerOf answerBy namedAt intraSet inheritedMotions gathered addressRead blockRead motionsBy resolvedBy setBy gatheredBy motionBy
+  unfolding answerOf answerBy namedAt intraSet inheritedMotions gathered addressRead blockRead motionsBy resolvedBy setBy gatheredBy motionRead
   answer-same e = yes _ _ e
 
   pub made-by : inside g column row ≡ true → madeOf g base column row ≡ madeBy g hor ver base
@@ -58,7 +54,7 @@ module _ (g : Axes) (column row : ℕ) (base : List ℤ) where
       ∙ sym ((λ i. placedBy g (x i) (y i) base) ∙ yes _ _ refl)
   by-window true false p q =
       let y : down ≡ nowhere = no _ _ q in
-      made-outside g base column row (rw (p, q)) ∙ sym ((λ i. placedBy g across (y i) base) ∙ no (madeBy g across nowhere base) _ (and-no (across .inside)))
+      made-outside g base column row (rw (p, q)) ∙ sym ((λ i. placedBy g across (y i) base) ∙ no (madeBy g across nowhere base) _ (and-false (across .inside)))
   by-window false b p q =
       let x : across ≡ nowhere = no _ _ p in
       made-outside g base column row (rw p) ∙ sym ((λ i. placedBy g (x i) down base) ∙ no _ _ refl)

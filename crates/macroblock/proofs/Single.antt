@@ -14,7 +14,6 @@ use Rattle.definitions.specs.declared.Motion.{Motion}
 use Rattle.definitions.specs.declared.Split.the-variants.{S16x16}
 use Rattle.definitions.specs.Tests.{pick, eqZ, four}
 use Rattle.definitions.specs.Geometry.{baseSize, macroblocks}
-use Rattle.definitions.specs.BlockMap.{blockIn}
 use Rattle.definitions.specs.Splits.{quadrantOf}
 use Rattle.definitions.specs.Record.{recordAt, isIntra, typeOf, subTypeOf, motionOf, typeNumber, laidOut}
 use Rattle.definitions.specs.Inheriting.{zeroMotion, setOf, mostlyIntra, clearOf, filled, merged, copied, copiedFrom, liveOf, someOf, resolved, scaledMotion, motionAt, chosen}
@@ -26,8 +25,7 @@ use Rattle.records.proofs.Undivided.{whole, undivided}
 use Rattle.definitions.proofs.Sameness.{set-same}
 use Rattle.definitions.proofs.Shapes.{samePairs, shapeOf, quadrantShape, shapesOf, splitOf, allWhole}
 use Rattle.definitions.proofs.Steps.{filled-leaves, settled-merged}
-use Rattle.gather.specs.Reads.{ReadableAt, recordRead, motionRead, readBy, blockBy, motionBy, setBy, gatheredBy}
-use Rattle.gather.proofs.Reading.{readable-at}
+use Rattle.gather.specs.Reads.{ReadableAt, blockAt, recordRead, motionRead, readBy, motionBy, setBy, gatheredBy}
 use Rattle.macroblock.specs.declared.AxisRead.{AxisRead}
 use Rattle.macroblock.specs.Made.{Ready, onePart, resolvedBy, motionsBy, inheritedBy}
 use Rattle.macroblock.proofs.Motions.{read-empty}
@@ -43,10 +41,10 @@ one-part d reads e =
 half-is : (u x : ℕ) → u / 2 ≡ x / 2 → u % 4 / 2 ≡ x % 4 / 2
 half-is u x e = omega arith
 
-quadrant-is : (x y : ℕ) → quadrantOf (4 * blockIn y + blockIn x) ≡ 2 * (y % 4 / 2) + x % 4 / 2
+quadrant-is : (x y : ℕ) → quadrantOf (blockAt x y) ≡ 2 * (y % 4 / 2) + x % 4 / 2
 quadrant-is x y = omega arith
 
-same-quadrant : (u w x y : ℕ) → u / 2 ≡ x / 2 → w / 2 ≡ y / 2 → quadrantOf (4 * blockIn w + blockIn u) ≡ quadrantOf (4 * blockIn y + blockIn x)
+same-quadrant : (u w x y : ℕ) → u / 2 ≡ x / 2 → w / 2 ≡ y / 2 → quadrantOf (blockAt u w) ≡ quadrantOf (blockAt x y)
 same-quadrant u w x y p q = quadrant-is u w ∙ ((λ i. 2 * half-is w y q i + half-is u x p i) ∙ sym (quadrant-is x y))
 
 -- a set of all sixteen, and of none
@@ -99,7 +97,7 @@ module _ (g : Axes) (h v : AxisRead) (base : List ℤ) (ready : Ready g h v base
   it = recordRead width base x y
 
   pub first-readable : ReadableAt width base x y
-  first-readable = readable-at (ready .readable) 0 (omega arith)
+  first-readable = ready .readable 0 (omega arith)
 
   same-read : (i : ℕ) → i < 16 → readBy width (h .reads) (v .reads) base i ≡ it
   same-read i l =
@@ -126,25 +124,28 @@ module _ (g : Axes) (h v : AxisRead) (base : List ℤ) (ready : Ready g h v base
     abbrev AllRead : Type 0
     AllRead = (i : ℕ) → i < 16 → motionBy width (h .reads) (v .reads) base i ≡ n
 
-    by-blocks : ((i : ℕ) → i < 16 → motionOf it (blockBy (h .reads) (v .reads) i) ≡ motionOf it (4 * blockIn y + blockIn x)) → AllRead
-    unfolding motionBy motionRead
-    by-blocks e i l = ap (λ (r : List ℤ). motionOf r (blockBy (h .reads) (v .reads) i)) (same-read i l) ∙ e i l
+    abbrev blockOf : ℕ → ℕ
+    blockOf i = blockAt (getD (h .reads) (i % 4) 0) (getD (v .reads) (i / 4) 0)
 
     abbrev block : ℕ
-    block = 4 * blockIn y + blockIn x
+    block = blockAt x y
+
+    by-blocks : ((i : ℕ) → i < 16 → motionOf it (blockOf i) ≡ motionOf it block) → AllRead
+    unfolding motionRead
+    by-blocks e i l = ap (λ (r : List ℤ). motionOf r (blockOf i)) (same-read i l) ∙ e i l
 
     -- a record of type 1, or one quadrant read that is not divided
     pub one-read : (eqZ (typeOf it) (pos 1) || ((onePart 2 (h .reads) && onePart 2 (v .reads)) && eqZ (subTypeOf it (quadrantOf block)) (pos 0))) ≡ true → AllRead
     one-read e =
         ⊎-elim
-        (λ t. by-blocks (λ i l. whole it (first-readable .formed) not-intra (blockBy (h .reads) (v .reads) i) block (omega arith) (omega arith) t))
+        (λ t. by-blocks (λ i l. whole it (first-readable .formed) not-intra (blockOf i) block (omega arith) (omega arith) t))
         (λ t.
         let quarter = and-true (onePart 2 (h .reads) && onePart 2 (v .reads)) (eqZ (subTypeOf it (quadrantOf block)) (pos 0)) t in
         let halves = and-true (onePart 2 (h .reads)) (onePart 2 (v .reads)) (quarter .0) in
         by-blocks (λ i l.
         let p = one-part 2 (h .reads) (halves .0) (i % 4) (omega arith) in
         let q = one-part 2 (v .reads) (halves .1) (i / 4) (omega arith) in
-        undivided it (first-readable .formed) not-intra (blockBy (h .reads) (v .reads) i) block (omega arith) (omega arith) (same-quadrant _ _ x y p q) (quarter .1)))
+        undivided it (first-readable .formed) not-intra (blockOf i) block (omega arith) (omega arith) (same-quadrant _ _ x y p q) (quarter .1)))
         (or-true (eqZ (typeOf it) (pos 1)) ((onePart 2 (h .reads) && onePart 2 (v .reads)) && eqZ (subTypeOf it (quadrantOf block)) (pos 0)) e)
 
     module _ (all : AllRead) where

@@ -20,7 +20,7 @@ use Rattle.definitions.specs.BlockMap.{stepOf}
 use Rattle.definitions.specs.Record.{typeNumber, laidOut}
 use Rattle.definitions.specs.Inheriting.{mostlyIntra, at, motionAt, resolved, scaledMotion, chosen}
 use Rattle.definitions.specs.Answer.{Made, subTypes, writtenFor}
-use Rattle.definitions.specs.Accepted.{AcceptedAxis}
+use Rattle.definitions.specs.Accepted.{AcceptedAxes}
 use Rattle.gather.specs.Reads.{Readable, setBy, gatheredBy}
 
 -- ---- An axis at a macroblock
@@ -75,8 +75,7 @@ placedBy g h v base = pick (h .inside && v .inside) (madeBy g h v base) (record 
 
 -- What the making of a macroblock asks: axes of an accepted geometry, and records that lie in the base and are well formed
 pub record Ready (g : Axes) (h v : AxisRead) (base : List ℤ) : Type 0 where
-  pub horizontal : AcceptedAxis (g .horizontal)
-  pub vertical : AcceptedAxis (g .vertical)
+  pub axes : AcceptedAxes g
   pub readable : Readable (macroblocks (baseSize (g .horizontal))) (h .reads) (v .reads) base
 
 abbrev pub Placeable : Axes → AxisRead → AxisRead → List ℤ → Type 0

@@ -1,17 +1,17 @@
 -- A word by its sign and its size. Assumes nothing.
 use Prim.Native.Nat.{ℕ, zero, suc, _+_, _-_, _<_}
-use mathlib.Core.Path.{_≡_, refl, ap, subst, _∙_}
+use mathlib.Core.Path.{_≡_, refl, sym, ap, subst, _∙_}
 use mathlib.Core.Bool.{true, false}
 use native.Mathlib.Omega.{arith}
 use lib.Dec.{T}
 use lib.IntN.{ℤ, pos, negsuc, natAbs, _-ℤ_}
-use lib.Signed.{ltZ, _≤ℤ_}
+use lib.Signed.{ltZ, _≤ℤ_, yes-nonNeg, pos-natAbs}
 use mir.Syntax.{w16}
 use mir.Val.{SFits, toZ, ofZ}
 use mir.Facts.{toZ-ofZ}
 use borrow.Author.Tests.{ltb-true}
 use Rattle.definitions.specs.Tests.{minus, signed}
-use Rattle.definitions.proofs.Differences.{sub-neg}
+use Rattle.definitions.proofs.Differences.{zero-minus}
 
 -- below 0
 pub turned : (v : ℤ) → ltZ v (pos 0) ≡ true → pos 0 -ℤ v ≡ pos (natAbs v)
@@ -32,13 +32,11 @@ signed-above (pos z) n t = refl
 signed-above (negsuc z) n t = absurd (subst T t tt)
 
 pub natural : (n : ℤ) → pos 0 ≤ℤ n → n ≡ pos (natAbs n)
-natural (pos n) h = refl
-natural (negsuc n) h = absurd (h .le)
+natural n h = sym (pos-natAbs n (yes-nonNeg h))
 
 -- and turned round
 pub opposite : (n : ℤ) → pos 0 ≤ℤ n → pos 0 -ℤ n ≡ minus (natAbs n)
-opposite (pos zero) h = refl
-opposite (pos (suc n)) h = sub-neg 0 (suc n) (omega arith) ∙ ap negsuc (let e : suc n - 1 ≡ n = omega arith in e)
+opposite (pos n) h = zero-minus n
 opposite (negsuc n) h = absurd (h .le)
 
 pub opposite-fits : (n : ℤ) → pos 0 ≤ℤ n → SFits w16 n → SFits w16 (minus (natAbs n))

@@ -23,7 +23,8 @@ use Rattle.definitions.proofs.RecordLists.{each-same}
 use Rattle.macroblock.specs.declared.AxisRead.{AxisRead}
 use Rattle.macroblock.specs.Made.{readOf, placedBy, Placeable}
 use Rattle.macroblock.proofs.Paper.{placed-by}
-use Rattle.upsample.specs.Staged.{AcceptedAxes, Formed}
+use Rattle.definitions.specs.Accepted.{AcceptedAxes}
+use Rattle.upsample.specs.Staged.{Formed}
 use Rattle.upsample.proofs.Readiness.{Known, known-of}
 use Rattle.picture.specs.Reads.{noRead, AxisReads}
 

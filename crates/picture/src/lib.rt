@@ -1,6 +1,6 @@
 // The picture call of document 01: all base records are checked, then every macroblock is made in raster order.
 ghost use Prim.Native.Nat.{_*_, _+_, _<_, _≤_};
-ghost use Rattle.definitions.specs.Accepted.{AcceptedAxis};
+ghost use Rattle.definitions.specs.Accepted.{AcceptedAxes, AcceptedAxis};
 ghost use Rattle.definitions.specs.Calls.{counted, countsOf, fullCount, madeAt, pictureCall, sumOf};
 ghost use Rattle.definitions.specs.Record.{recordWords};
 ghost use Rattle.definitions.specs.Tests.{forEach, upTo};
@@ -8,7 +8,7 @@ ghost use Rattle.definitions.specs.Geometry.{fullSize, macroblocks};
 ghost use Rattle.macroblock.specs.Made.{readOf};
 ghost use Rattle.picture.specs.Reads.{AxisReads};
 ghost use Rattle.upsample.specs.Promised.{PicturePromised};
-ghost use Rattle.upsample.specs.Staged.{AcceptedAxes, Formed, axesPicture};
+ghost use Rattle.upsample.specs.Staged.{Formed, axesPicture};
 ghost use lib.ListN.{length};
 ghost use mathlib.Core.Path.{_≡_};
 use definitions::Answer;

@@ -6,7 +6,7 @@ use native.Mathlib.Numerals.{add-one}
 use native.Mathlib.Omega.{arith}
 use Rattle.definitions.specs.Tests.{allBelow}
 use Rattle.definitions.specs.Splits.{quadrantOf, placeOf, rasterOf}
-use Rattle.definitions.proofs.Choices.{below-true, below-intro}
+use Rattle.definitions.proofs.Choices.{both-ways, below-true, below-intro}
 use Rattle.definitions.proofs.Records.{raster-below, raster-is}
 
 pub and-swap : (a b c d : Bool) → ((a && b) && (c && d)) ≡ ((a && c) && (b && d))
@@ -44,16 +44,10 @@ search-fault f n k lt here = fault (allBelow n f) refl
     fault true e = sym (below-true n f e k lt) ∙ here
     fault false e = refl
 
--- two tests that hold in the same cases
-same-test : (a b : Bool) → (a ≡ true → b ≡ true) → (b ≡ true → a ≡ true) → a ≡ b
-same-test true b f g = sym (f refl)
-same-test false true f g = g refl
-same-test false false f g = refl
-
 -- the blocks by quadrant and place
 pub by-quadrants : (f : ℕ → Bool) → allBelow 16 f ≡ allBelow 4 (λ q. allBelow 4 (λ k. f (rasterOf q k)))
 by-quadrants f =
-    same-test _ _
+    both-ways _ _
     (λ e. below-intro 4 _ (λ q hq. below-intro 4 _ (λ k hk. below-true 16 f e (rasterOf q k) (raster-below q k hq hk))))
     (λ e. below-intro 16 f (λ b h.
     ap f (sym (raster-is b h)) ∙ below-true 4 (λ k. f (rasterOf (quadrantOf b) k)) (below-true 4 _ e (quadrantOf b) (omega arith)) (placeOf b) (omega arith)))

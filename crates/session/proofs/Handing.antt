@@ -149,7 +149,7 @@ module _ (v : Session) where
   going-small g =
       let s = sound-parts (v .numbers) (v .counts) (subst (λ (t : State). sound t ≡ true) (g .state) (state-sound v)) in
       let axes = accepted-axes (v .numbers) (s .0) in
-      let few = full-small (axesOf (v .numbers)) (record { horizontal = axes .0; vertical = axes .1 }) in
+      let few = full-small (axesOf (v .numbers)) axes in
       let other = eqb-false (sumOf (v .counts)) (fullCount (axesOf (v .numbers))) (g .on) in
       let made : sumOf (v .counts) < 65536 = omega (arith, few, s .1) in
       let width = macroblocks (fullSize (axesOf (v .numbers) .horizontal)) in

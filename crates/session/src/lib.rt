@@ -1,10 +1,10 @@
 // The session of document 01: one picture made macroblock by macroblock, with a state that is handed over and back by value.
 ghost use Prim.Native.Nat.{_<_};
+ghost use Rattle.definitions.specs.Accepted.{AcceptedAxes};
 ghost use Rattle.definitions.specs.Calls.{noCounts, sumOf};
 ghost use Rattle.definitions.specs.Session.{abandon, abandonVerdict, begin, beginVerdict, next, nextCall, totals, totalsOf, unfinished};
 ghost use Rattle.session.specs.Stage.{stageIn, stageOf};
 ghost use Rattle.session.specs.Values.{HandsBack, advancedBy, freshSession, stateOf};
-ghost use Rattle.upsample.specs.Staged.{AcceptedAxes};
 ghost use mathlib.Core.Bool.{false};
 ghost use mathlib.Core.Path.{_≡_};
 use definitions::Axes;

@@ -1,21 +1,16 @@
 -- A record of one motion, put into a part of the words.
 use Prim.Native.Nat.{ℕ, _+_, _-_, _≤_}
-use mathlib.Core.Path.{_≡_, refl, sym, ap, _∙_}
+use mathlib.Core.Path.{_≡_, sym, ap, _∙_}
 use mathlib.Core.List.{List, [], _∷_, _++_, append-assoc}
 use native.Mathlib.Omega.{arith}
 use lib.IntN.{ℤ}
 use lib.ListN.{length, take, drop, getD}
 use lib.Seq.{sets, sets-eq, drop-drop}
 use Rattle.definitions.specs.declared.Motion.{Motion}
-use Rattle.definitions.specs.Tests.{upTo, four}
+use Rattle.definitions.specs.Tests.{four}
 use Rattle.definitions.specs.Record.{recordWords, laidOut}
 use Rattle.definitions.specs.Inheriting.{motionAt}
-use Rattle.definitions.proofs.Records.{laid-length}
-
--- four quadrants of four blocks, all with the motion m
-all-alike : (kind : ℕ) (m : Motion) → laidOut kind (λ q. getD (0 ∷ 0 ∷ 0 ∷ 0 ∷ []) q 0) (motionAt (four (λ q. four (λ k. m)))) ≡ laidOut kind (λ q. 0) (λ b. m)
-unfolding laidOut upTo
-all-alike kind m = refl
+use Rattle.definitions.proofs.Records.{laid-length, laid-alike}
 
 module _ (out : List ℤ) (from : ℕ) (fits : from + recordWords ≤ length out) where
   part-put : (w : List ℤ) → length w ≡ recordWords → take from out ++ (w ++ drop (from + 77 - from) (drop from out)) ≡ sets out from w
@@ -26,4 +21,4 @@ module _ (out : List ℤ) (from : ℕ) (fits : from + recordWords ≤ length out
   pub record-put :
       (kind : ℕ) (m : Motion) (part : List ℤ) → part ≡ laidOut kind (λ q. getD (0 ∷ 0 ∷ 0 ∷ 0 ∷ []) q 0) (motionAt (four (λ q. four (λ k. m))))
       → take from out ++ (part ++ drop (from + 77 - from) (drop from out)) ≡ sets out from (laidOut kind (λ q. 0) (λ b. m))
-  record-put kind m part e = rw (e ∙ all-alike kind m) (part-put (laidOut kind (λ q. 0) (λ b. m)) (laid-length kind (λ q. 0) (λ b. m)))
+  record-put kind m part e = rw (e ∙ laid-alike kind m) (part-put (laidOut kind (λ q. 0) (λ b. m)) (laid-length kind (λ q. 0) (λ b. m)))

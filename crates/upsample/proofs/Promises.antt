@@ -1,8 +1,7 @@
 -- What the calls hand over is as demand 3 says: the theorem of definitions, at their replies. Assumes nothing.
 use Prim.Native.Nat.{_+_, _*_}
 use mathlib.Core.Path.{_≡_, sym, ap, _∙_}
-use mathlib.Core.Bool.{true, _&&_}
-use mathlib.Core.List.{List, _∷_}
+use mathlib.Core.List.{List}
 use lib.IntN.{ℤ, pos, natAbs}
 use lib.Signed.{pos-natAbs}
 use Rattle.definitions.specs.declared.Numbers.{Numbers}
@@ -13,34 +12,21 @@ use Rattle.definitions.specs.declared.PictureReply.{PictureReply}
 use Rattle.definitions.specs.declared.PictureReply.the-variants.{Counted, Refused as NotMade}
 use Rattle.definitions.specs.Geometry.{axesOf, fullSize, macroblocks}
 use Rattle.definitions.specs.Record.{recordAt}
-use Rattle.definitions.specs.Refusals.{geometryTests, baseTest, outputTest, positionTest, withinAxis, recordTests, addressesRead}
-use Rattle.definitions.specs.Calls.{macroblockTests, macroblockCall, pictureCall}
-use Rattle.definitions.proofs.Choices.{and-true}
-use Rattle.definitions.proofs.Verdicts.{first-passed, both-passed}
-use Rattle.definitions.proofs.RecordLists.{not-false}
-use Rattle.definitions.proofs.Demand.{demand3, call-accepted}
+use Rattle.definitions.specs.Calls.{macroblockCall, pictureCall}
+use Rattle.definitions.proofs.Demand.{demand3, call-accepted, AskedAt, asked-at}
 use Rattle.upsample.specs.Promised.{SinglyPromised, PicturePromised}
 use Rattle.upsample.proofs.Within.{within-natural}
 
 -- where a call answers, its column and row are those of the picture
 module _ (n : Numbers) (base : List ℤ) (column row : ℤ) (words : List ℤ) (answer : Answer) (e : macroblockCall n base column row words .reply ≡ Answered answer) where
-  within : (withinAxis (fullSize (axesOf n .horizontal)) column ≡ true) × (withinAxis (fullSize (axesOf n .vertical)) row ≡ true)
-  unfolding macroblockTests
-  within =
-      let g = axesOf n in
-      let records = recordTests base (addressesRead g (natAbs column) (natAbs row)) in
-      let v = call-accepted n base column row words answer e in
-      let p = both-passed (geometryTests n) (baseTest g base ∷ outputTest 1 words ∷ positionTest g column row ∷ records) v in
-      let q = first-passed (baseTest g base) (outputTest 1 words ∷ positionTest g column row ∷ records) (p .1) in
-      let r = first-passed (outputTest 1 words) (positionTest g column row ∷ records) (q .1) in
-      let t = first-passed (positionTest g column row) records (r .1) in
-      and-true _ _ (not-false (withinAxis (fullSize (g .horizontal)) column && withinAxis (fullSize (g .vertical)) row) (t .0))
+  asked : AskedAt n column row words
+  asked = asked-at n base column row words (call-accepted n base column row words answer e)
 
   natural-column : pos (natAbs column) ≡ column
-  natural-column = pos-natAbs column (within-natural (fullSize (axesOf n .horizontal)) column (within .0))
+  natural-column = pos-natAbs column (within-natural (fullSize (axesOf n .horizontal)) column (asked .column-within))
 
   natural-row : pos (natAbs row) ≡ row
-  natural-row = pos-natAbs row (within-natural (fullSize (axesOf n .vertical)) row (within .1))
+  natural-row = pos-natAbs row (within-natural (fullSize (axesOf n .vertical)) row (asked .row-within))
 
 singly-promised : (n : Numbers) (base : List ℤ) (column row : ℤ) (words : List ℤ) (reply : MacroblockReply) (out : List ℤ)
     → reply ≡ macroblockCall n base column row words .reply → out ≡ macroblockCall n base column row words .words → SinglyPromised n base column row words reply out

@@ -15,7 +15,7 @@ use Rattle.definitions.specs.Record.{recordWords, recordAt, wellFormed}
 use Rattle.definitions.specs.Answer.{namedAt, addressesOf}
 use Rattle.definitions.specs.Refusals.{baseCount, addressesRead}
 use Rattle.definitions.proofs.Choices.{yes, no, and-true}
-use Rattle.definitions.proofs.Accepted.{inside-axis}
+use Rattle.definitions.proofs.Accepted.{across-inside, down-inside}
 use Rattle.definitions.proofs.Addresses.{address-named, address-below}
 use Rattle.definitions.proofs.Map.{f-below}
 use Rattle.macroblock.specs.declared.AxisRead.{AxisRead}
@@ -37,10 +37,10 @@ module _ (g : Axes) (base : List ℤ) (placed : Placed g base) (column row : ℕ
 
   module _ (e : inside g column row ≡ true) where
     across-in : Inside (baseSize (g .horizontal)) (scaledSize (g .horizontal)) (cOf (g .horizontal) (sampleOf column))
-    across-in = inside-axis (g .horizontal) (sampleOf column) (placed .axes .horizontal) (and-true (insideAxis (g .horizontal) (sampleOf column)) (insideAxis (g .vertical) (sampleOf row)) e .0)
+    across-in = across-inside g column row (placed .axes) e
 
     down-in : Inside (baseSize (g .vertical)) (scaledSize (g .vertical)) (cOf (g .vertical) (sampleOf row))
-    down-in = inside-axis (g .vertical) (sampleOf row) (placed .axes .vertical) (and-true (insideAxis (g .horizontal) (sampleOf column)) (insideAxis (g .vertical) (sampleOf row)) e .1)
+    down-in = down-inside g column row (placed .axes) e
 
     named-in : InBase base (addressesOf g (namedAt g column row))
     named-in a m = in-base a (address-below g column row across-in down-in m)
@@ -56,13 +56,8 @@ module _ (g : Axes) (base : List ℤ) (placed : Placed g base) (column row : ℕ
     ready formed =
         let named : (i : ℕ) → i < 16 → List·Memᴰ (addressRead g column row i) (addressesOf g (namedAt g column row)) = address-named g column row across-in down-in in
         record {
-          horizontal = placed .axes .horizontal;
-          vertical = placed .axes .vertical;
-          readable = record {
-            low = λ i h. named-in _ (named i h) .1;
-            fits = λ i h. named-in _ (named i h) .0;
-            formed = λ i h. formed _ (named i h);
-          };
+          axes = placed .axes;
+          readable = λ i h. record { low = named-in _ (named i h) .1; fits = named-in _ (named i h) .0; formed = formed _ (named i h) };
         }
 
   -- what is known of the axes' readings at a macroblock

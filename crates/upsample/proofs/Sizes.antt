@@ -6,7 +6,7 @@ use Rattle.definitions.specs.declared.Axes.{Axes}
 use Rattle.definitions.specs.Geometry.{baseSize, fullSize, macroblocks}
 use Rattle.definitions.specs.Refusals.{baseCount}
 use Rattle.definitions.specs.Calls.{fullCount}
-use Rattle.upsample.specs.Staged.{AcceptedAxes}
+use Rattle.definitions.specs.Accepted.{AcceptedAxes}
 
 product : (a b : ℕ) → a ≤ 4096 → b ≤ 4096 → macroblocks a * macroblocks b ≤ 65536
 product a b h k =

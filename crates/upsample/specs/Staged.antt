@@ -1,7 +1,7 @@
 -- The calls of document 01 in the stages of the code: after the geometry is accepted, and after lengths and place are.
 use Prim.Native.Nat.{ℕ, _+_, _*_, _≤_, _<_}
 use mathlib.Core.Path.{_≡_}
-use mathlib.Core.Bool.{Bool, true}
+use mathlib.Core.Bool.{Bool}
 use mathlib.Core.List.{List, _∷_, map, List·Memᴰ}
 use lib.IntN.{ℤ, natAbs}
 use lib.ListN.{length}
@@ -11,18 +11,14 @@ use Rattle.definitions.specs.declared.MacroblockReply.the-variants.{Answered, R
 use Rattle.definitions.specs.declared.PictureReply.{PictureReply}
 use Rattle.definitions.specs.declared.PictureReply.the-variants.{Counted, Refused as NotMade}
 use Rattle.definitions.specs.Tests.{upTo, forEach}
-use Rattle.definitions.specs.Accepted.{AcceptedAxis}
+use Rattle.definitions.specs.Accepted.{AcceptedAxes}
 use Rattle.definitions.specs.Geometry.{columnsRead}
 use Rattle.definitions.specs.BlockMap.{baseAddress}
-use Rattle.definitions.specs.Record.{recordWords, recordAt, wellFormed}
+use Rattle.definitions.specs.Record.{recordWords}
 use Rattle.definitions.specs.Answer.{madeOf}
 use Rattle.definitions.specs.Refusals.{Test, verdictOf, baseCount, baseTest, outputTest, positionTest, recordTests, addressesRead, allAddresses}
 use Rattle.definitions.specs.Calls.{Outcome, byVerdict, fullCount, madeAt, countsOf}
-
--- both axes of an accepted geometry
-pub record AcceptedAxes (g : Axes) : Type 0 where
-  pub horizontal : AcceptedAxis (g .horizontal)
-  pub vertical : AcceptedAxis (g .vertical)
+use Rattle.definitions.specs.Demand3.{AllFormed}
 
 -- one macroblock, once its geometry is accepted: refusals 5 to 8
 unfoldable pub axesTests : Axes → List ℤ → ℤ → ℤ → List ℤ → List Test
@@ -63,4 +59,4 @@ pub record Placed (g : Axes) (base : List ℤ) : Type 0 where
 -- and every record of it well formed
 pub record Formed (g : Axes) (base : List ℤ) : Type 0 where
   pub placed : Placed g base
-  pub formed : (a : ℕ) → a < baseCount g → wellFormed (recordAt base a) ≡ true
+  pub formed : AllFormed g base

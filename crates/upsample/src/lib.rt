@@ -1,5 +1,6 @@
 // The upsampler: the calls of document 01 on records, one macroblock and the whole picture.
 ghost use Prim.Native.Nat.{_*_, _<_, _≤_};
+ghost use Rattle.definitions.specs.Accepted.{AcceptedAxes};
 ghost use Rattle.definitions.specs.Answer.{addressesOf};
 ghost use Rattle.definitions.specs.Calls.{macroblockCall};
 ghost use Rattle.definitions.specs.Geometry.{baseSize};
@@ -7,7 +8,7 @@ ghost use Rattle.definitions.specs.Record.{recordWords};
 ghost use Rattle.definitions.specs.Refusals.{baseCount, recordTests, refusal, verdictOf, withinAxis};
 ghost use Rattle.macroblock.specs.Made.{namedBy};
 ghost use Rattle.upsample.specs.Promised.{SinglyPromised};
-ghost use Rattle.upsample.specs.Staged.{AcceptedAxes, InBase, Placed, axesCall, placedCall, rowAddresses};
+ghost use Rattle.upsample.specs.Staged.{InBase, Placed, axesCall, placedCall, rowAddresses};
 ghost use lib.ListN.{length};
 ghost use mathlib.Core.Path.{_≡_};
 use definitions::Axes;

@@ -6,9 +6,8 @@ use Rattle.definitions.specs.Geometry.{axesOf}
 use Rattle.definitions.specs.Record.{recordWords}
 use Rattle.definitions.specs.Refusals.{geometryVerdict, verdictOf, baseCount, recordTests, allAddresses}
 use Rattle.definitions.proofs.RecordLists.{all-formed, index-member}
-use Rattle.geometry.proofs.Verdicts.{checked-valid}
-use Rattle.upsample.specs.Staged.{AcceptedAxes}
-use Rattle.upsample.proofs.Within.{checked-accepted, checked-refused}
+use Rattle.geometry.proofs.Verdicts.{checked-accepted, checked-refused, checked-valid}
+use Rattle.definitions.specs.Accepted.{AcceptedAxes}
 use Rattle.picture.proofs.Stages.{all-checked}
 use Rattle.log.proofs.Stages.{wrong-numbers, wrong-count, wrong-record, right-records}
 use borrow.Author.Needs.{needs}
@@ -24,7 +23,7 @@ geometry c =
 accepted : (c : tie.After-axes) → AcceptedAxes (c .axes .result)
 accepted c =
     let k = checked-valid (c .before .before .before .before .before .before .before .args .t .numbers) (c .before .before .g .given .0 .0) (sym (c .before .before .before .before .new .ensures) ∙ c .before .before .g .given .1) in
-    subst AcceptedAxes (sym (c .axes .ensures)) (record { horizontal = k .horizontal; vertical = k .vertical })
+    subst AcceptedAxes (sym (c .axes .ensures)) k
 
 -- the count of record lines is right
 right : (c : tie.Else1) → c .before .before .before .before .before .before .before .before .before .before .args .t .lines ≡ baseCount (c .before .before .before .axes .result)

@@ -21,7 +21,7 @@ scale-by-requires : tie.Need-scale-by-requires
 scale-by-requires c κs =
     let s = c .before .before .before in
     let Right : List (List Motion) → Type 0 = λ m. (q k : ℕ) → q < 4 → k < 4 → Both InRange (at m q k) in
-    (s .pre .0 .horizontal, s .pre .0 .vertical, subst Right (sym (c .before .before .motions-made .ensures)) (resolved-range (s .args .g) (s .args .h) (s .args .v) (s .args .base .now) (s .pre .0)), c .before .choose .ensures)
+    (s .pre .0 .axes .horizontal, s .pre .0 .axes .vertical, subst Right (sym (c .before .before .motions-made .ensures)) (resolved-range (s .args .g) (s .args .h) (s .args .v) (s .args .base .now) (s .pre .0)), c .before .choose .ensures)
 
 write-split-requires : tie.Need-write-split-requires
 write-split-requires c κs = search needs

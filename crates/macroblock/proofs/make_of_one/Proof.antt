@@ -26,7 +26,7 @@ named-of-requires : tie.Need-named-of-requires
 named-of-requires c κs = search needs
 
 reads-intra-requires : tie.Need-reads-intra-requires
-reads-intra-requires c κs = (first-readable (c .before .before .before .before .args .g) (c .before .before .before .before .args .h) (c .before .before .before .before .args .v) (c .before .before .before .before .args .base .now) (c .before .before .before .before .pre .0) (c .before .before .before .before .pre .1), omega (arith, c .before .before .before .before .pre .0 .horizontal .sized .base-high))
+reads-intra-requires c κs = (first-readable (c .before .before .before .before .args .g) (c .before .before .before .before .args .h) (c .before .before .before .before .args .v) (c .before .before .before .before .args .base .now) (c .before .before .before .before .pre .0) (c .before .before .before .before .pre .1), omega (arith, c .before .before .before .before .pre .0 .axes .horizontal .sized .base-high))
 
 write-unused-requires : tie.Need-write-unused-requires
 write-unused-requires c κs = search needs
@@ -46,18 +46,18 @@ is-half-requires-2 : tie.Need-is-half-requires-2
 is-half-requires-2 c κs = search needs
 
 reads-whole-requires : tie.Need-reads-whole-requires
-reads-whole-requires c κs = (first-readable (c .before .before .before .before .before .before .before .before .args .g) (c .before .before .before .before .before .before .before .before .args .h) (c .before .before .before .before .before .before .before .before .args .v) (c .before .before .before .before .before .before .before .before .args .base .now) (c .before .before .before .before .before .before .before .before .pre .0) (c .before .before .before .before .before .before .before .before .pre .1), omega (arith, c .before .before .before .before .before .before .before .before .pre .0 .horizontal .sized .base-high))
+reads-whole-requires c κs = (first-readable (c .before .before .before .before .before .before .before .before .args .g) (c .before .before .before .before .before .before .before .before .args .h) (c .before .before .before .before .before .before .before .before .args .v) (c .before .before .before .before .before .before .before .before .args .base .now) (c .before .before .before .before .before .before .before .before .pre .0) (c .before .before .before .before .before .before .before .before .pre .1), omega (arith, c .before .before .before .before .before .before .before .before .pre .0 .axes .horizontal .sized .base-high))
 
 reads-single-requires : tie.Need-reads-single-requires
-reads-single-requires c κs = (first-readable (c .before .before .before .before .before .before .before .before .before .args .g) (c .before .before .before .before .before .before .before .before .before .args .h) (c .before .before .before .before .before .before .before .before .before .args .v) (c .before .before .before .before .before .before .before .before .before .args .base .now) (c .before .before .before .before .before .before .before .before .before .pre .0) (c .before .before .before .before .before .before .before .before .before .pre .1), omega (arith, c .before .before .before .before .before .before .before .before .before .pre .0 .horizontal .sized .base-high))
+reads-single-requires c κs = (first-readable (c .before .before .before .before .before .before .before .before .before .args .g) (c .before .before .before .before .before .before .before .before .before .args .h) (c .before .before .before .before .before .before .before .before .before .args .v) (c .before .before .before .before .before .before .before .before .before .args .base .now) (c .before .before .before .before .before .before .before .before .before .pre .0) (c .before .before .before .before .before .before .before .before .before .pre .1), omega (arith, c .before .before .before .before .before .before .before .before .before .pre .0 .axes .horizontal .sized .base-high))
 
 motion-read-requires : tie.Need-motion-read-requires
-motion-read-requires c κs = (first-readable (c .before .before .before .before .before .before .before .before .before .before .before .args .g) (c .before .before .before .before .before .before .before .before .before .before .before .args .h) (c .before .before .before .before .before .before .before .before .before .before .before .args .v) (c .before .before .before .before .before .before .before .before .before .before .before .args .base .now) (c .before .before .before .before .before .before .before .before .before .before .before .pre .0) (c .before .before .before .before .before .before .before .before .before .before .before .pre .1), omega (arith, c .before .before .before .before .before .before .before .before .before .before .before .pre .0 .horizontal .sized .base-high))
+motion-read-requires c κs = (first-readable (c .before .before .before .before .before .before .before .before .before .before .before .args .g) (c .before .before .before .before .before .before .before .before .before .before .before .args .h) (c .before .before .before .before .before .before .before .before .before .before .before .args .v) (c .before .before .before .before .before .before .before .before .before .before .before .args .base .now) (c .before .before .before .before .before .before .before .before .before .before .before .pre .0) (c .before .before .before .before .before .before .before .before .before .before .before .pre .1), omega (arith, c .before .before .before .before .before .before .before .before .before .before .before .pre .0 .axes .horizontal .sized .base-high))
 
 scale-motion-requires : tie.Need-scale-motion-requires
 scale-motion-requires c κs =
     let s = c .before .before .before .before .before .before .before .before .before .before .before .before in
-    (s .pre .0 .horizontal, s .pre .0 .vertical, subst (Both InRange) (sym (c .motion-read .ensures)) (read-range _ _ _ _ (first-readable (c .before .before .before .before .before .before .before .before .before .before .before .before .args .g) (c .before .before .before .before .before .before .before .before .before .before .before .before .args .h) (c .before .before .before .before .before .before .before .before .before .before .before .before .args .v) (c .before .before .before .before .before .before .before .before .before .before .before .before .args .base .now) (c .before .before .before .before .before .before .before .before .before .before .before .before .pre .0) (c .before .before .before .before .before .before .before .before .before .before .before .before .pre .1))))
+    (s .pre .0 .axes .horizontal, s .pre .0 .axes .vertical, subst (Both InRange) (sym (c .motion-read .ensures)) (read-range _ _ _ _ (first-readable (c .before .before .before .before .before .before .before .before .before .before .before .before .args .g) (c .before .before .before .before .before .before .before .before .before .before .before .before .args .h) (c .before .before .before .before .before .before .before .before .before .before .before .before .args .v) (c .before .before .before .before .before .before .before .before .before .before .before .before .args .base .now) (c .before .before .before .before .before .before .before .before .before .before .before .before .pre .0) (c .before .before .before .before .before .before .before .before .before .before .before .before .pre .1))))
 
 write-split-requires : tie.Need-write-split-requires
 write-split-requires c κs = c .before .before .before .before .before .before .before .before .before .before .before .before .before .before .pre .2

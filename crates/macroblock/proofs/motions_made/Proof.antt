@@ -1,6 +1,5 @@
 -- `macroblock::motions_made` meets its contract. Assumes nothing.
 use native.Mathlib.Omega.{arith}
-use Rattle.gather.proofs.Reading.{readable-at}
 use Rattle.macroblock.proofs.Motions.{quadrants-made}
 use borrow.Author.Needs.{needs}
 use Rattle.macroblock.proofs.motions_made.Statement.{statement}
@@ -34,16 +33,16 @@ element-copy-out-y3 : tie.Need-element-copy-out-y3
 element-copy-out-y3 c = search needs
 
 quadrant-made-requires : tie.Need-quadrant-made-requires
-quadrant-made-requires c κs = (readable-at (c .before .before .before .before .before .before .before .before .before .pre .0 .readable) 0 (omega arith), readable-at (c .before .before .before .before .before .before .before .before .before .pre .0 .readable) 1 (omega arith), readable-at (c .before .before .before .before .before .before .before .before .before .pre .0 .readable) 4 (omega arith), readable-at (c .before .before .before .before .before .before .before .before .before .pre .0 .readable) 5 (omega arith), omega (arith, c .before .before .before .before .before .before .before .before .before .pre .0 .horizontal .sized .base-high), omega arith)
+quadrant-made-requires c κs = (c .before .before .before .before .before .before .before .before .before .pre .0 .readable 0 (omega arith), c .before .before .before .before .before .before .before .before .before .pre .0 .readable 1 (omega arith), c .before .before .before .before .before .before .before .before .before .pre .0 .readable 4 (omega arith), c .before .before .before .before .before .before .before .before .before .pre .0 .readable 5 (omega arith), omega (arith, c .before .before .before .before .before .before .before .before .before .pre .0 .axes .horizontal .sized .base-high), omega arith)
 
 quadrant-made-requires-2 : tie.Need-quadrant-made-requires-2
-quadrant-made-requires-2 c κs = (readable-at (c .before .before .before .before .before .before .before .before .before .before .pre .0 .readable) 2 (omega arith), readable-at (c .before .before .before .before .before .before .before .before .before .before .pre .0 .readable) 3 (omega arith), readable-at (c .before .before .before .before .before .before .before .before .before .before .pre .0 .readable) 6 (omega arith), readable-at (c .before .before .before .before .before .before .before .before .before .before .pre .0 .readable) 7 (omega arith), omega (arith, c .before .before .before .before .before .before .before .before .before .before .pre .0 .horizontal .sized .base-high), omega arith)
+quadrant-made-requires-2 c κs = (c .before .before .before .before .before .before .before .before .before .before .pre .0 .readable 2 (omega arith), c .before .before .before .before .before .before .before .before .before .before .pre .0 .readable 3 (omega arith), c .before .before .before .before .before .before .before .before .before .before .pre .0 .readable 6 (omega arith), c .before .before .before .before .before .before .before .before .before .before .pre .0 .readable 7 (omega arith), omega (arith, c .before .before .before .before .before .before .before .before .before .before .pre .0 .axes .horizontal .sized .base-high), omega arith)
 
 quadrant-made-requires-3 : tie.Need-quadrant-made-requires-3
-quadrant-made-requires-3 c κs = (readable-at (c .before .before .before .before .before .before .before .before .before .before .before .pre .0 .readable) 8 (omega arith), readable-at (c .before .before .before .before .before .before .before .before .before .before .before .pre .0 .readable) 9 (omega arith), readable-at (c .before .before .before .before .before .before .before .before .before .before .before .pre .0 .readable) 12 (omega arith), readable-at (c .before .before .before .before .before .before .before .before .before .before .before .pre .0 .readable) 13 (omega arith), omega (arith, c .before .before .before .before .before .before .before .before .before .before .before .pre .0 .horizontal .sized .base-high), omega arith)
+quadrant-made-requires-3 c κs = (c .before .before .before .before .before .before .before .before .before .before .before .pre .0 .readable 8 (omega arith), c .before .before .before .before .before .before .before .before .before .before .before .pre .0 .readable 9 (omega arith), c .before .before .before .before .before .before .before .before .before .before .before .pre .0 .readable 12 (omega arith), c .before .before .before .before .before .before .before .before .before .before .before .pre .0 .readable 13 (omega arith), omega (arith, c .before .before .before .before .before .before .before .before .before .before .before .pre .0 .axes .horizontal .sized .base-high), omega arith)
 
 quadrant-made-requires-4 : tie.Need-quadrant-made-requires-4
-quadrant-made-requires-4 c κs = (readable-at (c .before .before .before .before .before .before .before .before .before .before .before .before .pre .0 .readable) 10 (omega arith), readable-at (c .before .before .before .before .before .before .before .before .before .before .before .before .pre .0 .readable) 11 (omega arith), readable-at (c .before .before .before .before .before .before .before .before .before .before .before .before .pre .0 .readable) 14 (omega arith), readable-at (c .before .before .before .before .before .before .before .before .before .before .before .before .pre .0 .readable) 15 (omega arith), omega (arith, c .before .before .before .before .before .before .before .before .before .before .before .before .pre .0 .horizontal .sized .base-high), omega arith)
+quadrant-made-requires-4 c κs = (c .before .before .before .before .before .before .before .before .before .before .before .before .pre .0 .readable 10 (omega arith), c .before .before .before .before .before .before .before .before .before .before .before .before .pre .0 .readable 11 (omega arith), c .before .before .before .before .before .before .before .before .before .before .before .before .pre .0 .readable 14 (omega arith), c .before .before .before .before .before .before .before .before .before .before .before .before .pre .0 .readable 15 (omega arith), omega (arith, c .before .before .before .before .before .before .before .before .before .before .before .before .pre .0 .axes .horizontal .sized .base-high), omega arith)
 
 copy-requires : tie.Need-copy-requires
 copy-requires c κs = search needs

@@ -1,5 +1,6 @@
 -- `macroblock::write_unused` meets its contract. Assumes nothing.
-use Rattle.macroblock.proofs.Making.{unused-laid}
+use Rattle.definitions.specs.Answer.{unusedMotion}
+use Rattle.definitions.proofs.Records.{laid-alike}
 use mathlib.Core.Path.{_∙_}
 use borrow.Author.Needs.{needs}
 use Rattle.macroblock.proofs.write_unused.Statement.{statement}
@@ -12,7 +13,7 @@ same-length : tie.Need-same-length
 same-length c = search needs
 
 returns : tie.Need-returns
-returns c = c .before .write-record .ensures ∙ unused-laid (c .before .before .before .args .kind)
+returns c = c .before .write-record .ensures ∙ laid-alike (c .before .before .before .args .kind) unusedMotion
 
 pub write-unused-spec : {M : Type 1} → statement M
 write-unused-spec = tie.close (tie.spec write-record-requires same-length returns)

@@ -1,6 +1,6 @@
 -- `session::begin_anew` meets its contract. Assumes nothing.
 use Rattle.session.proofs.Handing.{begin-wrong, begin-right}
-use Rattle.upsample.proofs.Within.{checked-accepted, checked-refused}
+use Rattle.geometry.proofs.Verdicts.{checked-accepted, checked-refused}
 use mathlib.Core.Path.{sym, _∙_}
 use borrow.Author.Needs.{needs}
 use Rattle.session.proofs.begin_anew.Statement.{statement}

@@ -1,9 +1,8 @@
 -- `session::stage_of` meets its contract. Assumes nothing.
 use Rattle.session.proofs.Stages.{not-begun, wrong-numbers, right-numbers}
 use Rattle.session.specs.Stage.{stageOf}
-use Rattle.upsample.specs.Staged.{AcceptedAxes}
-use Rattle.upsample.proofs.Within.{checked-accepted, checked-refused}
-use Rattle.geometry.proofs.Verdicts.{checked-valid}
+use Rattle.definitions.specs.Accepted.{AcceptedAxes}
+use Rattle.geometry.proofs.Verdicts.{checked-accepted, checked-refused, checked-valid}
 use mathlib.Core.Path.{sym, ap, subst, _∙_}
 use borrow.Author.Needs.{needs}
 use Rattle.session.proofs.stage_of.Statement.{statement}
@@ -21,7 +20,7 @@ axes-requires c κs = search needs
 stage-in-requires : tie.Need-stage-in-requires
 stage-in-requires c κs =
     let k = checked-valid (c .before .before .before .before .before .before .before .before .args .s .numbers) (c .before .before .g .given .0 .0) (sym (c .before .before .before .before .new .ensures) ∙ c .before .before .g .given .1) in
-    subst AcceptedAxes (sym (c .axes .ensures)) (record { horizontal = k .horizontal; vertical = k .vertical })
+    subst AcceptedAxes (sym (c .axes .ensures)) k
 
 enum-told : tie.Need-enum-told
 enum-told c = search needs

@@ -6,8 +6,9 @@ use native.Mathlib.Omega.{arith}
 use borrow.Author.Needs.{needs}
 use lib.ListN.{length, getD}
 use Rattle.grammar.specs.Machine.{Ev, inList, Sym, first, rest, stateAt, live}
+use Rattle.grammar.specs.Promises.{As}
 use Rattle.grammar.specs.declared.Class.the-variants.{Close, Space}
-use Rattle.grammar.proofs.Steps.{item-end, item-bad, item-letters, item-field, item-shallow, item-of-number, item-of-list, stuck-end, stuck-by, take-step, rest-off}
+use Rattle.grammar.proofs.Steps.{top-end, item-bad, item-letters, item-field, item-shallow, item-of-number, item-of-list, stuck-end, stuck-by, take-step, rest-off}
 use borrow.Fn.Kinds.{In}
 use borrow.Fn.PlainCycle.{Measures, is, falls, and}
 use Rattle.sync_notes.proofs.item.Reads as item
@@ -40,7 +41,9 @@ list-at t = and 1 list-kinds.ps (is 1 list-kinds.ps μ-list t) list.Pre
 abbrev list-below : ℕ → In 1 list-kinds.ps
 list-below t = and 1 list-kinds.ps (falls 1 list-kinds.ps _<_ μ-list t) list.Pre
 
-item-returns : (t : ℕ) → item-lts.Need-returns (
+-- what `item` and `list` may say of the calls that they make
+abbrev item-claims : ℕ → item-lts.Claims
+item-claims t = (
   class-of-reads.Asked,
   class-of-reads.Learnt,
   letters-reads.Asked,
@@ -49,236 +52,84 @@ item-returns : (t : ℕ) → item-lts.Need-returns (
   number-reads.Learnt,
   list-below t,
   list.Post,
-) (item-at t) item.Post
+)
+
+abbrev list-claims : ℕ → list-lts.Claims
+list-claims t = (
+  item-below t,
+  item.Post,
+  class-of-reads.Asked,
+  class-of-reads.Learnt,
+)
+
+item-returns : (t : ℕ) → item-lts.Need-returns (item-claims t) (item-at t) item.Post
 item-returns t c =
     let a = c .before .before .args in
-    λ g k e. item-end (a .s .now) (a .at) (a .depth) g k e (c .if1 .taken) (c .before .before .pre .1)
+    λ g k e. top-end (a .s .now) (a .at) (first (a .depth)) g k e (c .if1 .taken) (c .before .before .pre .1)
 
-item-shared-slice-read-b : (t : ℕ) → item-lts.Need-shared-slice-read-b (
-  class-of-reads.Asked,
-  class-of-reads.Learnt,
-  letters-reads.Asked,
-  letters-reads.Learnt,
-  number-reads.Asked,
-  number-reads.Learnt,
-  list-below t,
-  list.Post,
-) (item-at t) item.Post
+item-shared-slice-read-b : (t : ℕ) → item-lts.Need-shared-slice-read-b (item-claims t) (item-at t) item.Post
 item-shared-slice-read-b t c = search needs
 
-item-class-of-requires : (t : ℕ) → item-lts.Need-class-of-requires (
-  class-of-reads.Asked,
-  class-of-reads.Learnt,
-  letters-reads.Asked,
-  letters-reads.Learnt,
-  number-reads.Asked,
-  number-reads.Learnt,
-  list-below t,
-  list.Post,
-) (item-at t) item.Post
+item-class-of-requires : (t : ℕ) → item-lts.Need-class-of-requires (item-claims t) (item-at t) item.Post
 item-class-of-requires t c κs = search needs
 
-item-enum-told : (t : ℕ) → item-lts.Need-enum-told (
-  class-of-reads.Asked,
-  class-of-reads.Learnt,
-  letters-reads.Asked,
-  letters-reads.Learnt,
-  number-reads.Asked,
-  number-reads.Learnt,
-  list-below t,
-  list.Post,
-) (item-at t) item.Post
+item-enum-told : (t : ℕ) → item-lts.Need-enum-told (item-claims t) (item-at t) item.Post
 item-enum-told t c = search needs
 
-item-add-letters : (t : ℕ) → item-lts.Need-add-letters (
-  class-of-reads.Asked,
-  class-of-reads.Learnt,
-  letters-reads.Asked,
-  letters-reads.Learnt,
-  number-reads.Asked,
-  number-reads.Learnt,
-  list-below t,
-  list.Post,
-) (item-at t) item.Post
+item-add-letters : (t : ℕ) → item-lts.Need-add-letters (item-claims t) (item-at t) item.Post
 item-add-letters t c = search needs
 
-item-letters-requires : (t : ℕ) → item-lts.Need-letters-requires (
-  class-of-reads.Asked,
-  class-of-reads.Learnt,
-  letters-reads.Asked,
-  letters-reads.Learnt,
-  number-reads.Asked,
-  number-reads.Learnt,
-  list-below t,
-  list.Post,
-) (item-at t) item.Post
+item-letters-requires : (t : ℕ) → item-lts.Need-letters-requires (item-claims t) (item-at t) item.Post
 item-letters-requires t c κs = search needs
 
-item-number-requires : (t : ℕ) → item-lts.Need-number-requires (
-  class-of-reads.Asked,
-  class-of-reads.Learnt,
-  letters-reads.Asked,
-  letters-reads.Learnt,
-  number-reads.Asked,
-  number-reads.Learnt,
-  list-below t,
-  list.Post,
-) (item-at t) item.Post
+item-number-requires : (t : ℕ) → item-lts.Need-number-requires (item-claims t) (item-at t) item.Post
 item-number-requires t c κs = search needs
 
-item-enum-known-n : (t : ℕ) → item-lts.Need-enum-known-n (
-  class-of-reads.Asked,
-  class-of-reads.Learnt,
-  letters-reads.Asked,
-  letters-reads.Learnt,
-  number-reads.Asked,
-  number-reads.Learnt,
-  list-below t,
-  list.Post,
-) (item-at t) item.Post
+item-enum-known-n : (t : ℕ) → item-lts.Need-enum-known-n (item-claims t) (item-at t) item.Post
 item-enum-known-n t c = search needs
 
-item-enum-known-n-2 : (t : ℕ) → item-lts.Need-enum-known-n-2 (
-  class-of-reads.Asked,
-  class-of-reads.Learnt,
-  letters-reads.Asked,
-  letters-reads.Learnt,
-  number-reads.Asked,
-  number-reads.Learnt,
-  list-below t,
-  list.Post,
-) (item-at t) item.Post
+item-enum-known-n-2 : (t : ℕ) → item-lts.Need-enum-known-n-2 (item-claims t) (item-at t) item.Post
 item-enum-known-n-2 t c = search needs
 
-item-enum-told-2 : (t : ℕ) → item-lts.Need-enum-told-2 (
-  class-of-reads.Asked,
-  class-of-reads.Learnt,
-  letters-reads.Asked,
-  letters-reads.Learnt,
-  number-reads.Asked,
-  number-reads.Learnt,
-  list-below t,
-  list.Post,
-) (item-at t) item.Post
+item-enum-told-2 : (t : ℕ) → item-lts.Need-enum-told-2 (item-claims t) (item-at t) item.Post
 item-enum-told-2 t c = search needs
 
-item-returns-2 : (t : ℕ) → item-lts.Need-returns-2 (
-  class-of-reads.Asked,
-  class-of-reads.Learnt,
-  letters-reads.Asked,
-  letters-reads.Learnt,
-  number-reads.Asked,
-  number-reads.Learnt,
-  list-below t,
-  list.Post,
-) (item-at t) item.Post
+item-returns-2 : (t : ℕ) → item-lts.Need-returns-2 (item-claims t) (item-at t) item.Post
 item-returns-2 t c =
     let a = c .before .before .before .before .before .before .before .args in
     λ g k e. item-shallow (a .s .now) (a .at) (a .depth) g k e _ (c .before .before .before .class-of .ensures) (c .before .before .before .before .before .before .before .pre .1) (c .before .enum-told2 .given .1) (c .if2 .taken)
 
-item-add-list : (t : ℕ) → item-lts.Need-add-list (
-  class-of-reads.Asked,
-  class-of-reads.Learnt,
-  letters-reads.Asked,
-  letters-reads.Learnt,
-  number-reads.Asked,
-  number-reads.Learnt,
-  list-below t,
-  list.Post,
-) (item-at t) item.Post
+item-add-list : (t : ℕ) → item-lts.Need-add-list (item-claims t) (item-at t) item.Post
 item-add-list t c = search needs
 
-item-sub-list : (t : ℕ) → item-lts.Need-sub-list (
-  class-of-reads.Asked,
-  class-of-reads.Learnt,
-  letters-reads.Asked,
-  letters-reads.Learnt,
-  number-reads.Asked,
-  number-reads.Learnt,
-  list-below t,
-  list.Post,
-) (item-at t) item.Post
+item-sub-list : (t : ℕ) → item-lts.Need-sub-list (item-claims t) (item-at t) item.Post
 item-sub-list t c = search needs
 
-item-list-requires : (t : ℕ) → item-lts.Need-list-requires (
-  class-of-reads.Asked,
-  class-of-reads.Learnt,
-  letters-reads.Asked,
-  letters-reads.Learnt,
-  number-reads.Asked,
-  number-reads.Learnt,
-  list-below t,
-  list.Post,
-) (item-at t) item.Post
+item-list-requires : (t : ℕ) → item-lts.Need-list-requires (item-claims t) (item-at t) item.Post
 item-list-requires t c κs = search needs
 
-item-returns-3 : (t : ℕ) → item-lts.Need-returns-3 (
-  class-of-reads.Asked,
-  class-of-reads.Learnt,
-  letters-reads.Asked,
-  letters-reads.Learnt,
-  number-reads.Asked,
-  number-reads.Learnt,
-  list-below t,
-  list.Post,
-) (item-at t) item.Post
+item-returns-3 : (t : ℕ) → item-lts.Need-returns-3 (item-claims t) (item-at t) item.Post
 item-returns-3 t c =
     let a = c .before .before .before .before .before .before .before .args in
     let w = c .letters .ensures in
     (omega arith, w .within, λ g k e. w .so (a .depth) g k (item-letters (a .s .now) (a .at) (a .depth) g k e _ (c .before .before .before .class-of .ensures) (c .before .before .before .before .before .if1 .left) (c .before .enum-told .given .1)))
 
-item-returns-4 : (t : ℕ) → item-lts.Need-returns-4 (
-  class-of-reads.Asked,
-  class-of-reads.Learnt,
-  letters-reads.Asked,
-  letters-reads.Learnt,
-  number-reads.Asked,
-  number-reads.Learnt,
-  list-below t,
-  list.Post,
-) (item-at t) item.Post
+item-returns-4 : (t : ℕ) → item-lts.Need-returns-4 (item-claims t) (item-at t) item.Post
 item-returns-4 t c =
     let a = c .before .before .before .before .before .before .before .before .before .args in
     item-of-number (a .s .now) (a .at) (a .depth) _ (c .before .before .before .before .before .class-of .ensures) (c .before .before .before .before .match .keys2) (c .before .n .given .0 .0) (c .before .n .given .0 .1 .0) (rw (c .before .n .given .1) at (c .before .before .before .number .ensures))
 
-item-returns-5 : (t : ℕ) → item-lts.Need-returns-5 (
-  class-of-reads.Asked,
-  class-of-reads.Learnt,
-  letters-reads.Asked,
-  letters-reads.Learnt,
-  number-reads.Asked,
-  number-reads.Learnt,
-  list-below t,
-  list.Post,
-) (item-at t) item.Post
+item-returns-5 : (t : ℕ) → item-lts.Need-returns-5 (item-claims t) (item-at t) item.Post
 item-returns-5 t c =
     let a = c .before .before .before .before .before .before .before .before .before .args in
     λ g k e. (rw (c .before .n2 .given .1) at (c .before .before .before .number .ensures)) (inList (a .depth)) g k (item-field (a .s .now) (a .at) (a .depth) g k e _ (c .before .before .before .before .before .class-of .ensures) (c .before .before .before .before .match .keys2))
 
-item-returns-6 : (t : ℕ) → item-lts.Need-returns-6 (
-  class-of-reads.Asked,
-  class-of-reads.Learnt,
-  letters-reads.Asked,
-  letters-reads.Learnt,
-  number-reads.Asked,
-  number-reads.Learnt,
-  list-below t,
-  list.Post,
-) (item-at t) item.Post
+item-returns-6 : (t : ℕ) → item-lts.Need-returns-6 (item-claims t) (item-at t) item.Post
 item-returns-6 t c =
     let a = c .before .before .before .before .before .before .before .before .args in
     item-of-list (a .s .now) (a .at) (a .depth) _ (c .before .before .before .before .class-of .ensures) (c .before .before .before .before .before .before .if1 .left) (c .before .before .enum-told2 .given .1) (c .before .if2 .left) (c .list .result) (c .list .ensures)
 
-item-returns-7 : (t : ℕ) → item-lts.Need-returns-7 (
-  class-of-reads.Asked,
-  class-of-reads.Learnt,
-  letters-reads.Asked,
-  letters-reads.Learnt,
-  number-reads.Asked,
-  number-reads.Learnt,
-  list-below t,
-  list.Post,
-) (item-at t) item.Post
+item-returns-7 : (t : ℕ) → item-lts.Need-returns-7 (item-claims t) (item-at t) item.Post
 item-returns-7 t c =
     let a = c .before .before .before .before .before .args in
     λ g k e. item-bad (a .s .now) (a .at) (a .depth) g k e _ (c .before .class-of .ensures) (c .before .before .before .before .before .pre .1) (c .match .keys4)
@@ -290,193 +141,87 @@ list-Inv-loop s at depth p₀ p =
 abbrev list-μ-loop : list-lts.MeasureT-loop
 list-μ-loop s at depth p₀ p = length s - p
 
-list-loop-holds : (t : ℕ) → list-lts.Need-loop-holds (
-  item-below t,
-  item.Post,
-  class-of-reads.Asked,
-  class-of-reads.Learnt,
-) (list-at t) list.Post list-Inv-loop list-μ-loop
+list-loop-holds : (t : ℕ) → list-lts.Need-loop-holds (list-claims t) (list-at t) list.Post list-Inv-loop list-μ-loop
 list-loop-holds t c = (omega arith, c .before .pre .1, λ g k e. e)
 
-list-item-requires : (t : ℕ) → list-lts.Need-item-requires (
-  item-below t,
-  item.Post,
-  class-of-reads.Asked,
-  class-of-reads.Learnt,
-) (list-at t) list.Post list-Inv-loop list-μ-loop
+list-item-requires : (t : ℕ) → list-lts.Need-item-requires (list-claims t) (list-at t) list.Post list-Inv-loop list-μ-loop
 list-item-requires t c κs = search needs
 
-list-enum-known-i : (t : ℕ) → list-lts.Need-enum-known-i (
-  item-below t,
-  item.Post,
-  class-of-reads.Asked,
-  class-of-reads.Learnt,
-) (list-at t) list.Post list-Inv-loop list-μ-loop
+list-enum-known-i : (t : ℕ) → list-lts.Need-enum-known-i (list-claims t) (list-at t) list.Post list-Inv-loop list-μ-loop
 list-enum-known-i t c = search needs
 
-list-returns : (t : ℕ) → list-lts.Need-returns (
-  item-below t,
-  item.Post,
-  class-of-reads.Asked,
-  class-of-reads.Learnt,
-) (list-at t) list.Post list-Inv-loop list-μ-loop
-list-returns t c =
-    let a = c .before .before .before .before .before .before .before .before .args in
-    let l = c .before .before .before .before .before .before .loop in
-    let e = c .before .before .i .given .0 .0 in
-    let w = rw (c .before .before .i .given .1) at (c .before .before .before .before .item .ensures) in
-    λ g k h. stuck-end (a .s .now) e g (rest (a .depth) ∷ k) (w .2 g k (l .inv .2 g k h)) (c .if1 .taken) (w .1)
+-- the item of this round: it ends further on, in the text, and the list goes on there
+list-round : (t : ℕ) (c : list-lts.After-i (list-claims t) (list-at t) list.Post list-Inv-loop list-μ-loop) → (c .before .before .before .before .loop .p < c .i .given .0 .0) × (c .i .given .0 .0 ≤ length (c .before .before .before .before .before .before .args .s .now)) × ((g : List Ev) (k : List Sym) → stateAt (c .before .before .before .before .before .before .args .s .now) (c .before .before .before .before .before .before .args .at) ≡ live g (first (c .before .before .before .before .before .before .args .depth) ∷ k) → As (c .before .before .before .before .before .before .args .s .now) (c .i .given .0 .0) g (rest (c .before .before .before .before .before .before .args .depth) ∷ k))
+list-round t c =
+    let w = rw (c .i .given .1) at (c .before .before .item .ensures) in
+    (w .0, w .1, λ g k h. w .2 g k (c .before .before .before .before .loop .inv .2 g k h))
 
-list-shared-slice-read-b : (t : ℕ) → list-lts.Need-shared-slice-read-b (
-  item-below t,
-  item.Post,
-  class-of-reads.Asked,
-  class-of-reads.Learnt,
-) (list-at t) list.Post list-Inv-loop list-μ-loop
+list-returns : (t : ℕ) → list-lts.Need-returns (list-claims t) (list-at t) list.Post list-Inv-loop list-μ-loop
+list-returns t c =
+    let i = c .before .before in
+    let a = i .before .before .before .before .before .before .args in
+    let w = list-round t i in
+    λ g k h. stuck-end (a .s .now) (i .i .given .0 .0) g (rest (a .depth) ∷ k) (w .2 g k h) (c .if1 .taken) (w .1)
+
+list-shared-slice-read-b : (t : ℕ) → list-lts.Need-shared-slice-read-b (list-claims t) (list-at t) list.Post list-Inv-loop list-μ-loop
 list-shared-slice-read-b t c = search needs
 
-list-class-of-requires : (t : ℕ) → list-lts.Need-class-of-requires (
-  item-below t,
-  item.Post,
-  class-of-reads.Asked,
-  class-of-reads.Learnt,
-) (list-at t) list.Post list-Inv-loop list-μ-loop
+list-class-of-requires : (t : ℕ) → list-lts.Need-class-of-requires (list-claims t) (list-at t) list.Post list-Inv-loop list-μ-loop
 list-class-of-requires t c κs = search needs
 
-list-enum-told : (t : ℕ) → list-lts.Need-enum-told (
-  item-below t,
-  item.Post,
-  class-of-reads.Asked,
-  class-of-reads.Learnt,
-) (list-at t) list.Post list-Inv-loop list-μ-loop
+list-enum-told : (t : ℕ) → list-lts.Need-enum-told (list-claims t) (list-at t) list.Post list-Inv-loop list-μ-loop
 list-enum-told t c = search needs
 
-list-add-t16 : (t : ℕ) → list-lts.Need-add-t16 (
-  item-below t,
-  item.Post,
-  class-of-reads.Asked,
-  class-of-reads.Learnt,
-) (list-at t) list.Post list-Inv-loop list-μ-loop
-list-add-t16 t c =
-    let a = c .before .before .before .before .before .before .before .before .before .before .before .before .args in
-    let l = c .before .before .before .before .before .before .before .before .before .before .loop in
-    let e = c .before .before .before .before .before .before .i .given .0 .0 in
-    let w = rw (c .before .before .before .before .before .before .i .given .1) at (c .before .before .before .before .before .before .before .before .item .ensures) in
-    omega arith
+list-add-t16 : (t : ℕ) → list-lts.Need-add-t16 (list-claims t) (list-at t) list.Post list-Inv-loop list-μ-loop
+list-add-t16 t c = let w = list-round t (c .before .before .before .before .before .before) in omega arith
 
-list-returns-2 : (t : ℕ) → list-lts.Need-returns-2 (
-  item-below t,
-  item.Post,
-  class-of-reads.Asked,
-  class-of-reads.Learnt,
-) (list-at t) list.Post list-Inv-loop list-μ-loop
+list-returns-2 : (t : ℕ) → list-lts.Need-returns-2 (list-claims t) (list-at t) list.Post list-Inv-loop list-μ-loop
 list-returns-2 t c =
-    let a = c .before .before .before .before .before .before .before .before .before .before .before .before .args in
-    let l = c .before .before .before .before .before .before .before .before .before .before .loop in
-    let e = c .before .before .before .before .before .before .i .given .0 .0 in
-    let w = rw (c .before .before .before .before .before .before .i .given .1) at (c .before .before .before .before .before .before .before .before .item .ensures) in
-    (omega arith, omega arith, λ g k h. take-step (a .s .now) e g (rest (a .depth)) k (w .2 g k (l .inv .2 g k h)) (c .before .before .before .before .if1 .left) Close (sym (c .enum-told .given .1) ∙ c .before .before .class-of .ensures))
+    let i = c .before .before .before .before .before .before in
+    let a = i .before .before .before .before .before .before .args in
+    let w = list-round t i in
+    (omega arith, omega arith, λ g k h. take-step (a .s .now) (i .i .given .0 .0) g (rest (a .depth)) k (w .2 g k h) (c .before .before .before .before .if1 .left) Close (sym (c .enum-told .given .1) ∙ c .before .before .class-of .ensures))
 
-list-enum-told-2 : (t : ℕ) → list-lts.Need-enum-told-2 (
-  item-below t,
-  item.Post,
-  class-of-reads.Asked,
-  class-of-reads.Learnt,
-) (list-at t) list.Post list-Inv-loop list-μ-loop
+list-enum-told-2 : (t : ℕ) → list-lts.Need-enum-told-2 (list-claims t) (list-at t) list.Post list-Inv-loop list-μ-loop
 list-enum-told-2 t c = search needs
 
-list-add-p : (t : ℕ) → list-lts.Need-add-p (
-  item-below t,
-  item.Post,
-  class-of-reads.Asked,
-  class-of-reads.Learnt,
-) (list-at t) list.Post list-Inv-loop list-μ-loop
-list-add-p t c =
-    let a = c .before .before .before .before .before .before .before .before .before .before .before .before .args in
-    let l = c .before .before .before .before .before .before .before .before .before .before .loop in
-    let e = c .before .before .before .before .before .before .i .given .0 .0 in
-    let w = rw (c .before .before .before .before .before .before .i .given .1) at (c .before .before .before .before .before .before .before .before .item .ensures) in
-    omega arith
+list-add-p : (t : ℕ) → list-lts.Need-add-p (list-claims t) (list-at t) list.Post list-Inv-loop list-μ-loop
+list-add-p t c = let w = list-round t (c .before .before .before .before .before .before) in omega arith
 
-list-loop-less : (t : ℕ) → list-lts.Need-loop-less (
-  item-below t,
-  item.Post,
-  class-of-reads.Asked,
-  class-of-reads.Learnt,
-) (list-at t) list.Post list-Inv-loop list-μ-loop
-list-loop-less t c =
-    let a = c .before .before .before .before .before .before .before .before .before .before .before .before .args in
-    let l = c .before .before .before .before .before .before .before .before .before .before .loop in
-    let e = c .before .before .before .before .before .before .i .given .0 .0 in
-    let w = rw (c .before .before .before .before .before .before .i .given .1) at (c .before .before .before .before .before .before .before .before .item .ensures) in
-    omega arith
+list-loop-less : (t : ℕ) → list-lts.Need-loop-less (list-claims t) (list-at t) list.Post list-Inv-loop list-μ-loop
+list-loop-less t c = let w = list-round t (c .before .before .before .before .before .before) in omega arith
 
-list-loop-again : (t : ℕ) → list-lts.Need-loop-again (
-  item-below t,
-  item.Post,
-  class-of-reads.Asked,
-  class-of-reads.Learnt,
-) (list-at t) list.Post list-Inv-loop list-μ-loop
+list-loop-again : (t : ℕ) → list-lts.Need-loop-again (list-claims t) (list-at t) list.Post list-Inv-loop list-μ-loop
 list-loop-again t c =
-    let a = c .before .before .before .before .before .before .before .before .before .before .before .before .args in
-    let l = c .before .before .before .before .before .before .before .before .before .before .loop in
-    let e = c .before .before .before .before .before .before .i .given .0 .0 in
-    let w = rw (c .before .before .before .before .before .before .i .given .1) at (c .before .before .before .before .before .before .before .before .item .ensures) in
-    (omega arith, omega arith, λ g k h. take-step (a .s .now) e g (rest (a .depth)) k (w .2 g k (l .inv .2 g k h)) (c .before .before .before .before .if1 .left) Space (sym (c .enum-told2 .given .1) ∙ c .before .before .class-of .ensures))
+    let i = c .before .before .before .before .before .before in
+    let a = i .before .before .before .before .before .before .args in
+    let w = list-round t i in
+    (omega arith, omega arith, λ g k h. take-step (a .s .now) (i .i .given .0 .0) g (rest (a .depth)) k (w .2 g k h) (c .before .before .before .before .if1 .left) Space (sym (c .enum-told2 .given .1) ∙ c .before .before .class-of .ensures))
 
-list-returns-3 : (t : ℕ) → list-lts.Need-returns-3 (
-  item-below t,
-  item.Post,
-  class-of-reads.Asked,
-  class-of-reads.Learnt,
-) (list-at t) list.Post list-Inv-loop list-μ-loop
+list-returns-3 : (t : ℕ) → list-lts.Need-returns-3 (list-claims t) (list-at t) list.Post list-Inv-loop list-μ-loop
 list-returns-3 t c =
-    let a = c .before .before .before .before .before .before .before .before .before .before .before .args in
-    let l = c .before .before .before .before .before .before .before .before .before .loop in
-    let e = c .before .before .before .before .before .i .given .0 .0 in
-    let w = rw (c .before .before .before .before .before .i .given .1) at (c .before .before .before .before .before .before .before .item .ensures) in
-    λ g k h. stuck-by (a .s .now) e g (rest (a .depth)) k (w .2 g k (l .inv .2 g k h)) (w .1) (c .before .class-of .result) (c .before .class-of .ensures) (rest-off (a .depth) (getD (a .s .now) e 0) (c .before .class-of .result) (c .match2 .keys3))
+    let i = c .before .before .before .before .before in
+    let a = i .before .before .before .before .before .before .args in
+    let w = list-round t i in
+    let d = c .before .class-of in
+    λ g k h. stuck-by (a .s .now) (i .i .given .0 .0) g (rest (a .depth)) k (w .2 g k h) (w .1) (d .result) (d .ensures) (rest-off (a .depth) (getD (a .s .now) (i .i .given .0 .0) 0) (d .result) (c .match2 .keys3))
 
-list-enum-known-i-2 : (t : ℕ) → list-lts.Need-enum-known-i-2 (
-  item-below t,
-  item.Post,
-  class-of-reads.Asked,
-  class-of-reads.Learnt,
-) (list-at t) list.Post list-Inv-loop list-μ-loop
+list-enum-known-i-2 : (t : ℕ) → list-lts.Need-enum-known-i-2 (list-claims t) (list-at t) list.Post list-Inv-loop list-μ-loop
 list-enum-known-i-2 t c = search needs
 
-list-returns-4 : (t : ℕ) → list-lts.Need-returns-4 (
-  item-below t,
-  item.Post,
-  class-of-reads.Asked,
-  class-of-reads.Learnt,
-) (list-at t) list.Post list-Inv-loop list-μ-loop
+list-returns-4 : (t : ℕ) → list-lts.Need-returns-4 (list-claims t) (list-at t) list.Post list-Inv-loop list-μ-loop
 list-returns-4 t c =
     let l = c .before .before .before .before .before .loop in
     λ g k h. (rw (c .before .i2 .given .1) at (c .before .before .before .item .ensures)) g k (l .inv .2 g k h)
 
-list-returns-5 : (t : ℕ) → list-lts.Need-returns-5 (
-  item-below t,
-  item.Post,
-  class-of-reads.Asked,
-  class-of-reads.Learnt,
-) (list-at t) list.Post list-Inv-loop list-μ-loop
+list-returns-5 : (t : ℕ) → list-lts.Need-returns-5 (list-claims t) (list-at t) list.Post list-Inv-loop list-μ-loop
 list-returns-5 t c =
     let a = c .before .before .before .args in
     let l = c .before .loop in
-    λ g k h. item-end (a .s .now) (l .p) (a .depth) g k (l .inv .2 g k h) (c .loop-test .left) (l .inv .1)
+    λ g k h. top-end (a .s .now) (l .p) (first (a .depth)) g k (l .inv .2 g k h) (c .loop-test .left) (l .inv .1)
 
 pub +item+list-spec : {M : Type 1} → statement M
-+item+list-spec = close μ-item μ-list (λ t. item-lts.spec (
-  class-of-reads.Asked,
-  class-of-reads.Learnt,
-  letters-reads.Asked,
-  letters-reads.Learnt,
-  number-reads.Asked,
-  number-reads.Learnt,
-  list-below t,
-  list.Post,
-)
++item+list-spec = close μ-item μ-list (λ t. item-lts.spec (item-claims t)
     (item-at t)
     item.Post
     (item-returns t)
@@ -499,7 +244,7 @@ pub +item+list-spec : {M : Type 1} → statement M
     (item-returns-6 t)
     (item-returns-7 t))
     λ t. list-lts.spec
-    (item-below t, item.Post, class-of-reads.Asked, class-of-reads.Learnt)
+    (list-claims t)
     (list-at t)
     list.Post
     list-Inv-loop

@@ -1,6 +1,7 @@
 -- `sync_notes::rest_of` meets its contract. Assumes nothing.
 use native.Mathlib.Omega.{arith}
-use Rattle.grammar.proofs.Steps.{rest-end, rest-bad, rest-shut, rest-list}
+use Rattle.grammar.specs.Machine.{rest}
+use Rattle.grammar.proofs.Steps.{top-end, rest-bad, rest-shut, rest-list}
 use borrow.Author.Needs.{needs}
 use Rattle.sync_notes.proofs.rest_of.Statement.{statement}
 use Rattle.sync_notes.proofs.rest_of.Tie as tie
@@ -8,7 +9,7 @@ use Rattle.sync_notes.proofs.rest_of.Tie as tie
 returns : tie.Need-returns
 returns c =
     let a = c .before .before .args in
-    λ g k e. rest-end (a .s .now) (a .at) (a .depth) g k e (c .if1 .taken) (c .before .before .pre)
+    λ g k e. top-end (a .s .now) (a .at) (rest (a .depth)) g k e (c .if1 .taken) (c .before .before .pre)
 
 shared-slice-read-b : tie.Need-shared-slice-read-b
 shared-slice-read-b c = search needs

@@ -2,15 +2,15 @@
 use mathlib.Core.Path.{refl}
 use mathlib.Core.Bool.{true}
 use native.Mathlib.Omega.{arith}
-use Rattle.grammar.specs.Machine.{figures}
+use Rattle.grammar.specs.Machine.{dashed, figures}
 use Rattle.grammar.proofs.Signs.{pos-fits, neg-fits, neg-is16, neg-fits16}
-use Rattle.grammar.proofs.Steps.{nonzero-of, dashed-end, dashed-go, dashed-bad}
+use Rattle.grammar.proofs.Steps.{nonzero-of, top-end, dashed-go, dashed-bad}
 use borrow.Author.Needs.{needs}
 use Rattle.sync_numbers.proofs.dashed.Statement.{statement}
 use Rattle.sync_numbers.proofs.dashed.Tie as tie
 
 returns : tie.Need-returns
-returns c = λ f g k e. dashed-end _ _ f g k e (c .if1 .taken) (c .before .before .pre)
+returns c = λ f g k e. top-end _ _ (dashed f) g k e (c .if1 .taken) (c .before .before .pre)
 
 shared-slice-read-b : tie.Need-shared-slice-read-b
 shared-slice-read-b c = search needs
@@ -44,14 +44,12 @@ cast-t18 c =
 sub-t19 : tie.Need-sub-t19
 sub-t19 c =
     let w = rw (c .before .f .given .1) at (c .before .before .before .figures .ensures) in
-    let t = c .before .before .before .before in
-    neg-fits _ (omega (arith, nonzero-of _ _ (t .before .before .class-of .ensures) (t .enum-told .given .1))) (w .3)
+    neg-fits _ (w .3)
 
 cast-t20 : tie.Need-cast-t20
 cast-t20 c =
     let w = rw (c .before .f .given .1) at (c .before .before .before .figures .ensures) in
-    let t = c .before .before .before .before in
-    neg-fits16 _ (omega (arith, nonzero-of _ _ (t .before .before .class-of .ensures) (t .enum-told .given .1))) (w .3)
+    neg-fits16 _ (w .3)
 
 enum-known-f-2 : tie.Need-enum-known-f-2
 enum-known-f-2 c = search needs
@@ -60,7 +58,7 @@ returns-2 : tie.Need-returns-2
 returns-2 c =
     let w = rw (c .before .f .given .1) at (c .before .before .before .figures .ensures) in
     let t = c .before .before .before .before in
-    (omega arith, w .1, λ f g k e. rw (neg-is16 _ (omega (arith, nonzero-of _ _ (t .before .before .class-of .ensures) (t .enum-told .given .1))) (w .3)) (w .4 true f g k refl (dashed-go _ _ f g k e _ (t .before .before .class-of .ensures) (t .before .before .before .before .if1 .left) (t .enum-told .given .1))))
+    (omega arith, w .1, λ f g k e. rw (neg-is16 _ (w .3)) (w .4 true f g k refl (dashed-go _ _ f g k e _ (t .before .before .class-of .ensures) (t .before .before .before .before .if1 .left) (t .enum-told .given .1))))
 
 returns-3 : tie.Need-returns-3
 returns-3 c =

@@ -1,11 +1,12 @@
 -- `sync_numbers::field` meets its contract. Assumes nothing.
 use mathlib.Core.Path.{_≡_}
+use mathlib.Core.Bool.{true, false}
 use native.Mathlib.Omega.{arith}
-use Rattle.grammar.specs.Machine.{gap, shut}
+use Rattle.grammar.specs.Machine.{gap, shut, field}
 use mir.Syntax.{w16}
 use mir.Val.{toZ, ofZ}
 use Rattle.grammar.specs.Promises.{followOf}
-use Rattle.grammar.proofs.Steps.{field-as, closes-end, shut-go, shut-bad, gap-go, gap-bad}
+use Rattle.grammar.proofs.Steps.{top-as, closes-end, part-go, part-bad}
 use borrow.Author.Needs.{needs}
 use Rattle.sync_numbers.proofs.field.Statement.{statement}
 use Rattle.sync_numbers.proofs.field.Tie as tie
@@ -22,7 +23,7 @@ returns c =
     let z = c .before .before .n .given .0 .0 in
     let e = c .before .before .n .given .0 .1 .0 in
     let w = rw (c .before .before .n .given .1) at (c .before .before .before .before .number .ensures) in
-    λ g k h. closes-end (a .s .now) e (followOf (a .last)) z g k (w .2 (followOf (a .last)) g k (field-as (a .s .now) (a .at) (followOf (a .last)) g k h)) (c .if1 .taken) (w .1)
+    λ g k h. closes-end (a .s .now) e (followOf (a .last)) z g k (w .2 (followOf (a .last)) g k (top-as (a .s .now) (a .at) (field (followOf (a .last))) g k h)) (c .if1 .taken) (w .1)
 
 shared-slice-read-b : tie.Need-shared-slice-read-b
 shared-slice-read-b c = search needs
@@ -37,7 +38,7 @@ returns-2 c =
     let e = c .before .before .before .before .before .n .given .0 .1 .0 in
     let w = rw (c .before .before .before .before .before .n .given .1) at (c .before .before .before .before .before .before .before .number .ensures) in
     let q : toZ w16 (ofZ w16 z) ≡ z = search needs in
-    (omega arith, omega arith, λ g k h. rw q (shut-go (a .s .now) e z g k (w .2 shut g k (field-as (a .s .now) (a .at) shut g k (rw (c .before .if2 .taken) at h))) (c .before .before .before .if1 .left) (c .if3 .taken)))
+    (omega arith, omega arith, λ g k h. rw q (part-go (a .s .now) e z g k true (w .2 shut g k (top-as (a .s .now) (a .at) (field shut) g k (rw (c .before .if2 .taken) at h))) (c .before .before .before .if1 .left) (c .if3 .taken)))
 
 returns-3 : tie.Need-returns-3
 returns-3 c =
@@ -45,7 +46,7 @@ returns-3 c =
     let z = c .before .before .before .before .before .n .given .0 .0 in
     let e = c .before .before .before .before .before .n .given .0 .1 .0 in
     let w = rw (c .before .before .before .before .before .n .given .1) at (c .before .before .before .before .before .before .before .number .ensures) in
-    λ g k h. shut-bad (a .s .now) e z g k (w .2 shut g k (field-as (a .s .now) (a .at) shut g k (rw (c .before .if2 .taken) at h))) (w .1) (c .if3 .left)
+    λ g k h. part-bad (a .s .now) e z g k true (w .2 shut g k (top-as (a .s .now) (a .at) (field shut) g k (rw (c .before .if2 .taken) at h))) (w .1) (c .if3 .left)
 
 add-t16 : tie.Need-add-t16
 add-t16 c = search needs
@@ -57,7 +58,7 @@ returns-4 c =
     let e = c .before .before .before .before .before .n .given .0 .1 .0 in
     let w = rw (c .before .before .before .before .before .n .given .1) at (c .before .before .before .before .before .before .before .number .ensures) in
     let q : toZ w16 (ofZ w16 z) ≡ z = search needs in
-    (omega arith, omega arith, λ g k h. rw q (gap-go (a .s .now) e z g k (w .2 gap g k (field-as (a .s .now) (a .at) gap g k (rw (c .before .if2 .left) at h))) (c .before .before .before .if1 .left) (c .if4 .taken)))
+    (omega arith, omega arith, λ g k h. rw q (part-go (a .s .now) e z g k false (w .2 gap g k (top-as (a .s .now) (a .at) (field gap) g k (rw (c .before .if2 .left) at h))) (c .before .before .before .if1 .left) (c .if4 .taken)))
 
 enum-known-n-2 : tie.Need-enum-known-n-2
 enum-known-n-2 c = search needs
@@ -68,12 +69,12 @@ returns-5 c =
     let z = c .before .before .before .before .before .n .given .0 .0 in
     let e = c .before .before .before .before .before .n .given .0 .1 .0 in
     let w = rw (c .before .before .before .before .before .n .given .1) at (c .before .before .before .before .before .before .before .number .ensures) in
-    λ g k h. gap-bad (a .s .now) e z g k (w .2 gap g k (field-as (a .s .now) (a .at) gap g k (rw (c .before .if2 .left) at h))) (w .1) (c .if4 .left)
+    λ g k h. part-bad (a .s .now) e z g k false (w .2 gap g k (top-as (a .s .now) (a .at) (field gap) g k (rw (c .before .if2 .left) at h))) (w .1) (c .if4 .left)
 
 returns-6 : tie.Need-returns-6
 returns-6 c =
     let a = c .before .before .before .before .before .args in
-    λ g k h. (rw (c .before .n2 .given .1) at (c .before .before .before .number .ensures)) (followOf (a .last)) g k (field-as (a .s .now) (a .at) (followOf (a .last)) g k h)
+    λ g k h. (rw (c .before .n2 .given .1) at (c .before .before .before .number .ensures)) (followOf (a .last)) g k (top-as (a .s .now) (a .at) (field (followOf (a .last))) g k h)
 
 pub field-spec : {M : Type 1} → statement M
 field-spec =

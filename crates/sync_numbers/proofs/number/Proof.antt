@@ -1,16 +1,17 @@
 -- `sync_numbers::number` meets its contract. Assumes nothing.
 use mathlib.Core.Path.{refl}
 use mathlib.Core.Bool.{false}
+use mathlib.Core.List.{_∷_}
 use native.Mathlib.Omega.{arith}
-use Rattle.grammar.specs.Machine.{figures}
+use Rattle.grammar.specs.Machine.{field, figures}
 use Rattle.grammar.proofs.Signs.{pos-fits16, pos-is}
-use Rattle.grammar.proofs.Steps.{nonzero-of, number-end, number-bad, number-figures, number-zero, number-dash}
+use Rattle.grammar.proofs.Steps.{stuck-end, nonzero-of, number-bad, number-figures, number-zero, number-dash}
 use borrow.Author.Needs.{needs}
 use Rattle.sync_numbers.proofs.number.Statement.{statement}
 use Rattle.sync_numbers.proofs.number.Tie as tie
 
 returns : tie.Need-returns
-returns c = λ f g k a. number-end _ _ f g k a (c .if1 .taken) (c .before .before .pre)
+returns c = λ f g k a. stuck-end _ _ g (field f ∷ k) a (c .if1 .taken) (c .before .before .pre)
 
 shared-slice-read-b : tie.Need-shared-slice-read-b
 shared-slice-read-b c = search needs

@@ -6,8 +6,9 @@ use native.Mathlib.Omega.{arith}
 use borrow.Author.Needs.{needs}
 use lib.ListN.{length}
 use Rattle.definitions.specs.Text.{Kind}
-use Rattle.grammar.specs.Machine.{Ev, Sym, line, stateAt, live}
-use Rattle.grammar.proofs.Openings.{line-end, line-go, line-bad, opened-end, opened-note, opened-bad, pair-line-of}
+use Rattle.grammar.specs.Machine.{Ev, Sym, line, opened, stateAt, live}
+use Rattle.grammar.proofs.Steps.{top-end}
+use Rattle.grammar.proofs.Openings.{line-go, line-bad, opened-note, opened-bad, pair-line-of}
 use Rattle.sync_read.proofs.pair_line.Statement.{statement}
 use Rattle.sync_read.proofs.pair_line.Tie as tie
 
@@ -37,7 +38,7 @@ returns-2 c =
     let a = c .before .before .before .before .before .before .before .args in
     let l = c .before .before .before .before .loop in
     let t = c .before .before .before .loop-test in
-    λ d g k x h. opened-end (a .s .now) (l .p + 1) g k d (line-go (a .s .now) (l .p) g k d (l .inv .2 d g k h) (t .taken) (c .before .if1 .left)) (c .if2 .taken) (omega arith)
+    λ d g k x h. top-end (a .s .now) (l .p + 1) (opened d) g k (line-go (a .s .now) (l .p) g k d (l .inv .2 d g k h) (t .taken) (c .before .if1 .left)) (c .if2 .taken) (omega arith)
 
 shared-slice-read-b : tie.Need-shared-slice-read-b Inv-loop μ-loop
 shared-slice-read-b c = search needs
@@ -102,7 +103,7 @@ returns-6 : tie.Need-returns-6 Inv-loop μ-loop
 returns-6 c =
     let a = c .before .before .before .before .args in
     let l = c .before .loop in
-    λ d g k x h. line-end (a .s .now) (l .p) g k d (l .inv .2 d g k h) (c .loop-test .left) (l .inv .1)
+    λ d g k x h. top-end (a .s .now) (l .p) (line d) g k (l .inv .2 d g k h) (c .loop-test .left) (l .inv .1)
 
 pub pair-line-spec : {M : Type 1} → statement M
 pair-line-spec =

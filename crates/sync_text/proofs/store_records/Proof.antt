@@ -1,14 +1,15 @@
 -- `sync_text::store_records` meets its contract. Assumes nothing.
 use Rattle.grammar.proofs.Again.{never-stuck, line-begins, letter-there, Held, held-none, held-note, held-room, held-all, held-more}
 use Rattle.grammar.proofs.Openings.{entry-note}
-use Rattle.grammar.specs.Machine.{Ev, flat, stateAt, live}
+use Rattle.grammar.specs.Machine.{Ev, flat, stateAt, live, entry}
+use Rattle.grammar.specs.Promises.{Stuck}
 use Rattle.definitions.specs.Record.{recordWords}
 use lib.ListN.{length}
 use borrow.Author.Needs.{needs}
 use native.Mathlib.Omega.{arith}
-use mathlib.Core.List.{List, [], _++_}
+use mathlib.Core.List.{List, [], _∷_, _++_}
 use mathlib.Core.Path.{_≡_, refl, _∙_}
-use Prim.Native.Nat.{_≤_, _-_, _+_}
+use Prim.Native.Nat.{ℕ, _≤_, _<_, _-_, _+_}
 use Rattle.sync_text.proofs.store_records.Statement.{statement}
 use Rattle.sync_text.proofs.store_records.Tie as tie
 
@@ -21,40 +22,43 @@ abbrev μ-loop : tie.MeasureT-loop
 loop-holds : tie.Need-loop-holds Inv-loop μ-loop
 loop-holds c = (c .before .pre .lines .within, refl, λ g h. held-none _ _ g _ h)
 
+-- while a line is left, its letter is there, and after any events told so far the line begins
+module _ (c : tie.In-loop Inv-loop μ-loop) where
+  there : c .before .loop .p + 1 < length (c .before .before .before .args .s .now)
+  there =
+      let r = c .before .before .before .pre in
+      let w = c .before .loop .inv .2 (r .told) (r .lines .begins) in
+      letter-there (c .before .before .before .args .s .now) (r .told ++ flat (r .entries)) (r .lines .ends) (c .before .loop .p) (r .told ++ flat (w .done)) (w .state) (c .loop-test .taken)
+
+  opens : (g : List Ev) (h : stateAt (c .before .before .before .args .s .now) (c .before .before .before .args .at) ≡ live g []) → stateAt (c .before .before .before .args .s .now) (c .before .loop .p + 1) ≡ live (g ++ flat (c .before .loop .inv .2 g h .done)) (entry ∷ [])
+  opens g h =
+      let r = c .before .before .before .pre in
+      let w = c .before .loop .inv .2 g h in
+      line-begins (c .before .before .before .args .s .now) (r .told ++ flat (r .entries)) (r .lines .ends) (c .before .loop .p) (g ++ flat (w .done)) (w .state) (c .loop-test .taken)
+
+-- no line is bad
+never : (c : tie.Start Inv-loop μ-loop) (q : ℕ) → Stuck (c .args .s .now) q → ⊥
+never c = never-stuck (c .args .s .now) (c .pre .told ++ flat (c .pre .entries)) (c .pre .lines .ends)
+
+-- the words of one more record have room
+room : (c : tie.Else1 Inv-loop μ-loop) → c .before .before .before .loop .from + recordWords ≤ length (c .before .before .before .before .before .args .words .now)
+room c =
+    let a = c .before .before .before .before .before .args in
+    let r = c .before .before .before .before .before .pre in
+    let l = c .before .before .before .loop in
+    omega (arith, held-room (a .s .now) (l .p) (r .told) (l .from) (a .words .now) (l .words) (l .inv .2 (r .told) (r .lines .begins)) (r .entries) (r .lines .ends) (c .before .before .loop-test .taken) (c .if1 .left), r .fits)
+
 add-q : tie.Need-add-q Inv-loop μ-loop
 add-q c = search needs
 
 shared-slice-read-b : tie.Need-shared-slice-read-b Inv-loop μ-loop
-shared-slice-read-b c =
-    let a = c .before .before .before .before .args in
-    let r = c .before .before .before .before .pre in
-    let l = c .before .before .loop in
-    let t = c .before .loop-test .taken in
-    let f = r .told ++ flat (r .entries) in
-    let w = l .inv .2 (r .told) (r .lines .begins) in
-    letter-there (a .s .now) f (r .lines .ends) (l .p) (r .told ++ flat (w .done)) (w .state) t
+shared-slice-read-b c = there (c .before)
 
 add-note : tie.Need-add-note Inv-loop μ-loop
-add-note c =
-    let a = c .before .before .before .before .before .args in
-    let r = c .before .before .before .before .before .pre in
-    let l = c .before .before .before .loop in
-    let t = c .before .before .loop-test .taken in
-    let f = r .told ++ flat (r .entries) in
-    let w = l .inv .2 (r .told) (r .lines .begins) in
-    let q = letter-there (a .s .now) f (r .lines .ends) (l .p) (r .told ++ flat (w .done)) (w .state) t in
-    search needs
+add-note c = let q = there (c .before .before) in search needs
 
 note-requires : tie.Need-note-requires Inv-loop μ-loop
-note-requires c κs =
-    let a = c .before .before .before .before .before .args in
-    let r = c .before .before .before .before .before .pre in
-    let l = c .before .before .before .loop in
-    let t = c .before .before .loop-test .taken in
-    let f = r .told ++ flat (r .entries) in
-    let w = l .inv .2 (r .told) (r .lines .begins) in
-    let q = letter-there (a .s .now) f (r .lines .ends) (l .p) (r .told ++ flat (w .done)) (w .state) t in
-    omega arith
+note-requires c κs = let q = there (c .before .before) in omega arith
 
 enum-known-t : tie.Need-enum-known-t Inv-loop μ-loop
 enum-known-t c = search needs
@@ -67,18 +71,15 @@ loop-less c =
 
 loop-again : tie.Need-loop-again Inv-loop μ-loop
 loop-again c =
-    let a = c .before .before .before .before .before .before .before .before .before .args in
-    let r = c .before .before .before .before .before .before .before .before .before .pre in
-    let l = c .before .before .before .before .before .before .before .loop in
-    let t = c .before .before .before .before .before .before .loop-test .taken in
-    let f = r .told ++ flat (r .entries) in
+    let i = c .before .before .before .before .before .before in
+    let a = i .before .before .before .args in
+    let l = i .before .loop in
     let v = rw (c .before .t .given .1) at (c .before .before .before .note .ensures) in (
       v .1,
       l .inv .1,
       λ g h.
           let w = l .inv .2 g h in
-          let o = line-begins (a .s .now) f (r .lines .ends) (l .p) (g ++ flat (w .done)) (w .state) t in
-          let n = entry-note (a .s .now) (l .p + 1) (g ++ flat (w .done)) [] o (letter-there (a .s .now) f (r .lines .ends) (l .p) (g ++ flat (w .done)) (w .state) t) (c .before .before .before .before .if1 .taken) in
+          let n = entry-note (a .s .now) (l .p + 1) (g ++ flat (w .done)) [] (opens i g h) (there i) (c .before .before .before .before .if1 .taken) in
           held-note (a .s .now) (l .p) g (l .from) (a .words .now) (l .words) w _ (v .2 (g ++ flat (w .done)) [] n),
     )
 
@@ -90,42 +91,24 @@ same-length c = c .before .before .before .before .before .before .loop .inv .1
 
 returns : tie.Need-returns Inv-loop μ-loop
 returns c =
-    let a = c .before .before .before .before .before .before .before .before .args in
-    let r = c .before .before .before .before .before .before .before .before .pre in
-    let l = c .before .before .before .before .before .before .loop in
-    let t = c .before .before .before .before .before .loop-test .taken in
-    let f = r .told ++ flat (r .entries) in
-    let g = r .told in
-    let h = r .lines .begins in
-    let w = l .inv .2 g h in
-    let o = line-begins (a .s .now) f (r .lines .ends) (l .p) (g ++ flat (w .done)) (w .state) t in
-    let n = entry-note (a .s .now) (l .p + 1) (g ++ flat (w .done)) [] o (letter-there (a .s .now) f (r .lines .ends) (l .p) (r .told ++ flat (w .done)) (w .state) t) (c .before .before .before .if1 .taken) in
+    let i = c .before .before .before .before .before in
+    let b = i .before .before .before in
+    let g = b .pre .told in
+    let h = b .pre .lines .begins in
+    let w = i .before .loop .inv .2 g h in
+    let n = entry-note (b .args .s .now) (i .before .loop .p + 1) (g ++ flat (w .done)) [] (opens i g h) (there i) (c .before .before .before .if1 .taken) in
     let v = rw (c .enum-told .given .1) at (c .before .before .note .ensures) in
-    absurd (never-stuck (a .s .now) f (r .lines .ends) _ (v (g ++ flat (w .done)) [] n))
+    absurd (never b _ (v (g ++ flat (w .done)) [] n))
 
 record-line-requires : tie.Need-record-line-requires Inv-loop μ-loop
 record-line-requires c κs =
-    let a = c .before .before .before .before .before .before .args in
-    let r = c .before .before .before .before .before .before .pre in
-    let l = c .before .before .before .before .loop in
-    let t = c .before .before .before .loop-test .taken in
-    let f = r .told ++ flat (r .entries) in
-    let w = l .inv .2 (r .told) (r .lines .begins) in
-    (letter-there (a .s .now) f (r .lines .ends) (l .p) (r .told ++ flat (w .done)) (w .state) t, refl, c .before .if1 .left, omega (arith, held-room (a .s .now) (l .p) (r .told) (l .from) (a .words .now) (l .words) w (r .entries) (r .lines .ends) t (c .before .if1 .left), r .fits, l .inv .1))
+    (there (c .before .before .before), refl, c .before .if1 .left, omega (arith, room (c .before), c .before .before .before .before .loop .inv .1))
 
 enum-known-t-2 : tie.Need-enum-known-t-2 Inv-loop μ-loop
 enum-known-t-2 c = search needs
 
 add-from : tie.Need-add-from Inv-loop μ-loop
-add-from c =
-    let a = c .before .before .before .before .before .before .before .before .before .before .before .args in
-    let r = c .before .before .before .before .before .before .before .before .before .before .before .pre in
-    let l = c .before .before .before .before .before .before .before .before .before .loop in
-    let t = c .before .before .before .before .before .before .before .before .loop-test .taken in
-    let f = r .told ++ flat (r .entries) in
-    let w = l .inv .2 (r .told) (r .lines .begins) in
-    let q : l .from + recordWords ≤ length (a .words .now) = omega (arith, held-room (a .s .now) (l .p) (r .told) (l .from) (a .words .now) (l .words) w (r .entries) (r .lines .ends) t (c .before .before .before .before .before .before .if1 .left), r .fits) in
-    search needs
+add-from c = let q = room (c .before .before .before .before .before .before) in search needs
 
 loop-less-2 : tie.Need-loop-less-2 Inv-loop μ-loop
 loop-less-2 c =
@@ -137,20 +120,16 @@ loop-less-2 c =
 
 loop-again-2 : tie.Need-loop-again-2 Inv-loop μ-loop
 loop-again-2 c =
-    let a = c .before .before .before .before .before .before .before .before .before .before .before .args in
-    let r = c .before .before .before .before .before .before .before .before .before .before .before .pre in
-    let l = c .before .before .before .before .before .before .before .before .before .loop in
-    let t = c .before .before .before .before .before .before .before .before .loop-test .taken in
-    let f = r .told ++ flat (r .entries) in
+    let i = c .before .before .before .before .before .before .before .before in
+    let a = i .before .before .before .args in
+    let l = i .before .loop in
     let v = rw (c .before .t2 .given .1) at (c .before .before .before .before .record-line .ensures) in
-    let k : l .from + recordWords ≤ length (l .words) =
-    let w = l .inv .2 (r .told) (r .lines .begins) in omega (arith, held-room (a .s .now) (l .p) (r .told) (l .from) (a .words .now) (l .words) w (r .entries) (r .lines .ends) t (c .before .before .before .before .before .before .if1 .left), r .fits, l .inv .1) in (
+    let k : l .from + recordWords ≤ length (l .words) = omega (arith, room (c .before .before .before .before .before .before), l .inv .1) in (
       v .within,
       c .before .before .before .words .given ∙ l .inv .1,
       λ g h.
           let w = l .inv .2 g h in
-          let o = line-begins (a .s .now) f (r .lines .ends) (l .p) (g ++ flat (w .done)) (w .state) t in
-          held-more (a .s .now) (l .p) g (l .from) (a .words .now) (l .words) w _ (v .one) _ k (v .many) (v .stored) (v .so (g ++ flat (w .done)) [] o),
+          held-more (a .s .now) (l .p) g (l .from) (a .words .now) (l .words) w _ (v .one) _ k (v .many) (v .stored) (v .so (g ++ flat (w .done)) [] (opens i g h)),
     )
 
 enum-told-2 : tie.Need-enum-told-2 Inv-loop μ-loop
@@ -161,17 +140,12 @@ same-length-2 c = c .before .before .words .given ∙ c .before .before .before 
 
 returns-2 : tie.Need-returns-2 Inv-loop μ-loop
 returns-2 c =
-    let a = c .before .before .before .before .before .before .before .before .before .before .args in
-    let r = c .before .before .before .before .before .before .before .before .before .before .pre in
-    let l = c .before .before .before .before .before .before .before .before .loop in
-    let t = c .before .before .before .before .before .before .before .loop-test .taken in
-    let f = r .told ++ flat (r .entries) in
-    let g = r .told in
-    let h = r .lines .begins in
-    let w = l .inv .2 g h in
-    let o = line-begins (a .s .now) f (r .lines .ends) (l .p) (g ++ flat (w .done)) (w .state) t in
+    let i = c .before .before .before .before .before .before .before in
+    let b = i .before .before .before in
+    let g = b .pre .told in
+    let h = b .pre .lines .begins in
     let v = rw (c .enum-told2 .given .1) at (c .before .before .before .record-line .ensures) in
-    absurd (never-stuck (a .s .now) f (r .lines .ends) _ (v .1 (g ++ flat (w .done)) [] o))
+    absurd (never b _ (v .1 (g ++ flat (i .before .loop .inv .2 g h .done)) [] (opens i g h)))
 
 same-length-3 : tie.Need-same-length-3 Inv-loop μ-loop
 same-length-3 c = c .before .loop .inv .1

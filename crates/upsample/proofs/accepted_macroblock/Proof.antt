@@ -1,6 +1,7 @@
 -- `upsample::accepted_macroblock` meets its contract. Assumes nothing.
 use Rattle.upsample.proofs.Staging.{wrong-base, wrong-output, wrong-place, right-place}
-use Rattle.upsample.proofs.Within.{within-natural, within-low}
+use Rattle.definitions.proofs.Demand.{within-low}
+use Rattle.upsample.proofs.Within.{within-natural}
 use Rattle.upsample.specs.Staged.{placedCall}
 use Rattle.definitions.proofs.Choices.{and-true}
 use Rattle.definitions.specs.Calls.{Outcome}

@@ -4,7 +4,8 @@ use borrow.Author.Needs.{needs}
 use mir.Syntax.{w32}
 use mir.Val.{SFits}
 use mir.Facts.{toZ-ofZ, toZ-pos}
-use Rattle.geometry.proofs.Words.{is-negative, is-natural, minus-fits, zero-minus}
+use Rattle.definitions.proofs.Differences.{zero-minus}
+use Rattle.geometry.proofs.Words.{is-negative, is-natural, minus-fits}
 use Rattle.geometry.proofs.sign.with_sign_of.Statement.{statement}
 use Rattle.geometry.proofs.sign.with_sign_of.Tie as tie
 
