@@ -6,12 +6,12 @@ use mathlib.Core.List.{List, [], _∷_, _++_, append-assoc, append-nil}
 use native.Mathlib.Omega.{arith}
 use native.Mathlib.Numerals.{add-one}
 use lib.IntN.{ℤ, pos}
-use lib.ListN.{length, take, drop, getD, set, length-append, length-set, drop-of-length-le}
-use lib.Seq.{sets, sets-eq, length-sets, length-take-le, take-suc-set}
+use lib.ListN.{length, take, getD, set, length-append, length-set}
+use lib.Seq.{sets, length-sets, length-take-le, take-suc-set}
 use Rattle.definitions.specs.Record.{recordWords}
 use Rattle.definitions.specs.Answer.{unusedMotion}
 use Rattle.definitions.specs.Text.{RecordKind, intra, whole, mb, wholeMotion, wordsFor}
-use Rattle.definitions.proofs.Parts.{sets-append}
+use Rattle.definitions.proofs.Parts.{stored-all, sets-append}
 use Rattle.definitions.proofs.Records.{laid-length}
 use Rattle.grammar.specs.declared.Got.{Got}
 use Rattle.grammar.specs.declared.Got.the-variants.{At, Bad}
@@ -35,7 +35,7 @@ behind old from n mid xs new ys many first e =
 told-more : (g : List Ev) (xs ys : List ℤ) → (g ++ nums xs []) ++ nums ys [] ≡ g ++ nums (xs ++ ys) []
 told-more g xs ys = append-assoc g (nums xs []) (nums ys []) ∙ ap (λ (o : List Ev). g ++ o) (nums-append xs ys)
 
--- readers one after another, that store in words of their caller's own: what is in these after a bad byte is of no use
+-- readers one after another, which store in words of their caller's own; after a bad byte nothing is said of these
 abbrev pub ReadsTo : List ℕ → (List Sym → List Sym) → ℕ → ℕ → List ℤ → ℕ → List ℤ → Got → Type 0
 ReadsTo s X n i old from new (At e) = Stored s X n i old from new e
 ReadsTo s X n i old from new (Bad p) = (g : List Ev) (k : List Sym) → stateAt s i ≡ live g (X k) → Stuck s p
@@ -120,7 +120,7 @@ module _ (s : List ℕ) (X : List Sym → List Sym) (n : ℕ) (r : Got) (old : L
   pub then-stores-bad : (p : ℕ) → r ≡ Bad p → ThenStores s X n r old from old (Bad p)
   then-stores-bad p e = record { within = tt; is = rw e (refl, refl) }
 
--- ---- n + 1 numbers and a closing bracket, of which i are read
+-- ---- n + 1 numbers and a closing bracket, of which i are read and stand in words of the reader's own
 step-down : (m : ℕ) → 0 < m → (k : List Sym) → fields m k ≡ field gap ∷ fields (m - 1) k
 step-down zero h k = absurd (omega arith)
 step-down (suc m) h k = ap (λ (x : ℕ). field gap ∷ fields x k) (let q : m ≡ suc m - 1 = omega arith in q)
@@ -212,12 +212,6 @@ intra-tail s i old from new e w t =
       so = λ g k h. t .2 g k h ∙ ap (λ (o : List Ev). live o k) (sym (append-nil g));
     }
 
--- words that are all written over hold what was stored
-filled : (old new found : List ℤ) → length found ≡ length old → new ≡ sets old 0 found → new ≡ found
-filled old new found e w =
-    let d : drop (0 + length found) old ≡ [] = drop-of-length-le old {i = 0 + length found} (omega arith) in
-    w ∙ sets-eq found old 0 (omega arith) ∙ ap (λ (o : List ℤ). found ++ o) d ∙ append-nil found
-
 -- a line's two numbers
 two-numbers : (vs : List ℤ) → length vs ≡ 2 → nums vs [] ≡ num (getD vs 0 (pos 0)) ∷ num (getD vs 1 (pos 0)) ∷ []
 two-numbers [] e = absurd (omega arith)
@@ -229,7 +223,7 @@ pub two-read :
     (s w : List ℕ) (i : ℕ) (zeros two : List ℤ) (e : ℕ) → length zeros ≡ 2 → Stored s (pairOf w) 2 i zeros 0 two e
     → TwoTo s i w (Both (getD two 0 (pos 0)) (getD two 1 (pos 0)) e)
 two-read s w i zeros two e n v =
-    let f : two ≡ v .found = filled zeros two (v .found) (v .many ∙ sym n) (v .stored) in
+    let f : two ≡ v .found = v .stored ∙ stored-all (v .found) zeros (n ∙ sym (v .many)) in
     let t : nums (v .found) [] ≡ num (getD two 0 (pos 0)) ∷ num (getD two 1 (pos 0)) ∷ [] = rw f (two-numbers (v .found) (v .many)) in
     (v .up, v .within, λ g k h. v .so g k h ∙ ap (λ (o : List Ev). live (g ++ o) k) t)
 
@@ -238,7 +232,7 @@ numbers-tail :
     (r : RecordKind) (s : List ℕ) (n i : ℕ) (old : List ℤ) (from : ℕ) (new zeros own : List ℤ) (e : ℕ) → length (wordsFor r own) ≡ recordWords
     → length zeros ≡ n → new ≡ sets old from (wordsFor r own) → Stored s (tail r) n i zeros 0 own e → TailTo r s i old from new (At e)
 numbers-tail r s n i old from new zeros own e many l w v =
-    let f : own ≡ v .found = filled zeros own (v .found) (v .many ∙ sym l) (v .stored) in
+    let f : own ≡ v .found = v .stored ∙ stored-all (v .found) zeros (l ∙ sym (v .many)) in
     record {
       numbers = own;
       many = many;
