@@ -21,7 +21,7 @@ use Rattle.definitions.specs.Geometry.{baseSize, scaledSize, fullSize, o
 use Rattle.definitions.specs.Refusals.{sizeRight, scaledRight, offsetRight, geometryTests, geometryVerdict}
 use Rattle.definitions.specs.Calls.{fullCount}
 use Rattle.definitions.specs.Examples.{wholeCase}
-use Rattle.definitions.proofs.Choices.{and-true}
+use Rattle.definitions.proofs.Choices.{both-true}
 use Rattle.definitions.proofs.Differences.{sub-pos, sub-cases, pos-minus}
 
 -- ---- each test
@@ -33,8 +33,8 @@ record SizeRight (z : ℤ) : Type 0 where
 
 size-right : (z : ℤ) → sizeRight z ≡ true → SizeRight z
 size-right (pos n) e =
-    let both = and-true _ (eqb (n % 16) 0) e in
-    let bounds = and-true (leb 16 n) (leb n 4096) (both .0) in
+    let both = both-true _ (eqb (n % 16) 0) e in
+    let bounds = both-true (leb 16 n) (leb n 4096) (both .0) in
     record { is = refl; sixteens = eqb-true _ 0 (both .1); low = leb-true 16 n (bounds .0); high = leb-true n 4096 (bounds .1) }
 size-right (negsuc n) e = absurd (false≢true e)
 
@@ -46,10 +46,10 @@ record ScaledRight (b : ℕ) (z : ℤ) : Type 0 where
 
 scaled-right : (b : ℕ) (z : ℤ) → scaledRight (pos b) z ≡ true → ScaledRight b z
 scaled-right b (pos n) e =
-    let both = and-true (eqb (n % 2) 0) _ e in
-    let bounds = and-true (leb b n) (leb n (2 * b)) (both .1) in
+    let both = both-true (eqb (n % 2) 0) _ e in
+    let bounds = both-true (leb b n) (leb n (2 * b)) (both .1) in
     record { is = refl; even = eqb-true _ 0 (both .0); low = leb-true b n (bounds .0); high = leb-true n (2 * b) (bounds .1) }
-scaled-right b (negsuc n) e = absurd (false≢true (and-true (eqb (suc n % 2) 0) _ e .1))
+scaled-right b (negsuc n) e = absurd (false≢true (both-true (eqb (suc n % 2) 0) _ e .1))
 
 le-true : (a b : ℤ) → leZ a b ≡ true → a ≤ℤ b
 le-true a b e = leZ-yes (subst T (sym e) tt)
@@ -66,8 +66,8 @@ axis-right n base full scaled offset =
     let b = size-right (n .base) base in
     let f = size-right (n .full) full in
     let s = scaled-right (natAbs (n .base)) (n .scaled) (ap (λ (z : ℤ). scaledRight z (n .scaled)) (sym (b .is)) ∙ scaled) in
-    let o = and-true (eqb (natAbs (n .offset) % 2) 0) _ offset in
-    let bounds = and-true (leZ (minus 8192) (n .offset)) (leZ (n .offset) (pos 8190)) (o .1) in
+    let o = both-true (eqb (natAbs (n .offset) % 2) 0) _ offset in
+    let bounds = both-true (leZ (minus 8192) (n .offset)) (leZ (n .offset) (pos 8190)) (o .1) in
     record {
       base-is = b .is;
       scaled-is = s .is;
@@ -117,7 +117,7 @@ not-below (negsuc x) p e = refl
 
 pub c-is : (a : Axis) (p : ℕ) → insideAxis a p ≡ true → pos (cOf a p) ≡ pos p -ℤ offsetOf a +ℤ pos 8
 unfolding insideAxis
-c-is a p e = ap (λ (z : ℤ). z +ℤ pos 8) (sym (not-below (offsetOf a) p (and-true _ _ e .0)))
+c-is a p e = ap (λ (z : ℤ). z +ℤ pos 8) (sym (not-below (offsetOf a) p (both-true _ _ e .0)))
 
 fits : (o : ℤ) (p s : ℕ) → leZ o (pos p) ≡ true → leZ (pos (p + 16)) (o +ℤ pos s) ≡ true → natAbs (pos p -ℤ o) + 8 + 8 ≤ s
 fits (pos x) p s l h =
@@ -133,16 +133,16 @@ fits (negsuc x) p s l h =
 pub inside-axis : (a : Axis) (p : ℕ) → AcceptedAxis a → insideAxis a p ≡ true → Inside (baseSize a) (scaledSize a) (cOf a p)
 unfolding insideAxis
 inside-axis a p accepted e =
-    let both = and-true (leZ (offsetOf a) (pos p)) (leZ (pos (p + 16)) (offsetOf a +ℤ pos (scaledSize a))) e in
+    let both = both-true (leZ (offsetOf a) (pos p)) (leZ (pos (p + 16)) (offsetOf a +ℤ pos (scaledSize a))) e in
     record { sized = accepted .sized; c-low = omega arith; c-high = fits (offsetOf a) p (scaledSize a) (both .0) (both .1) }
 
 -- on both axes
 module _ (g : Axes) (column row : ℕ) (accepted : AcceptedAxes g) where
   pub across-inside : inside g column row ≡ true → Inside (baseSize (g .horizontal)) (scaledSize (g .horizontal)) (cOf (g .horizontal) (sampleOf column))
-  across-inside e = inside-axis (g .horizontal) (sampleOf column) (accepted .horizontal) (and-true (insideAxis (g .horizontal) (sampleOf column)) (insideAxis (g .vertical) (sampleOf row)) e .0)
+  across-inside e = inside-axis (g .horizontal) (sampleOf column) (accepted .horizontal) (both-true (insideAxis (g .horizontal) (sampleOf column)) (insideAxis (g .vertical) (sampleOf row)) e .0)
 
   pub down-inside : inside g column row ≡ true → Inside (baseSize (g .vertical)) (scaledSize (g .vertical)) (cOf (g .vertical) (sampleOf row))
-  down-inside e = inside-axis (g .vertical) (sampleOf row) (accepted .vertical) (and-true (insideAxis (g .horizontal) (sampleOf column)) (insideAxis (g .vertical) (sampleOf row)) e .1)
+  down-inside e = inside-axis (g .vertical) (sampleOf row) (accepted .vertical) (both-true (insideAxis (g .horizontal) (sampleOf column)) (insideAxis (g .vertical) (sampleOf row)) e .1)
 
 -- ---- the column and row of an address of the picture
 module _ (n : Numbers) (accepted : geometryVerdict n ≡ Accepted) where

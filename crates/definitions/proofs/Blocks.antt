@@ -12,7 +12,7 @@ use Rattle.definitions.specs.declared.Split.{Split}
 use Rattle.definitions.specs.declared.Split.the-variants.{S16x16, S16x8, S8x16, S8x8 as Quarters}
 use Rattle.definitions.specs.Tests.{allOf}
 use Rattle.definitions.specs.Splits.{sameMotion, subPieces, pieces, alike, oneEach}
-use Rattle.definitions.proofs.Choices.{and-true, and-intro}
+use Rattle.definitions.proofs.Choices.{both-true, and-intro}
 
 -- ---- each block of a piece is below 16
 abbrev below16 : List ℕ → Bool
@@ -22,7 +22,7 @@ joined-all : {A : Type 0} (f : A → Bool) (xs ys : List A) → allOf f xs ≡ t
 unfolding allOf
 joined-all f [] ys p q = q
 joined-all f (x ∷ xs) ys p q =
-    let h = and-true (f x) (allOf f xs) p in
+    let h = both-true (f x) (allOf f xs) p in
     and-intro (h .0) (joined-all f xs ys (h .1) q)
 
 -- the first blocks of the four quadrants
@@ -68,7 +68,7 @@ module _ (m n : ℕ → Motion) (same : (i : ℕ) → i < 16 → m i ≡ n i) wh
   unfolding allOf
   like-same i h [] e = refl
   like-same i h (j ∷ js) e =
-      let b = and-true (ltb j 16) (below16 js) e in
+      let b = both-true (ltb j 16) (below16 js) e in
       let p : m j ≡ n j = same j (ltb-true j 16 (b .0)) in
       let q : m i ≡ n i = same i h in
       let r = like-same i h js (b .1) in
@@ -78,14 +78,14 @@ module _ (m n : ℕ → Motion) (same : (i : ℕ) → i < 16 → m i ≡ n i) wh
   unfolding alike allOf
   alike-same [] e = refl
   alike-same (i ∷ is) e =
-      let b = and-true (ltb i 16) (below16 is) e in
+      let b = both-true (ltb i 16) (below16 is) e in
       like-same i (ltb-true i 16 (b .0)) is (b .1)
 
   all-same : (ps : List (List ℕ)) → allOf below16 ps ≡ true → allOf (alike m) ps ≡ allOf (alike n) ps
   unfolding allOf
   all-same [] e = refl
   all-same (p ∷ ps) e =
-      let b = and-true (below16 p) (allOf below16 ps) e in
+      let b = both-true (below16 p) (allOf below16 ps) e in
       let q = alike-same p (b .0) in
       let r = all-same ps (b .1) in
       λ k. q k && r k

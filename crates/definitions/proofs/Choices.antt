@@ -27,24 +27,20 @@ pick-cases P true a b f g = f refl
 pick-cases P false a b f g = g refl
 
 -- ---- and, or
-pub and-true : (a b : Bool) → (a && b) ≡ true → (a ≡ true) × (b ≡ true)
-and-true true b e = (refl, e)
-and-true false b e = (e, cc)
+pub both-true : (a b : Bool) → (a && b) ≡ true → (a ≡ true) × (b ≡ true)
+both-true true b e = (refl, e)
+both-true false b e = (e, cc)
 
 pub and-intro : {a b : Bool} → a ≡ true → b ≡ true → (a && b) ≡ true
 and-intro p q = rw (p, q)
-
-pub and-false : (a b : Bool) → (a && b) ≡ false → (a ≡ false) ⊎ (b ≡ false)
-and-false true b e = inr e
-and-false false b e = inl refl
 
 pub and-no : (a : Bool) {b : Bool} → b ≡ false → (a && b) ≡ false
 and-no true e = e
 and-no false e = refl
 
-pub or-true : (a b : Bool) → (a || b) ≡ true → (a ≡ true) ⊎ (b ≡ true)
-or-true true b e = inl refl
-or-true false b e = inr e
+pub either-true : (a b : Bool) → (a || b) ≡ true → (a ≡ true) ⊎ (b ≡ true)
+either-true true b e = inl refl
+either-true false b e = inr e
 
 pub or-left : {a : Bool} (b : Bool) → a ≡ true → (a || b) ≡ true
 or-left b p = rw p
@@ -53,9 +49,9 @@ pub or-right : (a : Bool) {b : Bool} → b ≡ true → (a || b) ≡ true
 or-right true q = refl
 or-right false q = q
 
-pub or-false : (a b : Bool) → (a || b) ≡ false → (a ≡ false) × (b ≡ false)
-or-false true b e = (cc, cc)
-or-false false b e = (refl, e)
+pub both-false : (a b : Bool) → (a || b) ≡ false → (a ≡ false) × (b ≡ false)
+both-false true b e = (cc, cc)
+both-false false b e = (refl, e)
 
 -- two tests that hold in the same cases
 pub both-ways : (s t : Bool) → (s ≡ true → t ≡ true) → (t ≡ true → s ≡ true) → s ≡ t
@@ -92,7 +88,7 @@ pub below-true : (n : ℕ) (f : ℕ → Bool) → allBelow n f ≡ true → (k :
 unfolding allBelow
 below-true zero f e k h = absurd (not-suc-le-zero h)
 below-true (suc n) f e k h =
-    let both = and-true (allBelow n f) (f n) e in
+    let both = both-true (allBelow n f) (f n) e in
     ⊎-elim (λ i. ap f i ∙ both .1) (λ l. below-true n f (both .0) k l) (below-last h)
 
 pub below-intro : (n : ℕ) (f : ℕ → Bool) → ((k : ℕ) → k < n → f k ≡ true) → allBelow n f ≡ true
@@ -114,7 +110,7 @@ pub of-true : {A : Type 0} (f : A → Bool) (l : List A) → allOf f l ≡ true 
 unfolding allOf
 of-true f [] e m = absurd (List·Memᴰ·not-nil m)
 of-true f (y ∷ ys) e m =
-    let both = and-true (f y) (allOf f ys) e in
+    let both = both-true (f y) (allOf f ys) e in
     ⊎-elim (λ p. ap f p ∙ both .0) (λ t. of-true f ys (both .1) t) (List·Memᴰ·cases-cons m)
 
 -- ---- upTo

@@ -29,7 +29,7 @@ use Rattle.definitions.specs.Answer.{Made, answerOf, writtenFor, madeOf,
 use Rattle.definitions.specs.Refusals.{test, refusal, verdictOf, geometryTests, geometryVerdict, baseCount, baseTest, outputTest, positionTest, recordTests, withinAxis, addressesRead, allAddresses}
 use Rattle.definitions.specs.Calls.{Outcome, byVerdict, macroblockTests, macroblockCall, fullCount, pictureTests, madeAt, countsOf, pictureCall}
 use Rattle.definitions.specs.Demand3.{Demand3, AnyWords, SinglyGives, Demand3Singly, AllFormed, FormedWords, PictureGives, Demand3Picture, Case, Demand3Entire}
-use Rattle.definitions.proofs.Choices.{yes, no, and-true, and-intro}
+use Rattle.definitions.proofs.Choices.{yes, no, both-true, and-intro}
 use Rattle.definitions.proofs.Verdicts.{first-passed, both-passed, then-verdict, reply-accepted}
 use Rattle.definitions.proofs.RecordLists.{all-formed, formed-all, index-member, member-index, record-of}
 use Rattle.definitions.proofs.Accepted.{accepted-axes, across-inside, down-inside}
@@ -252,7 +252,7 @@ module _ (n : Numbers) (words base : List ℤ) where
 
 -- a macroblock whose call is accepted is one of the picture, and was lent 77 words
 pub within-low : (size : ℕ) (x : ℤ) → withinAxis size x ≡ true → natAbs x < macroblocks size
-within-low size (pos k) e = ltb-true k (macroblocks size) (and-true (leb 0 k) (ltb k (macroblocks size)) e .1)
+within-low size (pos k) e = ltb-true k (macroblocks size) (both-true (leb 0 k) (ltb k (macroblocks size)) e .1)
 within-low size (negsuc k) e = absurd (let z : _≡_ {A = ℕ} 0 1 = cc in omega arith)
 
 pub record AskedAt (n : Numbers) (column row : ℤ) (words : List ℤ) : Type 0 where
@@ -270,7 +270,7 @@ asked-at n base column row words v =
     let q = first-passed (baseTest g base) (outputTest 1 words ∷ place ∷ records) (p .1) in
     let r = first-passed (outputTest 1 words) (place ∷ records) (q .1) in
     let t = first-passed place records (r .1) in
-    let both = and-true (withinAxis (fullSize (g .horizontal)) column) (withinAxis (fullSize (g .vertical)) row) (not-false _ (t .0)) in
+    let both = both-true (withinAxis (fullSize (g .horizontal)) column) (withinAxis (fullSize (g .vertical)) row) (not-false _ (t .0)) in
     record { column-within = both .0; row-within = both .1; words-length = eqb-true (length words) recordWords (not-false (eqb (length words) recordWords) (r .0)) }
 
 record Asked (n : Numbers) (column row : ℕ) (alone : List ℤ) : Type 0 where

@@ -17,7 +17,7 @@ use Rattle.definitions.specs.declared.Split.the-variants.{S16x16, S16x8,
 use Rattle.definitions.specs.Tests.{pick, allOf}
 use Rattle.definitions.specs.Splits.{sameMotion, placeOf, subPieces, pieces, alike, oneEach, subCount, count, splits, sixteenPieces, fewer, fewestIn}
 use Rattle.definitions.specs.Inheriting.{zeroMotion, at, motionAt, chosen}
-use Rattle.definitions.proofs.Choices.{yes, pick-cases, and-true, and-intro}
+use Rattle.definitions.proofs.Choices.{yes, pick-cases, both-true, and-intro}
 use Rattle.definitions.proofs.Motions.{motion-true, motion-same}
 use Rattle.definitions.proofs.Pieces.{split-cases, all-listed}
 use Rattle.definitions.proofs.Shapes.{cut, samePairs, shapeOf, quadrantShape, shapesOf, isWhole, allWhole, joined, splitOf}
@@ -42,7 +42,7 @@ OneEach m s = Each (Alike m) (pieces s)
 each-of : {A : Type 0} (f : A → Bool) (P : A → Type 0) → ((x : A) → f x ≡ true → P x) → (l : List A) → allOf f l ≡ true → Each P l
 unfolding allOf
 each-of f P h [] e = tt
-each-of f P h (x ∷ xs) e = let b = and-true (f x) (allOf f xs) e in (h x (b .0), each-of f P h xs (b .1))
+each-of f P h (x ∷ xs) e = let b = both-true (f x) (allOf f xs) e in (h x (b .0), each-of f P h xs (b .1))
 
 of-each : {A : Type 0} (f : A → Bool) (P : A → Type 0) → ((x : A) → P x → f x ≡ true) → (l : List A) → Each P l → allOf f l ≡ true
 unfolding allOf
@@ -72,7 +72,7 @@ module _ (m : ℕ → Motion) where
 pairs-true : (a b c d : Motion) → samePairs a b c d ≡ true → (a ≡ b) × (c ≡ d)
 unfolding samePairs
 pairs-true a b c d e =
-    let h = and-true (sameMotion a b) (sameMotion c d) e in
+    let h = both-true (sameMotion a b) (sameMotion c d) e in
     (motion-true a b (h .0), motion-true c d (h .1))
 
 pairs-false : (a b c d : Motion) → samePairs a b c d ≡ false → a ≡ b → c ≡ d → ⊥
@@ -258,9 +258,9 @@ module _ (m : ℕ → Motion) where
   all-whole : (t : SubSplits) → Quadrants (Least m) t → allWhole t ≡ true → Whole
   unfolding allWhole
   all-whole t l e =
-      let x = and-true (isWhole (t .a)) (isWhole (t .b) && (isWhole (t .c) && isWhole (t .d))) e in
-      let y = and-true (isWhole (t .b)) (isWhole (t .c) && isWhole (t .d)) (x .1) in
-      let z = and-true (isWhole (t .c)) (isWhole (t .d)) (y .1) in
+      let x = both-true (isWhole (t .a)) (isWhole (t .b) && (isWhole (t .c) && isWhole (t .d))) e in
+      let y = both-true (isWhole (t .b)) (isWhole (t .c) && isWhole (t .d)) (x .1) in
+      let z = both-true (isWhole (t .c)) (isWhole (t .d)) (y .1) in
       record {
         a = subst (One m 0) (is-whole (t .a) (x .0)) (l .a .one);
         b = subst (One m 2) (is-whole (t .b) (y .0)) (l .b .one);

@@ -9,7 +9,7 @@ use borrow.Author.Tests.{eqb-true}
 use Rattle.definitions.specs.Tests.{pick}
 use Rattle.definitions.specs.Splits.{quadrantOf}
 use Rattle.definitions.specs.Record.{vectorXOf, vectorYOf, referenceOf, used, vectorWord, rule1, rule2, rule3, rule4, rule5, rule6, firstBroken, wellFormed}
-use Rattle.definitions.proofs.Choices.{and-true, below-true}
+use Rattle.definitions.proofs.Choices.{both-true, below-true}
 
 -- the six rules of a record
 pub record Rules (r : List ℤ) : Type 0 where
@@ -45,5 +45,5 @@ pub record Vectors (r : List ℤ) (b l : ℕ) : Type 0 where
 pub vectors-of : (r : List ℤ) → wellFormed r ≡ true → (b l : ℕ) → b < 16 → l < 2 → Vectors r b l
 unfolding rule5
 vectors-of r e b l hb hl =
-    let both = and-true _ _ (below-true 2 _ (below-true 16 _ (rules-of r e .vectors) b hb) l hl) in
+    let both = both-true _ _ (below-true 2 _ (below-true 16 _ (rules-of r e .vectors) b hb) l hl) in
     record { x = both .0; y = both .1 }

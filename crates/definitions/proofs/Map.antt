@@ -17,7 +17,7 @@ use Rattle.definitions.specs.Tests.{pick, minus, allBelow}
 use Rattle.definitions.specs.Geometry.{kOf, pOf, d1Of, d2Of, roundedOf, even, mOf, nOf, fOf, twoOf, columnsRead, macroblocks, classOf}
 use Rattle.definitions.specs.BlockMap.{digitsOf, coordinateOf}
 use Rattle.definitions.specs.Answer.{twoColumns, twoRows}
-use Rattle.definitions.proofs.Choices.{pick-cases, and-true, or-true, implies, implied, below-true}
+use Rattle.definitions.proofs.Choices.{pick-cases, both-true, either-true, implies, implied, below-true}
 use Rattle.definitions.proofs.Differences.{sub-pos, sub-cases}
 use Rattle.definitions.proofs.Places.{near, first-edge, last-edge, m-even, n-even, m-odd, n-odd}
 
@@ -95,7 +95,7 @@ zeroOrOne two x = eqb x 0 || two && eqb x 1
 zero-or-one : (two : Bool) (x : ℕ) → zeroOrOne two x ≡ true → (x ≡ 0) ⊎ ((two ≡ true) × (x ≡ 1))
 unfolding zeroOrOne
 zero-or-one two x e =
-    ⊎-elim (λ z. inl (eqb-true x 0 z)) (λ o. let both = and-true two (eqb x 1) o in inr (both .0, eqb-true x 1 (both .1))) (or-true (eqb x 0) (two && eqb x 1) e)
+    ⊎-elim (λ z. inl (eqb-true x 0 z)) (λ o. let both = both-true two (eqb x 1) o in inr (both .0, eqb-true x 1 (both .1))) (either-true (eqb x 0) (two && eqb x 1) e)
 
 -- Each row has four digits; |M| < 8 and, k even, M > −8 say one thing; each digit leads to F, or to F + 1 where two are read; the first leads to
 -- F, and the last to F + 1 where two are read.
@@ -125,11 +125,11 @@ record Right (k-even : Bool) (i j : ℕ) : Type 0 where
 right : (k-even : Bool) (i j : ℕ) → Paired i j → Right k-even i j
 unfolding rowRight
 right k-even i j p =
-    let t₁ = and-true _ _ (on-pair (rowRight k-even) (rows-right k-even) i j p) in
-    let t₂ = and-true _ _ (t₁ .1) in
-    let t₃ = and-true _ _ (t₂ .1) in
-    let t₄ = and-true _ _ (t₃ .1) in
-    let t₅ = and-true _ _ (t₄ .1) in
+    let t₁ = both-true _ _ (on-pair (rowRight k-even) (rows-right k-even) i j p) in
+    let t₂ = both-true _ _ (t₁ .1) in
+    let t₃ = both-true _ _ (t₂ .1) in
+    let t₄ = both-true _ _ (t₃ .1) in
+    let t₅ = both-true _ _ (t₄ .1) in
     record {
       digits = eqb-true _ 4 (t₁ .0);
       two = same-true _ _ (t₂ .0);

@@ -11,7 +11,7 @@ use Rattle.definitions.specs.declared.Prediction.{Prediction}
 use Rattle.definitions.specs.declared.Motion.{Motion}
 use Rattle.definitions.specs.Tests.{eqZ}
 use Rattle.definitions.specs.Splits.{samePrediction, sameMotion}
-use Rattle.definitions.proofs.Choices.{and-true, and-intro, eqZ-true, eqZ-refl}
+use Rattle.definitions.proofs.Choices.{both-true, and-intro, eqZ-true, eqZ-refl}
 
 -- The machine compares the bits of two words.
 by-bits : (a b : ℤ) → SFits w16 a → SFits w16 b → (t : Bool) → eqZ a b ≡ t → eqb (ofZ w16 a) (ofZ w16 b) ≡ t
@@ -27,8 +27,8 @@ word-same a b fa fb = by-bits a b fa fb (eqZ a b) refl
 prediction-true : (p q : Prediction) → samePrediction p q ≡ true → p ≡ q
 unfolding samePrediction
 prediction-true p q e =
-    let h = and-true (eqZ (p .reference) (q .reference)) (eqZ (p .x) (q .x) && eqZ (p .y) (q .y)) e in
-    let k = and-true (eqZ (p .x) (q .x)) (eqZ (p .y) (q .y)) (h .1) in
+    let h = both-true (eqZ (p .reference) (q .reference)) (eqZ (p .x) (q .x) && eqZ (p .y) (q .y)) e in
+    let k = both-true (eqZ (p .x) (q .x)) (eqZ (p .y) (q .y)) (h .1) in
     let r : p .reference ≡ q .reference = eqZ-true _ _ (h .0) in
     let s : p .x ≡ q .x = eqZ-true _ _ (k .0) in
     let t : p .y ≡ q .y = eqZ-true _ _ (k .1) in
@@ -37,7 +37,7 @@ prediction-true p q e =
 pub motion-true : (m n : Motion) → sameMotion m n ≡ true → m ≡ n
 unfolding sameMotion
 motion-true m n e =
-    let h = and-true (samePrediction (m .list0) (n .list0)) (samePrediction (m .list1) (n .list1)) e in
+    let h = both-true (samePrediction (m .list0) (n .list0)) (samePrediction (m .list1) (n .list1)) e in
     let p : m .list0 ≡ n .list0 = prediction-true _ _ (h .0) in
     let q : m .list1 ≡ n .list1 = prediction-true _ _ (h .1) in
     λ i. record { list0 = p i; list1 = q i }

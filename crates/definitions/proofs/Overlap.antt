@@ -19,7 +19,7 @@ use Rattle.definitions.specs.Tests.{pick, allBelow}
 use Rattle.definitions.specs.Geometry.{zOf, kOf, pOf, even, twoOf}
 use Rattle.definitions.specs.BlockMap.{digitsOf, coordinateOf}
 use Rattle.definitions.specs.Why.{centreOf, Overlaps}
-use Rattle.definitions.proofs.Choices.{yes, and-true, and-intro, below-true}
+use Rattle.definitions.proofs.Choices.{yes, both-true, and-intro, below-true}
 use Rattle.definitions.proofs.Places.{near}
 use Rattle.definitions.proofs.Map.{foursBefore, foursBehind, digitAt, twoAt, digits-is, two-is, f-is, not-first}
 
@@ -149,9 +149,9 @@ fitting x y i j = leb 2 j && (leb j 7 && (leb (highest j x y) (blockEnd i j x y)
 fits : (b s c k x y i j q : ℕ) → Inside b s c → Bounds b s c k x y → q + 4 ≡ 2 * k + j → fitting x y i j ≡ true → Overlaps b s q (centreOf c i)
 unfolding fitting
 fits b s c k x y i j q a n e t =
-    let t₁ = and-true (leb 2 j) _ t in
-    let t₂ = and-true (leb j 7) _ (t₁ .1) in
-    let t₃ = and-true (leb (highest j x y) (blockEnd i j x y)) (leb (blockStart i (j + 1) x y) (lowest (j + 1) x y)) (t₂ .1) in
+    let t₁ = both-true (leb 2 j) _ t in
+    let t₂ = both-true (leb j 7) _ (t₁ .1) in
+    let t₃ = both-true (leb (highest j x y) (blockEnd i j x y)) (leb (blockStart i (j + 1) x y) (lowest (j + 1) x y)) (t₂ .1) in
     let j-low = leb-true 2 j (t₁ .0) in
     let j-high = leb-true j 7 (t₂ .0) in
     let before = starts-before b s c k x y i (omega arith) (omega arith) n j j-low (omega arith) (leb-true _ _ (t₃ .0)) in

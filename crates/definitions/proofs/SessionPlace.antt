@@ -18,7 +18,7 @@ use Rattle.definitions.specs.Geometry.{axesOf}
 use Rattle.definitions.specs.Refusals.{geometryVerdict}
 use Rattle.definitions.specs.Calls.{macroblockCall, fullCount, columnAt, rowAt, noCounts, countsOf, sumOf}
 use Rattle.definitions.specs.Session.{Call, begin, next, abandon, totals, State, fresh, begun, totalsOf, finished, unfinished, beginVerdict, abandonVerdict, nextCall, Exchange, beginGave, nextGave, abandonGave, totalsGave, exchange, ifAccepted, advanced, stateNext, exchanges, stateAfter, accepts, startsAnew, noneAnew, geometryIf, geometryBy, geometrySince, geometryAfter, madeSince, madeAfter, PlaceRight, sound}
-use Rattle.definitions.proofs.Choices.{yes, no, and-true}
+use Rattle.definitions.proofs.Choices.{yes, no, both-true}
 use Rattle.definitions.proofs.Sessions.{totals-right, next-going, next-over, sound-parts, only-sound}
 
 -- ---- the state's geometry is that of the last accepted begin, unless an accepted abandon follows it
@@ -69,7 +69,7 @@ none-since : (es : List Exchange) → noneAnew es ≡ true → geometrySince es 
 unfolding geometrySince allOf
 none-since [] e = refl
 none-since (x ∷ xs) e =
-    let both = and-true (not (startsAnew x)) (noneAnew xs) e in
+    let both = both-true (not (startsAnew x)) (noneAnew xs) e in
     yes _ _ (both .1) ∙ none-by x (not-true (startsAnew x) (both .0))
   where
     none-if : (v : Verdict) (n : Numbers) → accepts v ≡ false → geometryIf v n ≡ none

@@ -20,7 +20,7 @@ use Rattle.definitions.specs.Answer.{Made}
 use Rattle.definitions.specs.Refusals.{refusal, verdictOf, geometryTests, geometryVerdict}
 use Rattle.definitions.specs.Calls.{Outcome, byVerdict, fullCount, counted, noCounts, countsOf, sumOf}
 use Rattle.definitions.specs.Session.{Call, begin, next, abandon, totals, State, fresh, begun, totalsOf, finished, onwardTests, beginTests, beginVerdict, abandonVerdict, callAtNext, nextCall, Exchange, totalsGave, exchange, ifAccepted, advanced, stateNext, exchanges, stateAfter, accepts, startsAnew, noneAnew, since, answeredWith, madeBy, madeSince, TotalsRight, sound, OnlySound}
-use Rattle.definitions.proofs.Choices.{yes, no, and-true, and-intro, and-no}
+use Rattle.definitions.proofs.Choices.{yes, no, both-true, and-intro, and-no}
 use Rattle.definitions.proofs.Verdicts.{both-passed}
 use Rattle.definitions.proofs.Counting.{counted-last, counted-sum, counts-length}
 
@@ -67,7 +67,7 @@ kept : (s : State) (calls : List Call) (known : List Made) → noneAnew (exchang
 unfolding exchanges stateAfter allOf
 kept s [] known e k = nothing-added known k
 kept s (c ∷ cs) known e k =
-    let both = and-true (not (startsAnew (exchange s c))) (noneAnew (exchanges (stateNext s c) cs)) e in
+    let both = both-true (not (startsAnew (exchange s c))) (noneAnew (exchanges (stateNext s c) cs)) e in
     kept (stateNext s c) cs (known ++ madeBy (exchange s c)) (both .1) (added s c known (not-true (startsAnew (exchange s c)) (both .0)) k)
     ∙ ap countsOf (append-assoc known (madeBy (exchange s c)) (forEach (exchanges (stateNext s c) cs) madeBy))
 
@@ -91,7 +91,7 @@ since-all : (es : List Exchange) → noneAnew es ≡ true → since es ≡ es
 unfolding since allOf
 since-all [] e = refl
 since-all (x ∷ xs) e =
-    let both = and-true (not (startsAnew x)) (noneAnew xs) e in
+    let both = both-true (not (startsAnew x)) (noneAnew xs) e in
     yes _ _ (both .1) ∙ no _ _ (not-true (startsAnew x) (both .0))
 
 -- and from the last one on, what follows it
@@ -122,7 +122,7 @@ accepted-true (Refused r) e = cc
 
 pub sound-parts : (n : Numbers) (c : Counts) → sound (begun n c) ≡ true → (geometryVerdict n ≡ Accepted) × (sumOf c ≤ fullCount (axesOf n))
 sound-parts n c e =
-    let both = and-true (accepts (geometryVerdict n)) (leb (sumOf c) (fullCount (axesOf n))) e in
+    let both = both-true (accepts (geometryVerdict n)) (leb (sumOf c) (fullCount (axesOf n))) e in
     (accepted-true (geometryVerdict n) (both .0), leb-true (sumOf c) (fullCount (axesOf n)) (both .1))
 
 sound-from : (n : Numbers) (c : Counts) → geometryVerdict n ≡ Accepted → sumOf c ≤ fullCount (axesOf n) → sound (begun n c) ≡ true

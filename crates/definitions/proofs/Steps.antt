@@ -18,7 +18,7 @@ use Rattle.definitions.specs.Tests.{minus, eqZ, four}
 use Rattle.definitions.specs.Splits.{rasterOf}
 use Rattle.definitions.specs.Record.{used}
 use Rattle.definitions.specs.Inheriting.{marked, zeroPrediction, zeroMotion, at, horizontal, vertical, diagonal, source, clearOf, filled, lower, referenceAt, lowest, having, withReference, unused, mergedList, merged, someOf, liveOf, copiedFrom, copied, resolved}
-use Rattle.definitions.proofs.Choices.{yes, no, pick-cases, or-true, or-left, or-right, or-false, eqZ-true, eqZ-refl, each, four-at, four-same}
+use Rattle.definitions.proofs.Choices.{yes, no, pick-cases, either-true, or-left, or-right, both-false, eqZ-true, eqZ-refl, each, four-at, four-same}
 
 -- ---- neighbours
 pub horizontal-below : (k : ℕ) → k < 4 → horizontal k < 4
@@ -304,7 +304,7 @@ module _ (m : List Motion) where
       ⊎-elim
       (λ v. or-left (used (getD (merged m) k zeroMotion .list1 .reference)) (list-uses first m at0 v k h))
       (λ v. or-right (used (getD (merged m) k zeroMotion .list0 .reference)) (list-uses second m at1 v k h))
-      (or-true (used (getD m 0 zeroMotion .list0 .reference)) (used (getD m 0 zeroMotion .list1 .reference)) u)
+      (either-true (used (getD m 0 zeroMotion .list0 .reference)) (used (getD m 0 zeroMotion .list1 .reference)) u)
 
 -- ---- step 1
 module _ (clear : List Bool) (m : List Motion) where
@@ -411,9 +411,9 @@ all-marked : (set q : ℕ) → someOf (clearOf set q) ≡ false → inQuadrant s
 unfolding someOf clearOf inQuadrant
 all-marked set q e =
     let clear : ℕ → Bool = λ k. not (marked set (rasterOf q k)) in
-    let x = or-false (clear 0) (clear 1 || (clear 2 || clear 3)) e in
-    let y = or-false (clear 1) (clear 2 || clear 3) (x .1) in
-    let z = or-false (clear 2) (clear 3) (y .1) in
+    let x = both-false (clear 0) (clear 1 || (clear 2 || clear 3)) e in
+    let y = both-false (clear 1) (clear 2 || clear 3) (x .1) in
+    let z = both-false (clear 2) (clear 3) (y .1) in
     rw (is-marked set (rasterOf q 0) (x .0), is-marked set (rasterOf q 1) (y .0), is-marked set (rasterOf q 2) (z .0), is-marked set (rasterOf q 3) (z .1))
 
 -- three quadrants all intra are twelve blocks

@@ -13,7 +13,7 @@ use Rattle.definitions.specs.declared.Verdict.the-variants.{Accepted, Re
 use Rattle.definitions.specs.Tests.{pick, allOf}
 use Rattle.definitions.specs.Refusals.{Test, verdictOf}
 use Rattle.definitions.specs.Calls.{Outcome, byVerdict}
-use Rattle.definitions.proofs.Choices.{yes, no, and-true}
+use Rattle.definitions.proofs.Choices.{yes, no, both-true}
 
 -- ---- tests one after the other
 -- where the whole is accepted, the first test does not apply and the rest is accepted
@@ -74,7 +74,7 @@ pub refused-later : (number : ℕ) (xs ys : List Test) (r : Refusal) → allOf (
 unfolding allOf
 refused-later number [] ys r h k e = (refl, e)
 refused-later number (x ∷ xs) ys r h k e =
-    let both = and-true (not (eqb (x .gives .number) number)) (allOf (λ t. not (eqb (t .gives .number) number)) xs) h in
+    let both = both-true (not (eqb (x .gives .number) number)) (allOf (λ t. not (eqb (t .gives .number) number)) xs) h in
     by (x .applies) refl (both .0) (refused-later number xs ys r (both .1) k)
   where
     by : (b : Bool) → x .applies ≡ b → not (eqb (x .gives .number) number) ≡ true → (verdictOf (xs ++ ys) ≡ Refused r → (verdictOf xs ≡ Accepted) × (verdictOf ys ≡ Refused r))

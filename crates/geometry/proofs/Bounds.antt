@@ -13,7 +13,7 @@ use Rattle.definitions.specs.declared.Axis.{Axis}
 use Rattle.definitions.specs.Accepted.{Inside, Sized}
 use Rattle.definitions.specs.Geometry.{pOf, scaledSize, offsetOf, insideAxis}
 use Rattle.definitions.specs.Tests.{minus}
-use Rattle.definitions.proofs.Choices.{and-true}
+use Rattle.definitions.proofs.Choices.{both-true}
 use Rattle.definitions.proofs.Differences.{sub-cases}
 use Rattle.definitions.proofs.Places.{room}
 
@@ -44,4 +44,4 @@ window-fits (negsuc n) s h g = sub-cases (SFits w32) s (suc n) (λ l. record { s
 
 pub starts : (a : Axis) (p : ℕ) → insideAxis a p ≡ true → leZ (offsetOf a) (pos p) ≡ true
 unfolding insideAxis
-starts a p e = and-true _ (leZ (pos (p + 16)) (offsetOf a +ℤ pos (scaledSize a))) e .0
+starts a p e = both-true _ (leZ (pos (p + 16)) (offsetOf a +ℤ pos (scaledSize a))) e .0

@@ -11,7 +11,7 @@ use borrow.Author.Tests.{eqb-true, leb-true}
 use Rattle.definitions.specs.BlockMap.{MapRow, digitsIn, digitsOf, mapRows}
 use Rattle.definitions.specs.Geometry.{even}
 use Rattle.definitions.specs.Tests.{eqZ, allOf}
-use Rattle.definitions.proofs.Choices.{and-true, eqZ-true, pick-cases}
+use Rattle.definitions.proofs.Choices.{both-true, eqZ-true, pick-cases}
 use Rattle.geometry.specs.Step.{Complete, decimals}
 
 -- ---- a test of M, N and the digits, at each row
@@ -22,9 +22,9 @@ each-row : (P : ℤ → ℤ → List ℕ → Bool) (rows : List MapRow) → pass
 unfolding allOf
 each-row P [] e m n l = absurd (omega arith)
 each-row P (r ∷ rs) e m n l =
-    let tests = and-true (P (r .border) (r .border8) (r .digits)) (passes P rs) e in
+    let tests = both-true (P (r .border) (r .border8) (r .digits)) (passes P rs) e in
     pick-cases (λ ds. length ds ≡ 4 → P m n ds ≡ true) (eqZ (r .border) m && eqZ (r .border8) n) (r .digits) (digitsIn rs m n)
-    (λ q h. let both = and-true (eqZ (r .border) m) (eqZ (r .border8) n) q in (λ i. P (sym (eqZ-true (r .border) m (both .0)) i) (sym (eqZ-true (r .border8) n (both .1)) i) (r .digits)) ∙ tests .0)
+    (λ q h. let both = both-true (eqZ (r .border) m) (eqZ (r .border8) n) q in (λ i. P (sym (eqZ-true (r .border) m (both .0)) i) (sym (eqZ-true (r .border8) n (both .1)) i) (r .digits)) ∙ tests .0)
     (λ q h. each-row P rs (tests .1) m n h)
     l
 
@@ -37,7 +37,7 @@ unfolding digitsOf
 at-row P e k m n l = go (k % 2) (omega arith) l
   where
     tests : (passes (P 0) (mapRows true) ≡ true) × (passes (P 1) (mapRows false) ≡ true)
-    tests = and-true (passes (P 0) (mapRows true)) (passes (P 1) (mapRows false)) e
+    tests = both-true (passes (P 0) (mapRows true)) (passes (P 1) (mapRows false)) e
 
     go : (r : ℕ) → r ≤ 1 → length (digitsIn (mapRows (eqb r 0)) m n) ≡ 4 → P r m n (digitsIn (mapRows (eqb r 0)) m n) ≡ true
     go zero h l = each-row (P 0) (mapRows true) (tests .0) m n l
@@ -55,7 +55,7 @@ all-small = refl
 pub tops : (k : ℕ) (m n : ℤ) → length (digitsOf (even k) m n) ≡ 4 → (natAbs m ≤ 16) × (natAbs n ≤ 16)
 unfolding small
 tops k m n l =
-    let both = and-true (leb (natAbs m) 16) (leb (natAbs n) 16) (at-row small all-small k m n l) in
+    let both = both-true (leb (natAbs m) 16) (leb (natAbs n) 16) (at-row small all-small k m n l) in
     (leb-true _ 16 (both .0), leb-true _ 16 (both .1))
 
 -- ---- a table by k % 2, |M| / 4 and |N| / 4
@@ -71,7 +71,7 @@ same-true [] [] e = refl
 same-true [] (y ∷ ys) e = absurd (false≢true e)
 same-true (x ∷ xs) [] e = absurd (false≢true e)
 same-true (x ∷ xs) (y ∷ ys) e =
-    let both = and-true (eqb x y) (same xs ys) e in
+    let both = both-true (eqb x y) (same xs ys) e in
     λ i. eqb-true x y (both .0) i ∷ same-true xs ys (both .1) i
 
 holds : List (List (List ℕ)) → ℕ → ℤ → ℤ → List ℕ → Bool

@@ -13,7 +13,7 @@ use Rattle.definitions.specs.Accepted.{Inside}
 use Rattle.definitions.specs.BlockMap.{coordinateOf, digitsOf}
 use Rattle.definitions.specs.Geometry.{d1Of, d2Of, even, fOf, kOf, mOf, nOf, roundedOf, twoOf}
 use Rattle.definitions.specs.Tests.{four, minus, pick}
-use Rattle.definitions.proofs.Choices.{and-true}
+use Rattle.definitions.proofs.Choices.{both-true}
 use Rattle.definitions.proofs.Map.{d1-rounded, foursBefore, not-first, row-of}
 use Rattle.definitions.proofs.Places.{m-even}
 use Rattle.geometry.proofs.Rows.{tops}
@@ -31,7 +31,7 @@ module _ (b s c : ℕ) (a : Inside b s c) where
   pub not-zero : (even (kOf b s c) && ltZ (minus 8) (mOf b s c)) ≡ true → 2 ≤ kOf b s c
   unfolding twoOf
   not-zero e =
-      let both = and-true (even (kOf b s c)) (ltZ (minus 8) (mOf b s c)) e in
+      let both = both-true (even (kOf b s c)) (ltZ (minus 8) (mOf b s c)) e in
       let m : mOf b s c ≡ minus (4 * foursBefore b s c) = m-even b s c (both .0) ∙ d1-rounded b s c a in
       let far = above (4 * foursBefore b s c) (subst (λ (z : ℤ). ltZ (minus 8) z ≡ true) m (both .1)) in
       not-first b s c a (ap (λ (z : ℤ). not (leb 8 (natAbs z))) m ∙ ap not far) (both .0)

@@ -13,7 +13,7 @@ use mir.Val.{Fits, SFits, ofZ, toZ}
 use mir.Facts.{toZ-ofZ, fits-natAbs}
 use Rattle.definitions.specs.Refusals.{sizeRight}
 use Rattle.definitions.specs.Tests.{minus}
-use Rattle.definitions.proofs.Choices.{and-true}
+use Rattle.definitions.proofs.Choices.{both-true}
 use Rattle.definitions.proofs.Differences.{sub-cases}
 
 -- a negated natural, by cases
@@ -44,8 +44,8 @@ both f x y h v p q = rw (p, q, toZ-ofZ h, toZ-ofZ v)
 -- a few times a base size that refusal 1 accepts
 pub times-fits : (k : ℕ) (b : ℤ) → k < 16 → sizeRight b ≡ true → SFits w32 (pos k *ℤ b)
 times-fits k (pos n) h e =
-    let bounds = and-true _ (eqb (n % 16) 0) e .0 in
-    let high = leb-true n 4096 (and-true (leb 16 n) (leb n 4096) bounds .1) in
+    let bounds = both-true _ (eqb (n % 16) 0) e .0 in
+    let high = leb-true n 4096 (both-true (leb 16 n) (leb n 4096) bounds .1) in
     record { sfits = omega (arith, mul-le-mul h high) }
 times-fits k (negsuc n) h e = absurd (false≢true e)
 

@@ -12,7 +12,7 @@ use Rattle.definitions.specs.Tests.{allOf}
 use Rattle.definitions.specs.Text.{readAs, read}
 use Rattle.definitions.specs.Log.{logFor, LogOf}
 use Rattle.definitions.specs.Examples.{wholeCase, wholeEntries, wholeText, wholeLog, whole-holds, Broken, broken, PlacesRight}
-use Rattle.definitions.proofs.Choices.{and-true}
+use Rattle.definitions.proofs.Choices.{both-true}
 use Rattle.grammar.specs.Machine.{Cfg, dead, live, step, stepK, δ, classOf, runs, stateAt, Alive, Waiting}
 use Rattle.grammar.specs.Promises.{Ended}
 use Rattle.grammar.proofs.Runs.{ends-text-as}
@@ -50,11 +50,11 @@ ended-by :
     → cond t (not (isDead (stateAt s p)) && isDead (stateAt s (p + 1))) (leb p (length s) && isWaiting (stateAt s p)) ≡ true → Ended s p
 ended-by s p true e h =
     let l = ltb-true p (length s) e in
-    let both = and-true (not (isDead (stateAt s p))) (isDead (stateAt s (p + 1))) h in
+    let both = both-true (not (isDead (stateAt s p))) (isDead (stateAt s (p + 1))) h in
     record { within = omega arith; alive = alive-is (stateAt s p) (both .0); stuck = λ q. dead-is (stateAt s (p + 1)) (both .1); asks = λ q. absurd (omega arith) }
 ended-by s p false e h =
     let l = ltb-false p (length s) e in
-    let both = and-true (leb p (length s)) (isWaiting (stateAt s p)) h in
+    let both = both-true (leb p (length s)) (isWaiting (stateAt s p)) h in
     let w = waiting-is (stateAt s p) (both .1) in
     record { within = leb-true p (length s) (both .0); alive = waiting-alive (stateAt s p) w; stuck = λ q. absurd (omega arith); asks = λ q. w }
 
@@ -62,7 +62,7 @@ all-right : (rs : List Broken) → allOf (λ r. endsAt (r .text) (r .place)) rs 
 unfolding allOf
 all-right [] h = tt
 all-right (r ∷ rs) h =
-    let both = and-true (endsAt (r .text) (r .place)) (allOf (λ r. endsAt (r .text) (r .place)) rs) h in
+    let both = both-true (endsAt (r .text) (r .place)) (allOf (λ r. endsAt (r .text) (r .place)) rs) h in
     (ended-breaks (r .text) (r .place) (ended-by (r .text) (r .place) _ refl (both .0)), all-right rs (both .1))
 
 pub places-right : PlacesRight broken

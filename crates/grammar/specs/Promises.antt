@@ -125,17 +125,11 @@ FourTo s i c w c′ w′ (Each x y x′ y′ e) =
 FourTo s i c w c′ w′ (Cut p) =
     (d d′ : Kind) (g : List Ev) (k : List Sym) → Begins d c w → Begins d′ c′ w′ → stateAt s i ≡ live g (line d ∷ line d′ ∷ k) → Stuck s p
 
--- ---- Record lines. A reader stores what it reads, in words that were old and are new.
+-- ---- Record lines. A reader stores what it reads, in words that were old and are new; where what it reads is bad, the words stay.
 -- n + 1 numbers, and then k
 abbrev pub fields : ℕ → List Sym → List Sym
 fields zero k = field shut ∷ k
 fields (suc n) k = field gap ∷ fields n k
-
--- at most n words, from `from` on, were written over
-pub record Touched (old : List ℤ) (from n : ℕ) (new : List ℤ) : Type 0 where
-  pub over : List ℤ
-  pub few : length over ≤ n
-  pub is : new ≡ sets old from over
 
 -- X is taken off the stack from i to e, and the n numbers in it stand in the words from `from` on
 pub record Stored (s : List ℕ) (X : List Sym → List Sym) (n i : ℕ) (old : List ℤ) (from : ℕ) (new : List ℤ) (e : ℕ) : Type 0 where
@@ -148,7 +142,7 @@ pub record Stored (s : List ℕ) (X : List Sym → List Sym) (n i : ℕ) (old : 
 
 abbrev pub StoresTo : List ℕ → (List Sym → List Sym) → ℕ → ℕ → List ℤ → ℕ → List ℤ → Got → Type 0
 StoresTo s X n i old from new (At e) = Stored s X n i old from new e
-StoresTo s X n i old from new (Bad p) = Touched old from n new × ((g : List Ev) (k : List Sym) → stateAt s i ≡ live g (X k) → Stuck s p)
+StoresTo s X n i old from new (Bad p) = (new ≡ old) × ((g : List Ev) (k : List Sym) → stateAt s i ≡ live g (X k) → Stuck s p)
 
 abbrev pub Within : List ℕ → Got → Type 0
 Within s (At e) = e ≤ length s
@@ -186,7 +180,7 @@ pub record TailRead (r : RecordKind) (s : List ℕ) (i : ℕ) (old : List ℤ) (
 
 abbrev pub TailTo : RecordKind → List ℕ → ℕ → List ℤ → ℕ → List ℤ → Got → Type 0
 TailTo r s i old from new (At e) = TailRead r s i old from new e
-TailTo r s i old from new (Bad p) = Touched old from recordWords new × ((g : List Ev) (k : List Sym) → stateAt s i ≡ live g (tail r k) → Stuck s p)
+TailTo r s i old from new (Bad p) = (new ≡ old) × ((g : List Ev) (k : List Sym) → stateAt s i ≡ live g (tail r k) → Stuck s p)
 
 -- a record line after its bracket: its words stand from `from` on
 pub record RecordRead (s : List ℕ) (i : ℕ) (old : List ℤ) (from : ℕ) (new : List ℤ) (e : ℕ) : Type 0 where
@@ -199,7 +193,7 @@ pub record RecordRead (s : List ℕ) (i : ℕ) (old : List ℤ) (from : ℕ) (ne
 
 abbrev pub RecordTo : List ℕ → ℕ → List ℤ → ℕ → List ℤ → Got → Type 0
 RecordTo s i old from new (At e) = RecordRead s i old from new e
-RecordTo s i old from new (Bad p) = Touched old from recordWords new × ((g : List Ev) (k : List Sym) → stateAt s i ≡ live g (entry ∷ k) → Stuck s p)
+RecordTo s i old from new (Bad p) = (new ≡ old) × ((g : List Ev) (k : List Sym) → stateAt s i ≡ live g (entry ∷ k) → Stuck s p)
 
 -- ---- The text
 -- the machine stops at p for good, or p is the length and more is asked

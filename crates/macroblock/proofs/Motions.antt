@@ -16,7 +16,7 @@ use Rattle.definitions.specs.Splits.{rasterOf}
 use Rattle.definitions.specs.Record.{vectorLimit, used, motionOf, vectorWord, typeNumber, laidOut}
 use Rattle.definitions.specs.Inheriting.{zeroMotion, at, clearOf, filled, merged, liveOf, copied, resolved, scaledMotion, motionAt, chosen}
 use Rattle.definitions.specs.Answer.{subTypes}
-use Rattle.definitions.proofs.Choices.{and-true, eqZ-true, each, four-at, four-same}
+use Rattle.definitions.proofs.Choices.{both-true, eqZ-true, each, four-at, four-same}
 use Rattle.definitions.proofs.Formed.{Vectors, vectors-of}
 use Rattle.definitions.proofs.Records.{raster-below}
 use Rattle.definitions.proofs.Scaling.{chosen-scaled}
@@ -35,7 +35,7 @@ zero-word false z f e = eqZ-true z (pos 0) e
 empty : (p : Prediction) → vectorWord (used (p .reference)) (p .x) ≡ true → vectorWord (used (p .reference)) (p .y) ≡ true → Empty p
 empty p a b u =
     let word : (z : ℤ) → vectorWord (used (p .reference)) z ≡ true → z ≡ pos 0 =
-    λ z e. zero-word (used (p .reference)) z u (and-true (between (minus vectorLimit) (pos (vectorLimit - 1)) z) (used (p .reference) || eqZ z (pos 0)) e .1) in
+    λ z e. zero-word (used (p .reference)) z u (both-true (between (minus vectorLimit) (pos (vectorLimit - 1)) z) (used (p .reference) || eqZ z (pos 0)) e .1) in
     let r = not-used (p .reference) u in
     let x = word (p .x) a in
     let y = word (p .y) b in
@@ -53,7 +53,7 @@ module _ (width : ℕ) (base : List ℤ) (x y : ℕ) (r : ReadableAt width base 
   read-range =
       let a = vectors 0 (omega arith) in
       let b = vectors 1 (omega arith) in
-      (record { x = and-true _ _ (a .x) .0; y = and-true _ _ (a .y) .0 }, record { x = and-true _ _ (b .x) .0; y = and-true _ _ (b .y) .0 })
+      (record { x = both-true _ _ (a .x) .0; y = both-true _ _ (a .y) .0 }, record { x = both-true _ _ (b .x) .0; y = both-true _ _ (b .y) .0 })
 
   pub read-empty : Both Empty (motionRead width base x y)
   unfolding motionRead motionOf

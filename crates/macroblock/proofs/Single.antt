@@ -18,7 +18,7 @@ use Rattle.definitions.specs.Splits.{quadrantOf}
 use Rattle.definitions.specs.Record.{recordAt, isIntra, typeOf, subTypeOf, motionOf, typeNumber, laidOut}
 use Rattle.definitions.specs.Inheriting.{zeroMotion, setOf, mostlyIntra, clearOf, filled, merged, copied, copiedFrom, liveOf, someOf, resolved, scaledMotion, motionAt, chosen}
 use Rattle.definitions.specs.Answer.{subTypes}
-use Rattle.definitions.proofs.Choices.{and-true, or-true, each, four-same, yes, no}
+use Rattle.definitions.proofs.Choices.{both-true, either-true, each, four-same, yes, no}
 use Rattle.definitions.proofs.Fewest.{chosen-is}
 use Rattle.definitions.proofs.Motions.{motion-same}
 use Rattle.records.proofs.Undivided.{whole, undivided}
@@ -33,8 +33,8 @@ use Rattle.macroblock.proofs.Motions.{read-empty}
 one-part : (d : ℕ) (reads : List ℕ) → onePart d reads ≡ true → (i : ℕ) → i < 4 → getD reads i 0 / d ≡ getD reads 0 0 / d
 unfolding onePart
 one-part d reads e =
-    let ab = and-true _ _ e in
-    let a = and-true _ _ (ab .0) in
+    let ab = both-true _ _ e in
+    let a = both-true _ _ (ab .0) in
     each (λ i. getD reads i 0 / d ≡ getD reads 0 0 / d) refl (eqb-true _ _ (a .0)) (eqb-true _ _ (a .1)) (eqb-true _ _ (ab .1))
 
 -- the quadrant of the block with coordinates x and y, by their halves
@@ -101,7 +101,7 @@ module _ (g : Axes) (h v : AxisRead) (base : List ℤ) (ready : Ready g h v base
 
   same-read : (i : ℕ) → i < 16 → readBy width (h .reads) (v .reads) base i ≡ it
   same-read i l =
-      let both = and-true (onePart 4 (h .reads)) (onePart 4 (v .reads)) one in
+      let both = both-true (onePart 4 (h .reads)) (onePart 4 (v .reads)) one in
       let p = one-part 4 (h .reads) (both .0) (i % 4) (omega arith) in
       let q = one-part 4 (v .reads) (both .1) (i / 4) (omega arith) in
       λ t. recordAt base (q t * width + p t)
@@ -140,13 +140,13 @@ module _ (g : Axes) (h v : AxisRead) (base : List ℤ) (ready : Ready g h v base
         ⊎-elim
         (λ t. by-blocks (λ i l. whole it (first-readable .formed) not-intra (blockOf i) block (omega arith) (omega arith) t))
         (λ t.
-        let quarter = and-true (onePart 2 (h .reads) && onePart 2 (v .reads)) (eqZ (subTypeOf it (quadrantOf block)) (pos 0)) t in
-        let halves = and-true (onePart 2 (h .reads)) (onePart 2 (v .reads)) (quarter .0) in
+        let quarter = both-true (onePart 2 (h .reads) && onePart 2 (v .reads)) (eqZ (subTypeOf it (quadrantOf block)) (pos 0)) t in
+        let halves = both-true (onePart 2 (h .reads)) (onePart 2 (v .reads)) (quarter .0) in
         by-blocks (λ i l.
         let p = one-part 2 (h .reads) (halves .0) (i % 4) (omega arith) in
         let q = one-part 2 (v .reads) (halves .1) (i / 4) (omega arith) in
         undivided it (first-readable .formed) not-intra (blockOf i) block (omega arith) (omega arith) (same-quadrant _ _ x y p q) (quarter .1)))
-        (or-true (eqZ (typeOf it) (pos 1)) ((onePart 2 (h .reads) && onePart 2 (v .reads)) && eqZ (subTypeOf it (quadrantOf block)) (pos 0)) e)
+        (either-true (eqZ (typeOf it) (pos 1)) ((onePart 2 (h .reads) && onePart 2 (v .reads)) && eqZ (subTypeOf it (quadrantOf block)) (pos 0)) e)
 
     module _ (all : AllRead) where
       abbrev quadrant : List Motion

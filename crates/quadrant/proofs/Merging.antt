@@ -11,7 +11,7 @@ use Rattle.definitions.specs.declared.Motion.{Motion}
 use Rattle.definitions.specs.Tests.{pick, eqZ, four}
 use Rattle.definitions.specs.Record.{used}
 use Rattle.definitions.specs.Inheriting.{zeroPrediction, zeroMotion, source, lower, lowest, having, withReference, unused, mergedList, merged}
-use Rattle.definitions.proofs.Choices.{yes, no, and-true, eqZ-true, each, four-same, four-is}
+use Rattle.definitions.proofs.Choices.{yes, no, both-true, eqZ-true, each, four-same, four-is}
 use Rattle.definitions.proofs.Steps.{settled-merged}
 use Rattle.quadrant.specs.Merging.{firstOf, oneReferenceOf, oneReference, AllEmpty}
 
@@ -81,8 +81,8 @@ merged-both m x y = λ i. paired (x i) (y i)
 -- ---- nothing to merge
 one-each : (f : ℕ → Prediction) → oneReferenceOf (f 0) (f 1) (f 2) (f 3) ≡ true → (k : ℕ) → k < 4 → f k .reference ≡ f 0 .reference
 one-each f e =
-    let ab = and-true (eqZ (f 1 .reference) (f 0 .reference) && eqZ (f 2 .reference) (f 0 .reference)) (eqZ (f 3 .reference) (f 0 .reference)) e in
-    let a = and-true (eqZ (f 1 .reference) (f 0 .reference)) (eqZ (f 2 .reference) (f 0 .reference)) (ab .0) in
+    let ab = both-true (eqZ (f 1 .reference) (f 0 .reference) && eqZ (f 2 .reference) (f 0 .reference)) (eqZ (f 3 .reference) (f 0 .reference)) e in
+    let a = both-true (eqZ (f 1 .reference) (f 0 .reference)) (eqZ (f 2 .reference) (f 0 .reference)) (ab .0) in
     each (λ k. f k .reference ≡ f 0 .reference) refl (eqZ-true _ _ (a .0)) (eqZ-true _ _ (a .1)) (eqZ-true _ _ (ab .1))
 
 pub merged-settled : (m : List Motion) → length m ≡ 4 → oneReference m ≡ true → AllEmpty m → m ≡ merged m
@@ -90,7 +90,7 @@ unfolding oneReference
 merged-settled m l e empty =
     let first : ℕ → Prediction = λ k. getD m k zeroMotion .list0 in
     let second : ℕ → Prediction = λ k. getD m k zeroMotion .list1 in
-    let both = and-true (oneReferenceOf (first 0) (first 1) (first 2) (first 3)) (oneReferenceOf (second 0) (second 1) (second 2) (second 3)) e in
+    let both = both-true (oneReferenceOf (first 0) (first 1) (first 2) (first 3)) (oneReferenceOf (second 0) (second 1) (second 2) (second 3)) e in
     four-is m zeroMotion l ∙ sym (settled-merged m (record {
       one0 = one-each first (both .0);
       one1 = one-each second (both .1);

@@ -9,7 +9,7 @@ use Rattle.definitions.specs.declared.MacroblockReply.the-variants.{Answered, R
 use Rattle.definitions.specs.Tests.{pick}
 use Rattle.definitions.specs.Calls.{noCounts}
 use Rattle.definitions.specs.Session.{Call, State, fresh, begun, totalsOf, Exchange, beginGave, nextGave, abandonGave, totalsGave, exchange, ifAccepted, advanced, stateBy, stateNext, stateAfter, accepts, sound}
-use Rattle.definitions.proofs.Choices.{yes, no, pick-cases, and-true}
+use Rattle.definitions.proofs.Choices.{yes, no, pick-cases, both-true}
 use Rattle.definitions.proofs.Sessions.{totals-right, sound-next, only-sound}
 use Rattle.session.specs.declared.Session.{Session}
 use Rattle.session.specs.Values.{freshSession, valueOf, stateOf, answers, changes, handedBy, handedBack, HandsBack, valueAfter, OnlyValues}
@@ -19,7 +19,7 @@ pub state-sound : (v : Session) → sound (stateOf v) ≡ true
 unfolding stateOf
 state-sound v =
     let held = sound (begun (v .numbers) (v .counts)) in
-    pick-cases (λ s. sound s ≡ true) (v .begun && held) (begun (v .numbers) (v .counts)) fresh (λ e. and-true (v .begun) held e .1) (λ e. refl)
+    pick-cases (λ s. sound s ≡ true) (v .begun && held) (begun (v .numbers) (v .counts)) fresh (λ e. both-true (v .begun) held e .1) (λ e. refl)
 
 pub state-of-value : (s : State) → sound s ≡ true → stateOf (valueOf s) ≡ s
 unfolding stateOf

@@ -1,16 +1,28 @@
--- A record of one motion, put into a part of the words.
-use Prim.Native.Nat.{ℕ, _+_, _-_, _≤_}
+-- Words that are stored one after the other, and a record of one motion, put into a part of the words.
+use Prim.Native.Nat.{ℕ, _+_, _-_, _<_, _≤_}
 use mathlib.Core.Path.{_≡_, sym, ap, _∙_}
 use mathlib.Core.List.{List, [], _∷_, _++_, append-assoc}
 use native.Mathlib.Omega.{arith}
-use lib.IntN.{ℤ}
-use lib.ListN.{length, take, drop, getD}
-use lib.Seq.{sets, sets-eq, drop-drop}
+use native.Mathlib.Numerals.{add-one}
+use lib.IntN.{ℤ, pos}
+use lib.ListN.{length, take, drop, getD, set}
+use lib.Seq.{sets, sets-eq, drop-drop, length-take-le, take-suc}
 use Rattle.definitions.specs.declared.Motion.{Motion}
 use Rattle.definitions.specs.Tests.{four}
 use Rattle.definitions.specs.Record.{recordWords, laidOut}
 use Rattle.definitions.specs.Inheriting.{motionAt}
+use Rattle.definitions.proofs.Parts.{sets-append}
 use Rattle.definitions.proofs.Records.{laid-length, laid-alike}
+
+-- k words are stored, and the next is
+pub stored-more :
+    (old new words : List ℤ) (from k : ℕ) → k < length words → new ≡ sets old from (take k words)
+    → set new (from + k) (getD words k (pos 0)) ≡ sets old from (take (k + 1) words)
+stored-more old new words from k l e =
+    let w = getD words k (pos 0) in
+    ap (λ (o : List ℤ). set o (from + k) w) e ∙ ap (λ (j : ℕ). set (sets old from (take k words)) (from + j) w) (sym (length-take-le k words (omega arith)))
+    ∙ sym (sets-append old from (take k words) (w ∷ []))
+    ∙ ap (sets old from) (sym (take-suc words k (pos 0) l) ∙ ap (λ (j : ℕ). take j words) (sym (add-one k)))
 
 module _ (out : List ℤ) (from : ℕ) (fits : from + recordWords ≤ length out) where
   part-put : (w : List ℤ) → length w ≡ recordWords → take from out ++ (w ++ drop (from + 77 - from) (drop from out)) ≡ sets out from w

@@ -1,5 +1,5 @@
-// Reading the record lines of a text: each reader stores the words in the buffer that it is lent as it reads them. A text is judged with a buffer
-// of its own, so that no lent word changes before all of it is judged.
+// Reading the record lines of a text: each reader stores the words in the buffer that it is lent once it has read them all, so that bad bytes leave
+// every lent word.
 ghost use Prim.Native.Nat.{_+_, _<_, _≤_};
 ghost use lib.ListN.{length, getD};
 ghost use lib.Seq.{sets};
@@ -18,22 +18,36 @@ use sync_notes::word_at;
 use sync_numbers::field;
 use write::write_record;
 
-// n + 1 numbers and the closing bracket. The numbers are stored from `from` on.
+// The most numbers in one pair of brackets: the vector words of a record.
+const MOST_FIELDS: usize = 64;
+
+// The words, stored from `from` on.
+fn put_words(out: &mut [i16], from: usize, words: &[i16])
+    requires { ⌜ from + length (now words) ≤ length (now out) ⌝ }
+    ensures { λ _. ⌜ now (out .exit) ≡ sets (now (out .entry)) from (now (words .entry)) ⌝ }
+{
+    let mut k: usize = 0;
+    while k < words.len() {
+        out[from + k] = words[k];
+        k += 1;
+    }
+}
+
+// n + 1 numbers and the closing bracket. The numbers are stored from `from` on, once all are read.
 fn store_fields(s: &[u8], at: usize, n: usize, out: &mut [i16], from: usize) -> Got
-    requires { ⌜ (at ≤ length (now s)) × (from + n < length (now out)) ⌝ }
+    requires { ⌜ (at ≤ length (now s)) × (n < 64) × (from + n < length (now out)) ⌝ }
     ensures { λ r. ⌜ StoresTo (now (s .entry)) (λ (k : List Sym). fields n k) (n + 1) at (now (out .entry)) from (now (out .exit)) r ⌝ }
 {
+    let mut own = [0i16; MOST_FIELDS];
     let mut p = at;
-    let mut m = n;
-    let mut i = from;
-    while m > 0 {
+    let mut i: usize = 0;
+    while i < n {
         let v = field(s, p, false);
         match v {
             Num::Value(z, e) => {
-                out[i] = z;
+                own[i] = z;
                 i += 1;
                 p = e;
-                m -= 1;
             }
             Num::Wrong(q) => {
                 return Got::Bad(q);
@@ -43,7 +57,9 @@ fn store_fields(s: &[u8], at: usize, n: usize, out: &mut [i16], from: usize) -> 
     let v = field(s, p, true);
     match v {
         Num::Value(z, e) => {
-            out[i] = z;
+            own[n] = z;
+            let many = n + 1;
+            put_words(out, from, &own[0..many]);
             Got::At(e)
         }
         Num::Wrong(q) => Got::Bad(q),
@@ -63,7 +79,7 @@ pub fn then_word(s: &[u8], r: Got, w: &[u8]) -> Got
 
 // After r, n + 1 numbers and the closing bracket.
 pub fn then_fields(s: &[u8], r: Got, n: usize, out: &mut [i16], from: usize) -> Got
-    requires { ⌜ Within (now s) r × (from + n < length (now out)) ⌝ }
+    requires { ⌜ Within (now s) r × (n < 64) × (from + n < length (now out)) ⌝ }
     ensures { λ q. ⌜ ThenStores (now (s .entry)) (λ (k : List Sym). fields n k) (n + 1) r (now (out .entry)) from (now (out .exit)) q ⌝ }
 {
     match r {
@@ -136,26 +152,32 @@ fn put_whole(out: &mut [i16], from: usize, six: [i16; 6])
     );
 }
 
-// What comes after the letter of a line (intra).
+// What comes after the letter of a line (intra). The record is stored once all of it is read.
 fn intra_tail(s: &[u8], at: usize, out: &mut [i16], from: usize) -> Got
     requires { ⌜ (at ≤ length (now s)) × (from + recordWords ≤ length (now out)) ⌝ }
     ensures { λ r. ⌜ TailTo intra (now (s .entry)) at (now (out .entry)) from (now (out .exit)) r ⌝ }
 {
-    let unused = Prediction {
-        reference: -1,
-        x: 0,
-        y: 0,
-    };
-    put_record(
-        out,
-        from,
-        0,
-        Motion {
-            list0: unused,
-            list1: unused,
-        },
-    );
-    word_at(s, at, b"ntra)\n")
+    let r = word_at(s, at, b"ntra)\n");
+    match r {
+        Got::At(e) => {
+            let unused = Prediction {
+                reference: -1,
+                x: 0,
+                y: 0,
+            };
+            put_record(
+                out,
+                from,
+                0,
+                Motion {
+                    list0: unused,
+                    list1: unused,
+                },
+            );
+            Got::At(e)
+        }
+        Got::Bad(p) => Got::Bad(p),
+    }
 }
 
 // The same of a line (whole (R0 R1) (X0 Y0 X1 Y1)).
@@ -168,8 +190,14 @@ fn whole_tail(s: &[u8], at: usize, out: &mut [i16], from: usize) -> Got
     let b = then_fields(s, a, 1, &mut six, 0);
     let c = then_word(s, b, b" (");
     let d = then_fields(s, c, 3, &mut six, 2);
-    put_whole(out, from, six);
-    then_word(s, d, b")\n")
+    let r = then_word(s, d, b")\n");
+    match r {
+        Got::At(e) => {
+            put_whole(out, from, six);
+            Got::At(e)
+        }
+        Got::Bad(p) => Got::Bad(p),
+    }
 }
 
 // The same of a line (mb T (4 sub-types) (8 references) (64 vector words)).
@@ -177,21 +205,26 @@ fn mb_tail(s: &[u8], at: usize, out: &mut [i16], from: usize) -> Got
     requires { ⌜ (at ≤ length (now s)) × (from + recordWords ≤ length (now out)) ⌝ }
     ensures { λ r. ⌜ TailTo mb (now (s .entry)) at (now (out .entry)) from (now (out .exit)) r ⌝ }
 {
-    let sub_types = from + 1;
-    let references = from + 5;
-    let vectors = from + 13;
+    let mut own = [0i16; RECORD_WORDS];
     let a = then_word(s, Got::At(at), b"b ");
-    let b = then_field(s, a, out, from);
+    let b = then_field(s, a, &mut own, 0);
     let c = then_word(s, b, b"(");
-    let d = then_fields(s, c, 3, out, sub_types);
+    let d = then_fields(s, c, 3, &mut own, 1);
     let e = then_word(s, d, b" (");
-    let f = then_fields(s, e, 7, out, references);
+    let f = then_fields(s, e, 7, &mut own, 5);
     let g = then_word(s, f, b" (");
-    let h = then_fields(s, g, 63, out, vectors);
-    then_word(s, h, b")\n")
+    let h = then_fields(s, g, 63, &mut own, 13);
+    let r = then_word(s, h, b")\n");
+    match r {
+        Got::At(q) => {
+            put_words(out, from, &own);
+            Got::At(q)
+        }
+        Got::Bad(q) => Got::Bad(q),
+    }
 }
 
-// A record line from its letter b on, which stands at `at`. Its words are stored from `from` on.
+// A record line from its letter b on, which stands at `at`. Its words are stored from `from` on; a bad line leaves every word.
 pub fn record_line(s: &[u8], at: usize, b: u8, out: &mut [i16], from: usize) -> Got
     requires { ⌜ (at < length (now s)) × (getD (now s) at 0 ≡ b) × ((b ≡ 110) → ⊥) × (from + recordWords ≤ length (now out)) ⌝ }
     ensures { λ r. ⌜ RecordTo (now (s .entry)) at (now (out .entry)) from (now (out .exit)) r ⌝ }

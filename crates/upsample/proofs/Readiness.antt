@@ -14,7 +14,7 @@ use Rattle.definitions.specs.BlockMap.{stepOf, addressRead}
 use Rattle.definitions.specs.Record.{recordWords, recordAt, wellFormed}
 use Rattle.definitions.specs.Answer.{namedAt, addressesOf}
 use Rattle.definitions.specs.Refusals.{baseCount, addressesRead}
-use Rattle.definitions.proofs.Choices.{yes, no, and-true}
+use Rattle.definitions.proofs.Choices.{yes, no, both-true}
 use Rattle.definitions.proofs.Accepted.{across-inside, down-inside}
 use Rattle.definitions.proofs.Addresses.{address-named, address-below}
 use Rattle.definitions.proofs.Map.{f-below}
@@ -75,8 +75,8 @@ module _ (g : Axes) (base : List ℤ) (placed : Placed g base) (column row : ℕ
       let across = readOf (g .horizontal) column in
       let down = readOf (g .vertical) row in
       let says : (across .inside && down .inside) ≡ inside g column row = let p = read-says (g .horizontal) column in let q = read-says (g .vertical) row in λ i. p i && q i in
-      let x : inside g column row ≡ true → across ≡ hor = λ e. yes _ _ (and-true (insideAxis (g .horizontal) (sampleOf column)) (insideAxis (g .vertical) (sampleOf row)) e .0) in
-      let y : inside g column row ≡ true → down ≡ ver = λ e. yes _ _ (and-true (insideAxis (g .horizontal) (sampleOf column)) (insideAxis (g .vertical) (sampleOf row)) e .1) in
+      let x : inside g column row ≡ true → across ≡ hor = λ e. yes _ _ (both-true (insideAxis (g .horizontal) (sampleOf column)) (insideAxis (g .vertical) (sampleOf row)) e .0) in
+      let y : inside g column row ≡ true → down ≡ ver = λ e. yes _ _ (both-true (insideAxis (g .horizontal) (sampleOf column)) (insideAxis (g .vertical) (sampleOf row)) e .1) in
       let to : (P : AxisRead → AxisRead → Type 0) → inside g column row ≡ true → P hor ver → P across down =
       λ P e p. subst (λ (s : AxisRead). P s down) (sym (x e)) (subst (P hor) (sym (y e)) p) in
       record {

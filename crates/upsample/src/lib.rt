@@ -1,4 +1,4 @@
-// The upsampler: the calls of document 01 on records, one macroblock and the whole picture.
+// The one-macroblock call of document 01 on records, and the stages that the picture call has too.
 ghost use Prim.Native.Nat.{_*_, _<_, _≤_};
 ghost use Rattle.definitions.specs.Accepted.{AcceptedAxes};
 ghost use Rattle.definitions.specs.Answer.{addressesOf};

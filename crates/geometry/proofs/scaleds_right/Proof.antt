@@ -4,7 +4,7 @@ use mir.Facts.{toZ-ofZ}
 use mir.Syntax.{w32}
 use mir.Val.{SFits}
 use Rattle.definitions.specs.Refusals.{sizeRight}
-use Rattle.definitions.proofs.Choices.{and-true}
+use Rattle.definitions.proofs.Choices.{both-true}
 use Rattle.geometry.proofs.scaleds_right.Statement.{statement}
 use Rattle.geometry.proofs.scaleds_right.Tie as tie
 
@@ -12,13 +12,13 @@ scaled-right-requires : tie.Need-scaled-right-requires
 scaled-right-requires c κs =
     let s = c .before .before in
     let b : SFits w32 (s .args .n .horizontal .base) = search needs in
-    rw (toZ-ofZ b) (and-true _ (sizeRight (s .args .n .vertical .base)) (s .pre) .0)
+    rw (toZ-ofZ b) (both-true _ (sizeRight (s .args .n .vertical .base)) (s .pre) .0)
 
 scaled-right-requires-2 : tie.Need-scaled-right-requires-2
 scaled-right-requires-2 c κs =
     let s = c .before .before .before .before .before in
     let b : SFits w32 (s .args .n .vertical .base) = search needs in
-    rw (toZ-ofZ b) (and-true (sizeRight (s .args .n .horizontal .base)) _ (s .pre) .1)
+    rw (toZ-ofZ b) (both-true (sizeRight (s .args .n .horizontal .base)) _ (s .pre) .1)
 
 returns : tie.Need-returns
 returns c =

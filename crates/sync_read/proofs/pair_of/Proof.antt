@@ -69,7 +69,7 @@ returns-2 c =
     let v1 = stores-word v0 (c .before .before .before .before .before .before .before .before .then-word .ensures) in
     let v2 = stores-more v1 (c .before .before .before .before .before .before .then-fields .ensures) (omega arith) in
     let v3 = stores-word v2 (c .before .before .before .then-word2 .ensures) in
-    (rw (c .before .c2 .given .1) at (v3 .is)) .1
+    rw (c .before .c2 .given .1) at (v3 .is)
 
 pub pair-of-spec : {M : Type 1} → statement M
 pair-of-spec =

@@ -1,9 +1,8 @@
 -- `sync_records::record_line` meets its contract. Assumes nothing.
-use Rattle.grammar.proofs.Storing.{untouched}
 use Rattle.grammar.proofs.Openings.{record-of, entry-bad}
 use Rattle.definitions.specs.Text.{intra, whole, mb}
 use native.Mathlib.Omega.{arith}
-use mathlib.Core.Path.{sym, _∙_}
+use mathlib.Core.Path.{refl, sym, _∙_}
 use borrow.Author.Needs.{needs}
 use Rattle.sync_records.proofs.record_line.Statement.{statement}
 use Rattle.sync_records.proofs.record_line.Tie as tie
@@ -58,7 +57,7 @@ returns-4 c =
     let o = c .before .before .before .before in
     let a = o .args in
     let e = o .pre .1 in (
-      untouched (a .out .now) (a .from) 77,
+      refl,
       λ g k h.
           entry-bad (a .s .now) (a .at) g k h (omega arith) (λ z. o .pre .2 (sym e ∙ z)) (λ z. c .before .before .if1 .left (sym e ∙ z)) (λ z. c .before .if2 .left (sym e ∙ z)) (λ z. c .if3 .left (sym e ∙ z)),
     )

@@ -1,8 +1,8 @@
 -- `sync_records::then_field` meets its contract. Assumes nothing.
-use Rattle.grammar.proofs.Storing.{one-stored, then-stores, then-stores-bad, untouched}
+use Rattle.grammar.proofs.Storing.{one-stored, then-stores, then-stores-bad}
 use mir.Val.{toZ, ofZ}
 use mir.Syntax.{w16}
-use mathlib.Core.Path.{_≡_}
+use mathlib.Core.Path.{_≡_, refl}
 use borrow.Author.Needs.{needs}
 use Rattle.sync_records.proofs.then_field.Statement.{statement}
 use Rattle.sync_records.proofs.then_field.Tie as tie
@@ -44,7 +44,7 @@ returns-2 : tie.Need-returns-2
 returns-2 c =
     let a = c .before .before .before .before .before .before .before .before .args in
     then-stores (a .s .now) _ 1 (a .r) (a .out .now) (a .from) (a .out .now) _ _ (c .before .before .before .before .before .r .given .1)
-    (untouched (a .out .now) (a .from) 1, rw (c .before .v2 .given .1) at (c .before .before .before .field .ensures))
+    (refl, rw (c .before .v2 .given .1) at (c .before .before .before .field .ensures))
 
 returns-3 : tie.Need-returns-3
 returns-3 c =

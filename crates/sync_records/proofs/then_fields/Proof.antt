@@ -9,7 +9,7 @@ enum-known-r c = search needs
 
 store-fields-requires : tie.Need-store-fields-requires
 store-fields-requires c κs =
-    (rw (c .before .before .r .given .1) at (c .before .before .before .before .before .pre .0), c .before .before .before .before .before .pre .1)
+    (rw (c .before .before .r .given .1) at (c .before .before .before .before .before .pre .0), c .before .before .before .before .before .pre .1, c .before .before .before .before .before .pre .2)
 
 enum-known-r-2 : tie.Need-enum-known-r-2
 enum-known-r-2 c = search needs

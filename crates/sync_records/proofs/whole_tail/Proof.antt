@@ -1,12 +1,29 @@
 -- `sync_records::whole_tail` meets its contract. Assumes nothing.
-use Rattle.grammar.proofs.Storing.{stores-first, stores-word, stores-more, whole-tail}
-use native.Mathlib.Omega.{arith}
-use lib.IntN.{pos}
-use mathlib.Core.List.{[], _∷_}
-use mathlib.Core.Path.{refl}
 use borrow.Author.Needs.{needs}
+use mathlib.Core.Path.{refl}
+use mathlib.Core.List.{List, [], _∷_}
+use lib.IntN.{ℤ, pos}
+use native.Mathlib.Omega.{arith}
+use Rattle.definitions.specs.Text.{whole}
+use Rattle.grammar.specs.Promises.{tail}
+use Rattle.grammar.proofs.Storing.{Stores, stores-first, stores-word, stores-more, whole-tail}
 use Rattle.sync_records.proofs.whole_tail.Statement.{statement}
 use Rattle.sync_records.proofs.whole_tail.Tie as tie
+
+abbrev zeros : List ℤ
+zeros = pos 0 ∷ pos 0 ∷ pos 0 ∷ pos 0 ∷ pos 0 ∷ pos 0 ∷ []
+
+-- the whole line
+line-read : (c : tie.After-then-word3) → Stores (c .before .before .before .before .before .before .before .before .before .before .before .before .before .args .s .now) (tail whole) 6 (c .before .before .before .before .before .before .before .before .before .before .before .before .before .args .at) zeros 0 (c .before .before .before .then-fields2 .last .1 .1 .1 .0) (c .then-word3 .result)
+line-read c =
+    let o = c .before .before .before .before .before .before .before .before .before .before .before .before .before in
+    let a = o .args in
+    let v0 = stores-first (a .s .now) (a .at) zeros 0 (o .pre .0) in
+    let v1 = stores-word v0 (c .before .before .before .before .before .before .before .before .before .before .then-word .ensures) in
+    let v2 = stores-more v1 (c .before .before .before .before .before .before .before .before .then-fields .ensures) (omega arith) in
+    let v3 = stores-word v2 (c .before .before .before .before .before .then-word2 .ensures) in
+    let v4 = stores-more v3 (c .before .before .before .then-fields2 .ensures) (omega arith) in
+    stores-word v4 (c .then-word3 .ensures)
 
 slice-aggregate-then-word : tie.Need-slice-aggregate-then-word
 slice-aggregate-then-word c = search needs
@@ -32,29 +49,31 @@ slice-aggregate-then-fields-2 c = search needs
 then-fields-requires-2 : tie.Need-then-fields-requires-2
 then-fields-requires-2 c κs = search needs
 
-put-whole-requires : tie.Need-put-whole-requires
-put-whole-requires c κs = search needs
-
 slice-aggregate-then-word-3 : tie.Need-slice-aggregate-then-word-3
 slice-aggregate-then-word-3 c = search needs
 
 then-word-requires-3 : tie.Need-then-word-requires-3
 then-word-requires-3 c κs = search needs
 
+enum-known-r : tie.Need-enum-known-r
+enum-known-r c = search needs
+
+put-whole-requires : tie.Need-put-whole-requires
+put-whole-requires c κs = search needs
+
+enum-known-r-2 : tie.Need-enum-known-r-2
+enum-known-r-2 c = search needs
+
 same-length : tie.Need-same-length
 same-length c = search needs
 
 returns : tie.Need-returns
 returns c =
-    let o = c .before .before .before .before .before .before .before .before .before .before .before .before .before .before .before .before in
-    let a = o .args in
-    let zeros = pos 0 ∷ pos 0 ∷ pos 0 ∷ pos 0 ∷ pos 0 ∷ pos 0 ∷ [] in
-    let v0 = stores-first (a .s .now) (a .at) zeros 0 (o .pre .0) in
-    let v1 = stores-word v0 (c .before .before .before .before .before .before .before .before .before .before .before .before .before .then-word .ensures) in
-    let v2 = stores-more v1 (c .before .before .before .before .before .before .before .before .before .before .before .then-fields .ensures) (omega arith) in
-    let v3 = stores-word v2 (c .before .before .before .before .before .before .before .before .then-word2 .ensures) in
-    let v4 = stores-more v3 (c .before .before .before .before .before .before .then-fields2 .ensures) (omega arith) in
-    whole-tail (a .s .now) (a .at) (a .out .now) (a .from) _ zeros _ (c .then-word3 .result) refl (c .before .before .before .put-whole .ensures) (stores-word v4 (c .then-word3 .ensures))
+    let a = c .before .before .before .before .before .before .before .before .before .before .before .before .before .before .before .before .before .before .before .args in
+    whole-tail (a .s .now) (a .at) (a .out .now) (a .from) _ zeros _ _ refl (c .before .put-whole .ensures) (rw (c .before .before .before .before .r .given .1) at (line-read (c .before .before .before .before .before .before) .is))
+
+returns-2 : tie.Need-returns-2
+returns-2 c = (refl, rw (c .before .r2 .given .1) at (line-read (c .before .before .before) .is))
 
 pub whole-tail-spec : {M : Type 1} → statement M
 whole-tail-spec =
@@ -68,8 +87,11 @@ whole-tail-spec =
     then-word-requires-2
     slice-aggregate-then-fields-2
     then-fields-requires-2
-    put-whole-requires
     slice-aggregate-then-word-3
     then-word-requires-3
+    enum-known-r
+    put-whole-requires
+    enum-known-r-2
     same-length
-    returns)
+    returns
+    returns-2)

@@ -3,7 +3,7 @@ use Rattle.upsample.proofs.Staging.{wrong-base, wrong-output, wrong-pla
 use Rattle.definitions.proofs.Demand.{within-low}
 use Rattle.upsample.proofs.Within.{within-natural}
 use Rattle.upsample.specs.Staged.{placedCall}
-use Rattle.definitions.proofs.Choices.{and-true}
+use Rattle.definitions.proofs.Choices.{both-true}
 use Rattle.definitions.specs.Calls.{Outcome}
 use Rattle.definitions.specs.Refusals.{baseCount, withinAxis}
 use Rattle.definitions.specs.Record.{recordWords}
@@ -39,7 +39,7 @@ both c =
 within : (c : tie.Then3)
     → (withinAxis (fullSize (c .before .before .before .before .before .before .before .before .args .g .horizontal)) (c .before .before .before .before .before .before .before .before .args .column) ≡ true)
     × (withinAxis (fullSize (c .before .before .before .before .before .before .before .before .args .g .vertical)) (c .before .before .before .before .before .before .before .before .args .row) ≡ true)
-within c = and-true _ _ (both (c .before) ∙ c .if3 .taken)
+within c = both-true _ _ (both (c .before) ∙ c .if3 .taken)
 
 low : (c : tie.Then3) → (natAbs (c .before .before .before .before .before .before .before .before .args .column) < 256) × (natAbs (c .before .before .before .before .before .before .before .before .args .row) < 256)
 low c =
