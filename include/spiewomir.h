@@ -39,8 +39,9 @@ extern "C" {
  * quadrant; 5 vector words -8192..8191, and 0 where the reference is -1; 6 all blocks
  * of a partition or sub-partition have the same references and vectors.
  * A picture of W by H samples has W/16 times H/16 macroblocks; columns, rows and
- * addresses (raster order) count from 0. A written record can be of type 5 and have
- * vector words of -16384..16382, and is then not well formed as a base's. */
+ * addresses (raster order) count from 0. A written record is not well formed as a
+ * base's if it is of type 5 or has a vector word outside -8192..8191; these reach
+ * -16384..16382. */
 #define SPIEWOMIR_WORDS 77
 
 /* A sync text: the most bytes, the most record lines, and the words to lend for

@@ -35,7 +35,7 @@ pub record AcceptedAxis (a : Axis) : Type 0 where
   pub offset-low : minus 8192 ≤ℤ offsetOf a
   pub offset-high : offsetOf a ≤ℤ pos 8190
 
--- both axes of one
+-- both axes of an accepted geometry
 pub record AcceptedAxes (g : Axes) : Type 0 where
   pub horizontal : AcceptedAxis (g .horizontal)
   pub vertical : AcceptedAxis (g .vertical)

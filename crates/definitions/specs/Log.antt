@@ -99,11 +99,11 @@ abbrev pub findingBy : Verdict → List ℕ → Finding
 findingBy Accepted lines = makes lines
 findingBy (Refused r) lines = refuses r
 
--- what these tests leave of them
+-- what they leave of the numbers, the count of record lines and their words
 abbrev pub judged : Numbers → ℕ → List ℤ → Finding
 judged n lines base = findingBy (verdictOf (programTests n lines base)) (pictureLines (axesOf n) base)
 
--- The program tests the length by 10, then 9, then the record lines by 10, then 1 to 5, then 8 on all records.
+-- The program tests the length by 10, then 9, then the record lines by 10 (Reads of Text), then 1 to 5, then 8 on all records.
 abbrev pub findingOf : Reading → Finding
 findingOf (notRead r) = refuses r
 findingOf (readAs n entries) = judged n (length entries) (baseOf entries)

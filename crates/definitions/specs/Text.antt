@@ -212,6 +212,7 @@ abbrev pub baseOf : List Entry → List ℤ
 baseOf entries = forEach entries wordsOf
 
 -- ---- What becomes of a text: it is refused, or it is read as the geometry's numbers and its record lines
+-- 10: text above 65,536 bytes, tested before 9, or more than 99 record lines, tested after 9
 abbrev pub textRecords : ℕ
 textRecords = 99
 
@@ -241,7 +242,7 @@ pub data TextAnswer (t : List ℕ) (words : List ℤ) : TextReply → List ℤ �
 
 -- ---- Demand 2: "With words for 99 records lent, a text is read exactly when it belongs to document 01's grammar and keeps its limits"
 -- t belongs to the grammar with the numbers and the count of record lines of u, and keeps the limits
-pub record ReadAs (t : List ℕ) (u : TextRead) : Type 0 where
+pub record BelongsAs (t : List ℕ) (u : TextRead) : Type 0 where
   pub entries : List Entry
   pub text : Text (u .numbers) entries t
   pub lines : u .lines ≡ length entries
@@ -252,7 +253,7 @@ pub record ReadExactly (t : List ℕ) (words : List ℤ) (reply : TextReply) (ne
   pub then-read :
       (n : Numbers) (entries : List Entry) → Text n entries t → length t ≤ textBytes → length entries ≤ textRecords
       → (reply ≡ Read (record { numbers = n; lines = length entries })) × (new ≡ baseOf entries ++ drop (recordWords * length entries) words)
-  pub read-then : (u : TextRead) → reply ≡ Read u → ReadAs t u
+  pub read-then : (u : TextRead) → reply ≡ Read u → BelongsAs t u
 
 abbrev pub Demand2Text : Type 0
 Demand2Text =

@@ -31,7 +31,7 @@ pub record ReadableAt (width : ℕ) (base : List ℤ) (x y : ℕ) : Type 0 where
   pub fits : (addressRead width x y + 1) * recordWords ≤ length base
   pub formed : wellFormed (recordRead width base x y) ≡ true
 
--- the same of block i: the record and the motion that it reads, and of all sixteen
+-- block i of the sixteen: the record and the motion that it reads; of all sixteen the intra set and the motions
 abbrev pub readBy : ℕ → List ℕ → List ℕ → List ℤ → ℕ → List ℤ
 readBy width across down base i = recordRead width base (getD across (i % 4) 0) (getD down (i / 4) 0)
 

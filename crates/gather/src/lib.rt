@@ -1,9 +1,8 @@
 // Gathering by the block map: the motions that the blocks of a macroblock read, and the set of those that read intra macroblocks.
 ghost use Prim.Native.Nat.{_*_, _+_, _≤_};
-ghost use Rattle.definitions.specs.BlockMap.{blockIn};
 ghost use Rattle.definitions.specs.Record.{isIntra, subTypeOf, typeOf};
 ghost use Rattle.definitions.specs.Splits.{quadrantOf};
-ghost use Rattle.gather.specs.Reads.{Readable, ReadableAt, addressRead, bitOf, motionRead, recordRead, rowSet, setBy};
+ghost use Rattle.gather.specs.Reads.{Readable, ReadableAt, addressRead, bitOf, blockAt, motionRead, recordRead, rowSet, setBy};
 ghost use Rattle.definitions.specs.Tests.{eqZ};
 ghost use lib.IntN.{pos};
 ghost use lib.ListN.{getD};
@@ -62,7 +61,7 @@ pub fn reads_whole(base: &[i16], width: usize, x: u16, y: u16) -> bool
 // The quadrant in which it stands there is not divided.
 pub fn reads_single(base: &[i16], width: usize, x: u16, y: u16) -> bool
     requires { ⌜ ReadableAt width (now base) x y × (width ≤ 256) ⌝ }
-    ensures { λ r. ⌜ r ≡ eqZ (subTypeOf (recordRead width (now (base .entry)) x y) (quadrantOf (4 * blockIn y + blockIn x))) (pos 0) ⌝ }
+    ensures { λ r. ⌜ r ≡ eqZ (subTypeOf (recordRead width (now (base .entry)) x y) (quadrantOf (blockAt x y))) (pos 0) ⌝ }
 {
     let q = (2 * (y % 4 / 2) + x % 4 / 2) as usize;
     is_single(base, address_of(width, x, y), q)

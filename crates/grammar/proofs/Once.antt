@@ -11,7 +11,7 @@ use Rattle.definitions.specs.declared.TextRead.{TextRead}
 use Rattle.definitions.specs.declared.TextReply.{TextReply}
 use Rattle.definitions.specs.declared.TextReply.the-variants.{Read, Refused}
 use Rattle.definitions.specs.Record.{recordWords}
-use Rattle.definitions.specs.Text.{Entry, Text, Belongs, baseOf, Reading, notRead, readAs, Reads, tooLong, broken, tooMany, read, TextAnswer, wrongWords, refused, given, ReadAs, Demand2Text}
+use Rattle.definitions.specs.Text.{Entry, Text, Belongs, baseOf, Reading, notRead, readAs, Reads, tooLong, broken, tooMany, read, TextAnswer, wrongWords, refused, given, BelongsAs, Demand2Text}
 use Rattle.definitions.proofs.Texts.{one-place}
 use Rattle.grammar.proofs.Runs.{one-reading}
 
@@ -75,7 +75,7 @@ same-read e = cc
 
 abbrev Had : List ℕ → Reading → Type 0
 Had t (notRead r) = Unit {0}
-Had t (readAs n entries) = ReadAs t (record { numbers = n; lines = length entries })
+Had t (readAs n entries) = BelongsAs t (record { numbers = n; lines = length entries })
 
 had : {t : List ℕ} {v : Reading} → Reads t v → Had t v
 had (tooLong l) = tt
@@ -83,10 +83,10 @@ had (broken l b) = tt
 had (tooMany l x k) = tt
 had (read {entries = es} l x k) = record { entries = es; text = x; lines = refl; bytes-kept = l; records-kept = k }
 
-read-as : {t : List ℕ} {words new : List ℤ} {reply : TextReply} {u : TextRead} → TextAnswer t words reply new → reply ≡ Read u → ReadAs t u
+read-as : {t : List ℕ} {words new : List ℤ} {reply : TextReply} {u : TextRead} → TextAnswer t words reply new → reply ≡ Read u → BelongsAs t u
 read-as (wrongWords n) h = no-read h
 read-as (refused e x) h = no-read h
-read-as {t} (given e x) h = subst (ReadAs t) (same-read h) (had x)
+read-as {t} (given e x) h = subst (BelongsAs t) (same-read h) (had x)
 
 -- demand 2, the first half
 pub demand2-text : Demand2Text

@@ -8,9 +8,8 @@ use Rattle.definitions.specs.declared.Axes.{Axes}
 use Rattle.definitions.specs.declared.Answer.{Answer}
 use Rattle.definitions.specs.declared.Answer.the-variants.{Outside, Intra, Inherited}
 use Rattle.definitions.specs.Geometry.{baseSize, macroblocks}
-use Rattle.definitions.specs.Record.{laidOut}
 use Rattle.definitions.specs.Inheriting.{mostlyIntra, chosen}
-use Rattle.definitions.specs.Answer.{Made, unusedMotion, writtenFor}
+use Rattle.definitions.specs.Answer.{Made, withoutMotion, writtenFor}
 use Rattle.definitions.proofs.Choices.{yes, no}
 use Rattle.gather.specs.Reads.{setBy}
 use Rattle.macroblock.specs.declared.AxisRead.{AxisRead}
@@ -30,7 +29,7 @@ module _ (g : Axes) (h v : AxisRead) (base : List ℤ) where
   by-answer e = ap (λ (a : Answer). record { answer = a; written = writtenFor a (motionsBy g h v base) }) e
 
   module _ {set : ℕ} (is : set ≡ setBy (macroblocks (baseSize (g .horizontal))) (h .reads) (v .reads) base) where
-    pub made-intra : {answer : Answer} {words : List ℤ} → mostlyIntra set ≡ true → answer ≡ Intra (namedBy h v) → words ≡ laidOut 0 (λ q. 0) (λ b. unusedMotion) → Gives answer words (madeBy g h v base)
+    pub made-intra : {answer : Answer} {words : List ℤ} → mostlyIntra set ≡ true → answer ≡ Intra (namedBy h v) → words ≡ withoutMotion 0 → Gives answer words (madeBy g h v base)
     unfolding answerBy writtenFor
     made-intra t a w = gives (by-answer (yes _ _ (ap mostlyIntra (sym is) ∙ t)) ∙ (λ i. record { answer = sym a i; written = sym w i }))
 
@@ -45,6 +44,6 @@ module _ (g : Axes) (h v : AxisRead) (base : List ℤ) where
       let is = yes (madeBy g h v base) _ e in
       record { answered = m .answered ∙ sym (ap (λ (x : Made). x .answer) is); written = m .written ∙ sym (ap (λ (x : Made). x .written) is) }
 
-  pub placed-out : (h .inside && v .inside) ≡ false → {words : List ℤ} → words ≡ laidOut 5 (λ q. 0) (λ b. unusedMotion) → Gives Outside words (placedBy g h v base)
+  pub placed-out : (h .inside && v .inside) ≡ false → {words : List ℤ} → words ≡ withoutMotion 5 → Gives Outside words (placedBy g h v base)
   unfolding placedBy writtenFor
   placed-out e w = gives (no _ _ e ∙ ap (λ (l : List ℤ). record { answer = Outside; written = l }) (sym w))

@@ -1,7 +1,7 @@
 // What is made of one macroblock, on a geometry and records that were checked: the calls share it.
 ghost use Prim.Native.Nat.{_<_, _≤_};
 ghost use Rattle.definitions.specs.Accepted.{AcceptedAxis};
-ghost use Rattle.definitions.specs.Answer.{subTypes, unusedMotion};
+ghost use Rattle.definitions.specs.Answer.{subTypes, withoutMotion};
 ghost use Rattle.definitions.specs.Geometry.{baseSize, macroblocks};
 ghost use Rattle.definitions.specs.Inheriting.{chosen, clearOf, filled, merged, motionAt};
 ghost use Rattle.definitions.specs.Record.{laidOut, recordWords, subTypeNumber, typeNumber};
@@ -146,7 +146,7 @@ const UNUSED: Prediction = Prediction {
 // A record without motion, of type 0 (intra) or 5 (outside).
 fn write_unused(out: &mut [i16], kind: u8)
     requires { ⌜ length (now out) ≡ recordWords ⌝ }
-    ensures { λ _. ⌜ now (out .exit) ≡ laidOut kind (λ q. 0) (λ b. unusedMotion) ⌝ }
+    ensures { λ _. ⌜ now (out .exit) ≡ withoutMotion kind ⌝ }
 {
     let m = Motion {
         list0: UNUSED,

@@ -13,18 +13,36 @@ use Rattle.definitions.specs.Record.{used}
 use Rattle.definitions.specs.Inheriting.{zeroPrediction, zeroMotion, source, lower, lowest, having, withReference, unused, mergedList, merged}
 use Rattle.definitions.proofs.Choices.{yes, no, both-true, eqZ-true, each, four-same, four-is}
 use Rattle.definitions.proofs.Steps.{settled-merged}
-use Rattle.quadrant.specs.Merging.{firstOf, oneReferenceOf, oneReference, AllEmpty}
+use Rattle.quadrant.specs.Merging.{lowerOf, firstOf, oneReferenceOf, oneReference, AllEmpty}
 
 -- ---- one list
--- the lower of two references, by one test
-pub lower-is : (a b : ℤ) → lower a b ≡ pick (not (used a) || (used b && ltZ b a)) b a
-unfolding lower pick
-lower-is a b = by (used a) (used b) refl refl
+-- the lower of two, by one test
+pub lower-is : (p q : Prediction) → lowerOf p q ≡ pick (not (used (p .reference)) || (used (q .reference) && ltZ (q .reference) (p .reference))) q p
+unfolding pick
+lower-is p q = by (used (p .reference)) (used (q .reference)) (ltZ (q .reference) (p .reference))
   where
-    by : (s t : Bool) → used a ≡ s → used b ≡ t → pick (used a) (pick (used b) (pick (ltZ b a) b a) a) b ≡ pick (not (used a) || (used b && ltZ b a)) b a
-    by true true p q = rw (p, q)
-    by true false p q = rw (p, q)
-    by false t p q = rw p
+    by : (s t l : Bool) → pick s (pick t (pick l q p) p) q ≡ pick (not s || (t && l)) q p
+    by true true l = refl
+    by true false l = refl
+    by false t l = refl
+
+-- its reference is the lower one; of the lower of two pairs the lowest
+lower-reference : (p q : Prediction) → lowerOf p q .reference ≡ lower (p .reference) (q .reference)
+unfolding lower pick
+lower-reference p q = by (used (p .reference)) (used (q .reference)) (ltZ (q .reference) (p .reference))
+  where
+    by : (s t l : Bool) → pick s (pick t (pick l q p) p) q .reference ≡ pick s (pick t (pick l (q .reference) (p .reference)) (p .reference)) (q .reference)
+    by true true true = refl
+    by true true false = refl
+    by true false l = refl
+    by false t l = refl
+
+pub lowest-reference : (p q s t : Prediction) {x y r : Prediction} → x ≡ lowerOf p q → y ≡ lowerOf s t → r ≡ lowerOf x y
+    → r .reference ≡ lower (lower (p .reference) (q .reference)) (lower (s .reference) (t .reference))
+lowest-reference p q s t a b e =
+    let h = lower-reference p q in
+    let v = lower-reference s t in
+    ap (λ (z : Prediction). z .reference) (e ∙ (λ i. lowerOf (a i) (b i))) ∙ (lower-reference (lowerOf p q) (lowerOf s t) ∙ (λ i. lower (h i) (v i)))
 
 -- what is read of the first that is good is the first of what is read
 first-map : {A B : Type 0} (f : A → B) (own h v d : Bool) (a ah av ad : A) → firstOf own h v d (f a) (f ah) (f av) (f ad) ≡ f (firstOf own h v d a ah av ad)

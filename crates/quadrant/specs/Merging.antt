@@ -4,11 +4,16 @@ use mathlib.Core.Path.{_≡_}
 use mathlib.Core.Bool.{Bool, false, _&&_}
 use mathlib.Core.List.{List}
 use lib.ListN.{getD}
+use lib.Signed.{ltZ}
 use Rattle.definitions.specs.declared.Prediction.{Prediction}
 use Rattle.definitions.specs.declared.Motion.{Motion}
 use Rattle.definitions.specs.Tests.{pick, eqZ}
 use Rattle.definitions.specs.Record.{used}
 use Rattle.definitions.specs.Inheriting.{zeroMotion, unused}
+
+-- the one of the two with the lower used reference: the first of equal ones, the second of two unused
+abbrev pub lowerOf : Prediction → Prediction → Prediction
+lowerOf p q = pick (used (p .reference)) (pick (used (q .reference)) (pick (ltZ (q .reference) (p .reference)) q p) p) q
 
 -- the first that is good: a block's own, its horizontal, its vertical, its diagonal neighbour's; its own where none is
 unfoldable pub firstOf : {A : Type 0} → Bool → Bool → Bool → Bool → A → A → A → A → A

@@ -1,12 +1,11 @@
 // Steps 1 and 2 of "Inheriting", on one quadrant of four blocks in raster order, 0 1 above 2 3.
 ghost use Prim.Native.Nat.{_<_};
-ghost use Rattle.definitions.specs.Inheriting.{filled, lower, merged, mergedList, source, unused, withReference, zeroPrediction};
+ghost use Rattle.definitions.specs.Inheriting.{filled, merged, mergedList, source, unused, withReference, zeroPrediction};
 ghost use Rattle.definitions.specs.Record.{used};
-ghost use Rattle.quadrant.specs.Merging.{AllEmpty, firstOf, oneReference, oneReferenceOf};
+ghost use Rattle.quadrant.specs.Merging.{AllEmpty, firstOf, lowerOf, oneReference, oneReferenceOf};
 ghost use lib.ListN.{getD};
 ghost use lib.Signed.{ltZ};
 ghost use mathlib.Core.List.{[], _∷_};
-ghost use mathlib.Core.Logic.{_⊎_};
 ghost use mathlib.Core.Path.{_≡_};
 use definitions::Motion;
 use definitions::Prediction;
@@ -74,9 +73,9 @@ fn is_lower(p: Prediction, q: Prediction) -> bool
     p.reference < q.reference
 }
 
-// The one of the two with the lower used reference.
+// The one of the two with the lower used reference: the first of equal ones, the second of two unused.
 fn lower_of(p: Prediction, q: Prediction) -> Prediction
-    ensures { λ r. ⌜ (r .reference ≡ lower (p .reference) (q .reference)) × ((r ≡ p) ⊎ (r ≡ q)) ⌝ }
+    ensures { λ r. ⌜ r ≡ lowerOf p q ⌝ }
 {
     if !is_used(p) | (is_used(q) & is_lower(q, p)) {
         return q;

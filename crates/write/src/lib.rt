@@ -8,6 +8,7 @@ ghost use Rattle.definitions.specs.Splits.{rasterOf};
 ghost use Rattle.definitions.specs.Record.{recordWords, referencesOf, vectorsOf, laidOut};
 ghost use Rattle.definitions.specs.Inheriting.{motionAt};
 use definitions::Motion;
+use definitions::RECORD_WORDS;
 
 // A number as a word.
 fn word(n: u8) -> i16
@@ -99,5 +100,5 @@ pub fn write_record(out: &mut [i16], kind: u8, sub: [u8; 4], m: [[Motion; 4]; 4]
 {
     write_types(&mut out[0..5], kind, sub);
     write_references(&mut out[5..13], m);
-    write_vectors(&mut out[13..77], m);
+    write_vectors(&mut out[13..RECORD_WORDS], m);
 }

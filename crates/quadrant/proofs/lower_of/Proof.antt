@@ -1,7 +1,6 @@
 -- `quadrant::lower_of` meets its contract. Assumes nothing.
 use mathlib.Core.Bool.{not, _&&_, _||_}
-use mathlib.Core.Logic.{inl, inr}
-use mathlib.Core.Path.{_≡_, refl, sym, _∙_}
+use mathlib.Core.Path.{_≡_, sym, _∙_}
 use lib.Signed.{ltZ}
 use Rattle.definitions.specs.Record.{used}
 use Rattle.definitions.proofs.Choices.{yes, no}
@@ -32,12 +31,12 @@ test c =
 returns : tie.Need-returns
 returns c =
     let s = c .before .before .before .before .args in
-    (sym (lower-is (s .p .reference) (s .q .reference) ∙ yes _ _ (sym (test (c .before)) ∙ c .if1 .taken)), inr refl)
+    sym (lower-is (s .p) (s .q) ∙ yes _ _ (sym (test (c .before)) ∙ c .if1 .taken))
 
 returns-2 : tie.Need-returns-2
 returns-2 c =
     let s = c .before .before .before .before .args in
-    (sym (lower-is (s .p .reference) (s .q .reference) ∙ no _ _ (sym (test (c .before)) ∙ c .if1 .left)), inl refl)
+    sym (lower-is (s .p) (s .q) ∙ no _ _ (sym (test (c .before)) ∙ c .if1 .left))
 
 pub lower-of-spec : {M : Type 1} → statement M
 lower-of-spec =

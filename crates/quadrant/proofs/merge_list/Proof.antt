@@ -1,7 +1,6 @@
 -- `quadrant::merge_list` meets its contract. Assumes nothing.
-use mathlib.Core.Path.{_≡_, sym, _∙_}
-use Rattle.definitions.specs.Inheriting.{lower}
-use Rattle.quadrant.proofs.Merging.{merged-used, merged-unused}
+use mathlib.Core.Path.{sym, _∙_}
+use Rattle.quadrant.proofs.Merging.{lowest-reference, merged-used, merged-unused}
 use borrow.Author.Needs.{needs}
 use Rattle.quadrant.proofs.merge_list.Statement.{statement}
 use Rattle.quadrant.proofs.merge_list.Tie as tie
@@ -46,8 +45,7 @@ returns : tie.Need-returns
 returns c =
     let s = c .before .before .before .before .before .before .before .before .before .before .before .before .before .args in
     let r = c .before .before .before .before .before .before .before .before .before .before .lower-of3 .result in
-    let low : r .reference ≡ lower (lower (s .p .reference) (s .q .reference)) (lower (s .s .reference) (s .t .reference)) =
-    let a = c .before .before .before .before .before .before .before .before .before .before .before .before .lower-of .ensures .0 in let b = c .before .before .before .before .before .before .before .before .before .before .before .lower-of2 .ensures .0 in c .before .before .before .before .before .before .before .before .before .before .lower-of3 .ensures .0 ∙ (λ i. lower (a i) (b i)) in
+    let low = lowest-reference (s .p) (s .q) (s .s) (s .t) (c .before .before .before .before .before .before .before .before .before .before .before .before .lower-of .ensures) (c .before .before .before .before .before .before .before .before .before .before .before .lower-of2 .ensures) (c .before .before .before .before .before .before .before .before .before .before .lower-of3 .ensures) in
     merged-used (s .p) (s .q) (s .s) (s .t) (r .reference) low (sym (c .before .before .before .before .before .before .before .before .before .is-used .ensures) ∙ c .before .before .before .before .before .before .before .before .if1 .taken)
     (c .before .before .before .before .before .before .before .same-reference .ensures) (c .before .before .before .before .before .before .same-reference2 .ensures) (c .before .before .before .before .before .same-reference3 .ensures) (c .before .before .before .before .same-reference4 .ensures)
     (c .before .before .before .taken .ensures) (c .before .before .taken2 .ensures) (c .before .taken3 .ensures) (c .taken4 .ensures)
@@ -59,8 +57,7 @@ returns-2 : tie.Need-returns-2
 returns-2 c =
     let s = c .before .before .before .before .before .before .args in
     let r = c .before .before .before .lower-of3 .result in
-    let low : r .reference ≡ lower (lower (s .p .reference) (s .q .reference)) (lower (s .s .reference) (s .t .reference)) =
-    let a = c .before .before .before .before .before .lower-of .ensures .0 in let b = c .before .before .before .before .lower-of2 .ensures .0 in c .before .before .before .lower-of3 .ensures .0 ∙ (λ i. lower (a i) (b i)) in
+    let low = lowest-reference (s .p) (s .q) (s .s) (s .t) (c .before .before .before .before .before .lower-of .ensures) (c .before .before .before .before .lower-of2 .ensures) (c .before .before .before .lower-of3 .ensures) in
     merged-unused (s .p) (s .q) (s .s) (s .t) (r .reference) low (sym (c .before .before .is-used .ensures) ∙ c .before .if1 .left) (c .unused-list .ensures)
 
 pub merge-list-spec : {M : Type 1} → statement M
