@@ -1,6 +1,6 @@
 /* Motion upsampling between two layers of a track clip: the C interface of the
- * proved library (the crate `interface`; `rt staticlib interface` writes
- * target/staticlib/libinterface.a, for x86-64 Linux).
+ * proved library (the crate `spiewomir`; `rt staticlib spiewomir` writes
+ * target/staticlib/libspiewomir.a, for x86-64 Linux).
  *
  * Of a small picture (the base) each 16x16 macroblock has a motion record: how it
  * is split, references, vectors. The base, scaled, is a window of the large (full)

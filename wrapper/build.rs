@@ -1,4 +1,4 @@
-//! Links the proved library, libinterface.a. `rt staticlib interface` writes it
+//! Links the proved library, libspiewomir.a. `rt staticlib spiewomir` writes it
 //! to target/staticlib of the repository; SPIEWOMIR_LIB names another folder, by
 //! an absolute path.
 
@@ -24,14 +24,14 @@ fn main() {
             folder.display()
         ));
     }
-    let archive = folder.join("libinterface.a");
+    let archive = folder.join("libspiewomir.a");
     println!("cargo:rerun-if-changed={}", archive.display());
     if !archive.is_file() {
         fail(format!(
-            "{} is missing: run `rt staticlib interface` in the repository, or name the archive's folder in SPIEWOMIR_LIB",
+            "{} is missing: run `rt staticlib spiewomir` in the repository, or name the archive's folder in SPIEWOMIR_LIB",
             archive.display()
         ));
     }
     println!("cargo:rustc-link-search=native={}", folder.display());
-    println!("cargo:rustc-link-lib=static=interface");
+    println!("cargo:rustc-link-lib=static=spiewomir");
 }

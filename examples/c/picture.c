@@ -6,7 +6,7 @@
  * The exit status is 0, 1 if a call refuses, which is printed, or 2 if the arguments are
  * no two numbers or the text cannot be read.
  *
- * Built with: cc -Iinclude examples/c/picture.c target/staticlib/libinterface.a */
+ * Built with: cc -Iinclude examples/c/picture.c target/staticlib/libspiewomir.a */
 #include "spiewomir.h"
 #include <ctype.h>
 #include <errno.h>

@@ -6,8 +6,8 @@
 //! refused call leaves every lent word and byte as it was. `numbers` has the
 //! same calls with plain numbers.
 //!
-//! The proved archive, libinterface.a, has to be there first: `rt staticlib
-//! interface` writes it to target/staticlib of the repository. SPIEWOMIR_LIB
+//! The proved archive, libspiewomir.a, has to be there first: `rt staticlib
+//! spiewomir` writes it to target/staticlib of the repository. SPIEWOMIR_LIB
 //! names another folder, by an absolute path.
 //!
 //! ```

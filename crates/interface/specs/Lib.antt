@@ -1,3 +1,0 @@
-pub mod Interface
-pub mod Sessions
-pub mod Texts

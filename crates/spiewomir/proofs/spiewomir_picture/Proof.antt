@@ -1,0 +1,58 @@
+-- `spiewomir::spiewomir_picture` meets its contract. Assumes nothing.
+use Rattle.spiewomir.specs.Results.{pictureResult}
+use Rattle.definitions.specs.Calls.{pictureCall}
+use mathlib.Core.Path.{sym, ap, _∙_}
+use borrow.Author.Needs.{needs}
+use Rattle.spiewomir.proofs.spiewomir_picture.Statement.{statement}
+use Rattle.spiewomir.proofs.spiewomir_picture.Tie as tie
+
+numbers-of-requires : tie.Need-numbers-of-requires
+numbers-of-requires c κs = search needs
+
+upsample-picture-requires : tie.Need-upsample-picture-requires
+upsample-picture-requires c κs = search needs
+
+enum-known-c : tie.Need-enum-known-c
+enum-known-c c = search needs
+
+enum-known-r : tie.Need-enum-known-r
+enum-known-r c = search needs
+
+same-length : tie.Need-same-length
+same-length c = search needs
+
+returns : tie.Need-returns
+returns c =
+    let o = c .before .before .before in
+    let u = o .before .upsample-picture in
+    let s = o .before .before .before .before in
+    let n = o .before .before .before .numbers-of .ensures in (
+      ap pictureResult (sym (c .before .c .given .1) ∙ (u .ensures .0 ∙ (λ i. pictureCall (n i) (s .args .base .now) (s .args .out .now) .reply))),
+      u .ensures .1 .0 ∙ (λ i. pictureCall (n i) (s .args .base .now) (s .args .out .now) .words),
+    )
+
+same-length-2 : tie.Need-same-length-2
+same-length-2 c = search needs
+
+returns-2 : tie.Need-returns-2
+returns-2 c =
+    let o = c .before .before .before in
+    let u = o .before .upsample-picture in
+    let s = o .before .before .before .before in
+    let n = o .before .before .before .numbers-of .ensures in (
+      ap pictureResult (sym (c .before .r .given .1) ∙ (u .ensures .0 ∙ (λ i. pictureCall (n i) (s .args .base .now) (s .args .out .now) .reply))),
+      u .ensures .1 .0 ∙ (λ i. pictureCall (n i) (s .args .base .now) (s .args .out .now) .words),
+    )
+
+pub spiewomir-picture-spec : {M : Type 1} → statement M
+spiewomir-picture-spec =
+    tie.close
+    (tie.spec
+    numbers-of-requires
+    upsample-picture-requires
+    enum-known-c
+    enum-known-r
+    same-length
+    returns
+    same-length-2
+    returns-2)

@@ -1,0 +1,18 @@
+-- `spiewomir::spiewomir_session_fresh` meets its contract. Assumes nothing.
+use Rattle.spiewomir.specs.Sessions.{sessionFor}
+use mathlib.Core.Path.{ap, _∙_}
+use borrow.Author.Needs.{needs}
+use Rattle.spiewomir.proofs.spiewomir_session_fresh.Statement.{statement}
+use Rattle.spiewomir.proofs.spiewomir_session_fresh.Tie as tie
+
+fresh-requires : tie.Need-fresh-requires
+fresh-requires c κs = search needs
+
+session-for-requires : tie.Need-session-for-requires
+session-for-requires c κs = search needs
+
+returns : tie.Need-returns
+returns c = c .session-for .ensures ∙ ap sessionFor (c .before .fresh .ensures)
+
+pub spiewomir-session-fresh-spec : {M : Type 1} → statement M
+spiewomir-session-fresh-spec = tie.close (tie.spec fresh-requires session-for-requires returns)

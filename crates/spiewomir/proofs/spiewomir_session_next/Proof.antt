@@ -1,0 +1,36 @@
+-- `spiewomir::spiewomir_session_next` meets its contract. Assumes nothing.
+use Rattle.spiewomir.specs.Sessions.{advancedResult}
+use Rattle.session.specs.Values.{stateOf, handedBack}
+use Rattle.definitions.specs.Session.{next, nextCall}
+use mathlib.Core.Path.{_∙_}
+use borrow.Author.Needs.{needs}
+use Rattle.spiewomir.proofs.spiewomir_session_next.Statement.{statement}
+use Rattle.spiewomir.proofs.spiewomir_session_next.Tie as tie
+
+session-of-requires : tie.Need-session-of-requires
+session-of-requires c κs = search needs
+
+next-requires : tie.Need-next-requires
+next-requires c κs = search needs
+
+advanced-result-requires : tie.Need-advanced-result-requires
+advanced-result-requires c κs = search needs
+
+same-length : tie.Need-same-length
+same-length c = search needs
+
+returns : tie.Need-returns
+returns c =
+    let a = c .before .before .before .before .before .args in
+    let v = c .before .before .before .before .session-of .ensures in
+    let k = c .before .before .next .ensures in (
+      c .advanced-result .ensures
+          ∙ ((λ i. advancedResult (a .s) (k .0 i) (k .1 .1 .value i))
+          ∙ (λ i. advancedResult (a .s) (nextCall (stateOf (v i)) (a .base .now) (a .out .now) .reply) (handedBack (v i) (next (a .base .now) (a .out .now))))),
+      k .1 .0 ∙ (λ i. nextCall (stateOf (v i)) (a .base .now) (a .out .now) .words),
+    )
+
+pub spiewomir-session-next-spec : {M : Type 1} → statement M
+spiewomir-session-next-spec =
+    tie.close
+    (tie.spec session-of-requires next-requires advanced-result-requires same-length returns)

@@ -1,0 +1,41 @@
+-- The sync text and its log, as the C interface hands them over: the numbers of a reply that the call's definition allows, with demand 2 of it.
+use Prim.Native.Nat.{ℕ, _*_}
+use mathlib.Core.Path.{_≡_}
+use mathlib.Core.List.{List}
+use lib.IntN.{ℤ, pos}
+use lib.ListN.{length}
+use Rattle.definitions.specs.declared.TextReply.{TextReply}
+use Rattle.definitions.specs.declared.TextReply.the-variants.{Read, Refused}
+use Rattle.definitions.specs.declared.LogReply.{LogReply}
+use Rattle.definitions.specs.declared.LogReply.the-variants.{Written, Refused as NotWritten}
+use Rattle.definitions.specs.Record.{recordWords}
+use Rattle.definitions.specs.Text.{TextAnswer, textRecords, ReadExactly}
+use Rattle.definitions.specs.Log.{LogAnswer}
+use Rattle.log.specs.Promised.{LogPromised}
+use Rattle.spiewomir.specs.declared.GeometryNumbers.{GeometryNumbers}
+use Rattle.spiewomir.specs.declared.TextResult.{TextResult}
+use Rattle.spiewomir.specs.declared.LogResult.{LogResult}
+use Rattle.spiewomir.specs.Sessions.{numbersFor}
+
+abbrev pub noGeometry : GeometryNumbers
+noGeometry = record { bw = pos 0; bh = pos 0; sw = pos 0; sh = pos 0; x = pos 0; y = pos 0; fw = pos 0; fh = pos 0 }
+
+abbrev pub textResult : TextReply → TextResult
+textResult (Read t) = record { refusal = 0; place = 0; rule = 0; geometry = numbersFor (t .numbers); lines = t .lines }
+textResult (Refused r) = record { refusal = r .number; place = r .place; rule = r .rule; geometry = noGeometry; lines = 0 }
+
+abbrev pub logResult : LogReply → LogResult
+logResult (Written n) = record { refusal = 0; bytes = n }
+logResult (NotWritten r) = record { refusal = r .number; bytes = 0 }
+
+pub record TextGiven (t : List ℕ) (words : List ℤ) (result : TextResult) (new : List ℤ) : Type 0 where
+  pub reply : TextReply
+  pub answer : TextAnswer t words reply new
+  pub demand2 : length words ≡ recordWords * textRecords → ReadExactly t words reply new
+  pub is : result ≡ textResult reply
+
+pub record LogGiven (t out : List ℕ) (result : LogResult) (new : List ℕ) : Type 0 where
+  pub reply : LogReply
+  pub answer : LogAnswer t out reply new
+  pub demand2 : LogPromised t reply new
+  pub is : result ≡ logResult reply

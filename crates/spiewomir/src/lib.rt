@@ -1,0 +1,442 @@
+// The C interface: the calls on numbers and slices, with results by value. include/spiewomir.h declares it.
+ghost use Rattle.definitions.specs.Calls.{macroblockCall, pictureCall};
+ghost use Rattle.definitions.specs.Session.{abandon, abandonVerdict, begin, beginVerdict, next, nextCall, totalsOf};
+ghost use Rattle.spiewomir.specs.Results.{answerResult, answered, classNumber, macroblockResult, numbersOf, pictureResult};
+ghost use Rattle.spiewomir.specs.Sessions.{advancedResult, flag, judgedResult, numbersFor, sessionFor, sessionOf, totalsResult};
+ghost use Rattle.spiewomir.specs.Texts.{LogGiven, TextGiven};
+ghost use Rattle.session.specs.Values.{freshSession, handedBack, stateOf};
+ghost use mathlib.Core.Path.{_≡_};
+use definitions::Answer;
+use definitions::AxisNumbers;
+use definitions::Class;
+use definitions::Counts;
+use definitions::LogReply;
+use definitions::MacroblockReply;
+use definitions::Named;
+use definitions::Numbers;
+use definitions::PictureReply;
+use definitions::TextReply;
+use definitions::Verdict;
+use macroblock::sub_types;
+use macroblock::type_number;
+use picture::upsample_picture;
+use session::Advanced;
+use session::Judged;
+use session::Session;
+use sync_text::read_text;
+use upsample::upsample_macroblock;
+
+// Width and height of the base, the scaled base, the window's offset, and the full picture: any numbers.
+#[repr(C)]
+pub struct GeometryNumbers {
+    pub bw: i32,
+    pub bh: i32,
+    pub sw: i32,
+    pub sh: i32,
+    pub x: i32,
+    pub y: i32,
+    pub fw: i32,
+    pub fh: i32,
+}
+
+// A refusal's number, place and rule, or 0, 0, 0 and the answer: its type, sub-types, class (Corner, Vert, Hori, Center), first base column and row.
+#[repr(C)]
+pub struct MacroblockResult {
+    pub refusal: u32,
+    pub place: u32,
+    pub rule: u32,
+    pub kind: u32,
+    pub sub0: u32,
+    pub sub1: u32,
+    pub sub2: u32,
+    pub sub3: u32,
+    pub class: u32,
+    pub column: u32,
+    pub row: u32,
+}
+
+#[repr(C)]
+pub struct PictureResult {
+    pub refusal: u32,
+    pub place: u32,
+    pub rule: u32,
+    pub inherited: u32,
+    pub intra: u32,
+    pub outside: u32,
+}
+
+// A session: begun (1, any other number is nothing begun), its geometry, and the counts of its accepted next calls.
+#[repr(C)]
+pub struct SessionNumbers {
+    pub begun: u32,
+    pub geometry: GeometryNumbers,
+    pub inherited: u32,
+    pub intra: u32,
+    pub outside: u32,
+}
+
+#[repr(C)]
+pub struct JudgedResult {
+    pub session: SessionNumbers,
+    pub refusal: u32,
+    pub place: u32,
+    pub rule: u32,
+}
+
+#[repr(C)]
+pub struct AdvancedResult {
+    pub session: SessionNumbers,
+    pub macroblock: MacroblockResult,
+}
+
+#[repr(C)]
+pub struct TotalsResult {
+    pub session: SessionNumbers,
+    pub inherited: u32,
+    pub intra: u32,
+    pub outside: u32,
+}
+
+// A refusal's number, place and rule, or 0, 0, 0, the geometry's numbers and the count of record lines.
+#[repr(C)]
+pub struct TextResult {
+    pub refusal: u32,
+    pub place: u32,
+    pub rule: u32,
+    pub geometry: GeometryNumbers,
+    pub lines: u32,
+}
+
+// Refusal 6, or 0 and the log's count of bytes.
+#[repr(C)]
+pub struct LogResult {
+    pub refusal: u32,
+    pub bytes: usize,
+}
+
+fn numbers_of(g: GeometryNumbers) -> Numbers
+    ensures { λ r. ⌜ r ≡ numbersOf g ⌝ }
+{
+    Numbers {
+        horizontal: AxisNumbers {
+            base: g.bw,
+            scaled: g.sw,
+            offset: g.x,
+            full: g.fw,
+        },
+        vertical: AxisNumbers {
+            base: g.bh,
+            scaled: g.sh,
+            offset: g.y,
+            full: g.fh,
+        },
+    }
+}
+
+fn class_number(c: Class) -> u32
+    ensures { λ r. ⌜ r ≡ classNumber c ⌝ }
+{
+    match c {
+        Class::Corner => 0,
+        Class::Vert => 1,
+        Class::Hori => 2,
+        Class::Center => 3,
+    }
+}
+
+fn wide(n: u8) -> u32
+    ensures { λ r. ⌜ r ≡ n ⌝ }
+{
+    n as u32
+}
+
+fn named_result(kind: u8, sub: [u8; 4], n: Named) -> MacroblockResult
+    ensures { λ r. ⌜ r ≡ answered kind sub (n .class) (n .column) (n .row) ⌝ }
+{
+    let class = n.class;
+    MacroblockResult {
+        refusal: 0,
+        place: 0,
+        rule: 0,
+        kind: wide(kind),
+        sub0: wide(sub[0]),
+        sub1: wide(sub[1]),
+        sub2: wide(sub[2]),
+        sub3: wide(sub[3]),
+        class: class_number(class),
+        column: n.column,
+        row: n.row,
+    }
+}
+
+fn answer_result(a: Answer) -> MacroblockResult
+    ensures { λ r. ⌜ r ≡ answerResult a ⌝ }
+{
+    match a {
+        Answer::Outside => named_result(
+            5,
+            [0; 4],
+            Named {
+                class: Class::Corner,
+                column: 0,
+                row: 0,
+            },
+        ),
+        Answer::Intra(n) => named_result(0, [0; 4], n),
+        Answer::Inherited(n, s) => named_result(type_number(s), sub_types(s), n),
+    }
+}
+
+fn reply_result(r: MacroblockReply) -> MacroblockResult
+    ensures { λ o. ⌜ o ≡ macroblockResult r ⌝ }
+{
+    match r {
+        MacroblockReply::Answered(a) => answer_result(a),
+        MacroblockReply::Refused(r) => MacroblockResult {
+            refusal: r.number,
+            place: r.place,
+            rule: r.rule,
+            kind: 0,
+            sub0: 0,
+            sub1: 0,
+            sub2: 0,
+            sub3: 0,
+            class: 0,
+            column: 0,
+            row: 0,
+        },
+    }
+}
+
+#[no_mangle]
+pub extern "C" fn spiewomir_macroblock(
+    g: GeometryNumbers,
+    base: &[i16],
+    column: i32,
+    row: i32,
+    out: &mut [i16],
+) -> MacroblockResult
+    ensures result { λ r. ⌜ r ≡ macroblockResult (macroblockCall (numbersOf g) (now (base .entry)) column row (now (out .entry)) .reply) ⌝ }
+    ensures words { λ r. ⌜ now (out .exit) ≡ macroblockCall (numbersOf g) (now (base .entry)) column row (now (out .entry)) .words ⌝ }
+{
+    reply_result(upsample_macroblock(numbers_of(g), base, column, row, out))
+}
+
+#[no_mangle]
+pub extern "C" fn spiewomir_picture(
+    g: GeometryNumbers,
+    base: &[i16],
+    out: &mut [i16],
+) -> PictureResult
+    ensures result { λ r. ⌜ r ≡ pictureResult (pictureCall (numbersOf g) (now (base .entry)) (now (out .entry)) .reply) ⌝ }
+    ensures words { λ r. ⌜ now (out .exit) ≡ pictureCall (numbersOf g) (now (base .entry)) (now (out .entry)) .words ⌝ }
+{
+    match upsample_picture(numbers_of(g), base, out) {
+        PictureReply::Counted(c) => PictureResult {
+            refusal: 0,
+            place: 0,
+            rule: 0,
+            inherited: c.inherited,
+            intra: c.intra,
+            outside: c.outside,
+        },
+        PictureReply::Refused(r) => PictureResult {
+            refusal: r.number,
+            place: r.place,
+            rule: r.rule,
+            inherited: 0,
+            intra: 0,
+            outside: 0,
+        },
+    }
+}
+
+// ---- The session. A refused call hands back the very numbers that it was handed.
+fn geometry_for(n: Numbers) -> GeometryNumbers
+    ensures { λ r. ⌜ r ≡ numbersFor n ⌝ }
+{
+    GeometryNumbers {
+        bw: n.horizontal.base,
+        bh: n.vertical.base,
+        sw: n.horizontal.scaled,
+        sh: n.vertical.scaled,
+        x: n.horizontal.offset,
+        y: n.vertical.offset,
+        fw: n.horizontal.full,
+        fh: n.vertical.full,
+    }
+}
+
+fn flag_of(b: bool) -> u32
+    ensures { λ r. ⌜ r ≡ flag b ⌝ }
+{
+    if b { 1 } else { 0 }
+}
+
+fn session_of(s: SessionNumbers) -> Session
+    ensures { λ r. ⌜ r ≡ sessionOf s ⌝ }
+{
+    let geometry = s.geometry;
+    Session {
+        begun: s.begun == 1,
+        numbers: numbers_of(geometry),
+        counts: Counts {
+            inherited: s.inherited,
+            intra: s.intra,
+            outside: s.outside,
+        },
+    }
+}
+
+fn session_for(v: Session) -> SessionNumbers
+    ensures { λ r. ⌜ r ≡ sessionFor v ⌝ }
+{
+    let numbers = v.numbers;
+    SessionNumbers {
+        begun: flag_of(v.begun),
+        geometry: geometry_for(numbers),
+        inherited: v.counts.inherited,
+        intra: v.counts.intra,
+        outside: v.counts.outside,
+    }
+}
+
+fn judged_result(s: SessionNumbers, j: Judged) -> JudgedResult
+    ensures { λ r. ⌜ r ≡ judgedResult s (j .verdict) (j .session) ⌝ }
+{
+    let verdict = j.verdict;
+    let after = j.session;
+    match verdict {
+        Verdict::Accepted => JudgedResult {
+            session: session_for(after),
+            refusal: 0,
+            place: 0,
+            rule: 0,
+        },
+        Verdict::Refused(r) => JudgedResult {
+            session: s,
+            refusal: r.number,
+            place: r.place,
+            rule: r.rule,
+        },
+    }
+}
+
+fn advanced_result(s: SessionNumbers, a: Advanced) -> AdvancedResult
+    ensures { λ r. ⌜ r ≡ advancedResult s (a .reply) (a .session) ⌝ }
+{
+    let reply = a.reply;
+    let after = a.session;
+    let macroblock = reply_result(reply);
+    match reply {
+        MacroblockReply::Answered(_) => AdvancedResult {
+            session: session_for(after),
+            macroblock,
+        },
+        MacroblockReply::Refused(_) => AdvancedResult {
+            session: s,
+            macroblock,
+        },
+    }
+}
+
+#[no_mangle]
+pub extern "C" fn spiewomir_session_fresh() -> SessionNumbers
+    ensures { λ r. ⌜ r ≡ sessionFor freshSession ⌝ }
+{
+    session_for(Session::fresh())
+}
+
+#[no_mangle]
+pub extern "C" fn spiewomir_session_begin(s: SessionNumbers, g: GeometryNumbers) -> JudgedResult
+    ensures { λ r. ⌜ r ≡ judgedResult s (beginVerdict (stateOf (sessionOf s)) (numbersOf g)) (handedBack (sessionOf s) (begin (numbersOf g))) ⌝ }
+{
+    let v = session_of(s);
+    judged_result(s, v.begin(numbers_of(g)))
+}
+
+#[no_mangle]
+pub extern "C" fn spiewomir_session_next(
+    s: SessionNumbers,
+    base: &[i16],
+    out: &mut [i16],
+) -> AdvancedResult
+    ensures result { λ r. ⌜ r ≡ advancedResult s (nextCall (stateOf (sessionOf s)) (now (base .entry)) (now (out .entry)) .reply) (handedBack (sessionOf s) (next (now (base .entry)) (now (out .entry)))) ⌝ }
+    ensures words { λ r. ⌜ now (out .exit) ≡ nextCall (stateOf (sessionOf s)) (now (base .entry)) (now (out .entry)) .words ⌝ }
+{
+    let v = session_of(s);
+    advanced_result(s, v.next(base, out))
+}
+
+#[no_mangle]
+pub extern "C" fn spiewomir_session_abandon(s: SessionNumbers) -> JudgedResult
+    ensures { λ r. ⌜ r ≡ judgedResult s (abandonVerdict (stateOf (sessionOf s))) (handedBack (sessionOf s) abandon) ⌝ }
+{
+    let v = session_of(s);
+    judged_result(s, v.abandon())
+}
+
+#[no_mangle]
+pub extern "C" fn spiewomir_session_totals(s: SessionNumbers) -> TotalsResult
+    ensures { λ r. ⌜ r ≡ totalsResult s (totalsOf (stateOf (sessionOf s))) ⌝ }
+{
+    let v = session_of(s);
+    let t = v.totals();
+    TotalsResult {
+        session: s,
+        inherited: t.counts.inherited,
+        intra: t.counts.intra,
+        outside: t.counts.outside,
+    }
+}
+
+// ---- The sync text and its log
+#[no_mangle]
+pub extern "C" fn spiewomir_text(text: &[u8], words: &mut [i16]) -> TextResult
+    ensures { λ r. ⌜ TextGiven (now (text .entry)) (now (words .entry)) r (now (words .exit)) ⌝ }
+{
+    match read_text(text, words) {
+        TextReply::Read(t) => {
+            let numbers = t.numbers;
+            TextResult {
+                refusal: 0,
+                place: 0,
+                rule: 0,
+                geometry: geometry_for(numbers),
+                lines: t.lines,
+            }
+        }
+        TextReply::Refused(r) => TextResult {
+            refusal: r.number,
+            place: r.place,
+            rule: r.rule,
+            geometry: GeometryNumbers {
+                bw: 0,
+                bh: 0,
+                sw: 0,
+                sh: 0,
+                x: 0,
+                y: 0,
+                fw: 0,
+                fh: 0,
+            },
+            lines: 0,
+        },
+    }
+}
+
+#[no_mangle]
+pub extern "C" fn spiewomir_log(text: &[u8], out: &mut [u8]) -> LogResult
+    ensures { λ r. ⌜ LogGiven (now (text .entry)) (now (out .entry)) r (now (out .exit)) ⌝ }
+{
+    match log::log(text, out) {
+        LogReply::Written(n) => LogResult {
+            refusal: 0,
+            bytes: n,
+        },
+        LogReply::Refused(r) => LogResult {
+            refusal: r.number,
+            bytes: 0,
+        },
+    }
+}
