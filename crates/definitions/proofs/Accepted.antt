@@ -16,7 +16,7 @@ use Rattle.definitions.specs.declared.Refusal.{Refusal}
 use Rattle.definitions.specs.declared.Verdict.{Verdict}
 use Rattle.definitions.specs.declared.Verdict.the-variants.{Accepted, Refused}
 use Rattle.definitions.specs.Accepted.{Inside, AcceptedAxis, AcceptedAxes}
-use Rattle.definitions.specs.Tests.{pick, minus}
+use Rattle.definitions.specs.Basics.{pick, minus}
 use Rattle.definitions.specs.Geometry.{baseSize, scaledSize, fullSize, offsetOf, axisOf, axesOf, insideAxis, inside, cOf, sampleOf, macroblocks}
 use Rattle.definitions.specs.Refusals.{sizeRight, scaledRight, offsetRight, geometryTests, geometryVerdict}
 use Rattle.definitions.specs.Calls.{fullCount}

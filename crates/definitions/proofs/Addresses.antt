@@ -6,7 +6,7 @@ use mathlib.Core.Logic.{⊎-elim}
 use native.Mathlib.Nat.{mul-le-mul-right}
 use native.Mathlib.Omega.{arith}
 use Rattle.definitions.specs.declared.Axes.{Axes}
-use Rattle.definitions.specs.Tests.{forEach}
+use Rattle.definitions.specs.Basics.{forEach}
 use Rattle.definitions.specs.Accepted.{Inside}
 use Rattle.definitions.specs.Geometry.{baseSize, scaledSize, cOf, fOf, twoOf, columnsRead, sampleOf, macroblocks}
 use Rattle.definitions.specs.BlockMap.{coordinateOf, stepOf, baseAddress, addressRead}

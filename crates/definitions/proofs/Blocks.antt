@@ -10,7 +10,7 @@ use Rattle.definitions.specs.declared.SubSplit.{SubSplit}
 use Rattle.definitions.specs.declared.SubSplit.the-variants.{S8x8, S8x4, S4x8, S4x4}
 use Rattle.definitions.specs.declared.Split.{Split}
 use Rattle.definitions.specs.declared.Split.the-variants.{S16x16, S16x8, S8x16, S8x8 as Quarters}
-use Rattle.definitions.specs.Tests.{allOf}
+use Rattle.definitions.specs.Basics.{allOf}
 use Rattle.definitions.specs.Splits.{sameMotion, subPieces, pieces, alike, oneEach}
 use Rattle.definitions.proofs.Choices.{both-true, and-intro}
 

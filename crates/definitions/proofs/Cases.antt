@@ -17,7 +17,7 @@ use Rattle.definitions.specs.declared.Answer.{Answer}
 use Rattle.definitions.specs.declared.Answer.the-variants.{Outside, Intra, Inherited}
 use Rattle.definitions.specs.declared.MacroblockReply.{MacroblockReply}
 use Rattle.definitions.specs.declared.PictureReply.the-variants.{Counted}
-use Rattle.definitions.specs.Tests.{pick, allBelow, allOf, upTo}
+use Rattle.definitions.specs.Basics.{pick, allBelow, allOf, upTo}
 use Rattle.definitions.specs.Geometry.{axesOf, fullSize, macroblocks, insideAxis, mOf, nOf, fOf, twoOf, columnsRead}
 use Rattle.definitions.specs.BlockMap.{digitsOf, coordinateOf, stepOf, addressRead, blockRead}
 use Rattle.definitions.specs.Splits.{sameMotion, samePrediction, alike, oneEach, fewestIn}

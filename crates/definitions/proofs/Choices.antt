@@ -9,7 +9,7 @@ use native.Mathlib.Omega.{arith}
 use lib.IntN.{ℤ, pos, negsuc}
 use lib.ListN.{length, getD, length-append}
 use borrow.Author.Tests.{eqb-true, eq-eqb}
-use Rattle.definitions.specs.Tests.{pick, eqZ, allBelow, allOf, upTo, four}
+use Rattle.definitions.specs.Basics.{pick, eqZ, allBelow, allOf, upTo, four}
 
 -- ---- pick
 pub yes : {A : Type 0} {t : Bool} (a b : A) → t ≡ true → pick t a b ≡ a

@@ -8,7 +8,7 @@ use lib.ListN.{length}
 use Rattle.definitions.specs.declared.Answer.{Answer}
 use Rattle.definitions.specs.declared.Answer.the-variants.{Outside, Intra, Inherited}
 use Rattle.definitions.specs.declared.Counts.{Counts}
-use Rattle.definitions.specs.Tests.{pick, howMany, upTo}
+use Rattle.definitions.specs.Basics.{pick, howMany, upTo}
 use Rattle.definitions.specs.Answer.{Made}
 use Rattle.definitions.specs.Calls.{counted, noCounts, countsOf, sumOf}
 use Rattle.definitions.proofs.Choices.{upTo-length}

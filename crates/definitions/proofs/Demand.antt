@@ -22,7 +22,7 @@ use Rattle.definitions.specs.declared.Counts.{Counts}
 use Rattle.definitions.specs.declared.PictureReply.the-variants.{Counted, Refused as NotMade}
 use Rattle.definitions.specs.declared.MacroblockReply.{MacroblockReply}
 use Rattle.definitions.specs.declared.MacroblockReply.the-variants.{Answered, Refused as Declined}
-use Rattle.definitions.specs.Tests.{upTo, forEach}
+use Rattle.definitions.specs.Basics.{upTo, forEach}
 use Rattle.definitions.specs.Geometry.{axesOf, fullSize, macroblocks, inside}
 use Rattle.definitions.specs.Record.{recordWords, recordAt, wellFormed, firstBroken}
 use Rattle.definitions.specs.Answer.{Made, answerOf, writtenFor, madeOf, addressesNamed}

@@ -14,8 +14,8 @@ use Rattle.definitions.specs.declared.SubSplit.the-variants.{S8x8, S8x4,
 use Rattle.definitions.specs.declared.SubSplits.{SubSplits}
 use Rattle.definitions.specs.declared.Split.{Split}
 use Rattle.definitions.specs.declared.Split.the-variants.{S16x16, S16x8, S8x16, S8x8 as Quarters}
-use Rattle.definitions.specs.Tests.{pick, allOf}
-use Rattle.definitions.specs.Splits.{sameMotion, placeOf, subPieces, pieces, alike, oneEach, subCount, count, splits, sixteenPieces, fewer, fewestIn}
+use Rattle.definitions.specs.Basics.{pick, allOf}
+use Rattle.definitions.specs.Splits.{sameMotion, inQuadrant, subPieces, pieces, alike, oneEach, subCount, count, splits, sixteenPieces, fewer, fewestIn}
 use Rattle.definitions.specs.Inheriting.{zeroMotion, at, motionAt, chosen}
 use Rattle.definitions.proofs.Choices.{yes, pick-cases, both-true, and-intro}
 use Rattle.definitions.proofs.Motions.{motion-true, motion-same}
@@ -371,9 +371,9 @@ chosen-fewest m = subst (Fewest (motionAt m)) (sym (chosen-is m)) (splitOf-fewes
 pub chosen-one : (m : List (List Motion)) (s : Split) → s ≡ chosen m → OneEach (motionAt m) s
 chosen-one m s e = one-each (motionAt m) s (ap (oneEach (motionAt m)) e ∙ chosen-fewest m .one)
 
-pub shape-one : (q : List Motion) (s : SubSplit) → s ≡ quadrantShape q → One (λ i. getD q (placeOf i) zeroMotion) 0 s
+pub shape-one : (q : List Motion) (s : SubSplit) → s ≡ quadrantShape q → One (λ i. getD q (inQuadrant i) zeroMotion) 0 s
 unfolding quadrantShape
-shape-one q s e = subst (One (λ i. getD q (placeOf i) zeroMotion) 0) (sym e) (shape-least (λ i. getD q (placeOf i) zeroMotion) 0 .one)
+shape-one q s e = subst (One (λ i. getD q (inQuadrant i) zeroMotion) 0) (sym e) (shape-least (λ i. getD q (inQuadrant i) zeroMotion) 0 .one)
 
 -- an 8×8 split that is chosen has the shapes of the quadrants
 quarters-of : (w : Bool) (s : SubSplit) (t u : SubSplits) → Quarters t ≡ pick w (joined s u) (Quarters u) → t ≡ u

@@ -6,7 +6,7 @@ use mathlib.Core.List.{List}
 use native.Mathlib.Omega.{arith}
 use lib.IntN.{ℤ}
 use borrow.Author.Tests.{eqb-true}
-use Rattle.definitions.specs.Tests.{pick}
+use Rattle.definitions.specs.Basics.{pick}
 use Rattle.definitions.specs.Splits.{quadrantOf}
 use Rattle.definitions.specs.Record.{vectorXOf, vectorYOf, referenceOf, used, vectorWord, rule1, rule2, rule3, rule4, rule5, rule6, firstBroken, wellFormed}
 use Rattle.definitions.proofs.Choices.{both-true, below-true}

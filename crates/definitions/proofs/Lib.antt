@@ -1,7 +1,7 @@
 -- Laws of the definitions. Each file says in its first line what it is about.
 pub mod Choices
 pub mod Differences
-pub mod Places
+pub mod Positions
 pub mod Rounding
 pub mod Branches
 pub mod Map
@@ -30,7 +30,7 @@ pub mod Why
 pub mod Counting
 pub mod Singly
 pub mod Sessions
-pub mod SessionPlace
+pub mod SessionAddress
 pub mod SessionPicture
 pub mod SessionRefusals
 pub mod SessionExamples

@@ -13,13 +13,13 @@ use lib.ListN.{length, getD}
 use lib.Signed.{ltZ}
 use borrow.Author.Tests.{eqb-true, eqb-false, le-leb, ltb-true}
 use Rattle.definitions.specs.Accepted.{Inside}
-use Rattle.definitions.specs.Tests.{pick, minus, allBelow}
+use Rattle.definitions.specs.Basics.{pick, minus, allBelow}
 use Rattle.definitions.specs.Geometry.{kOf, pOf, d1Of, d2Of, roundedOf, even, mOf, nOf, fOf, twoOf, columnsRead, macroblocks, classOf}
 use Rattle.definitions.specs.BlockMap.{digitsOf, coordinateOf}
 use Rattle.definitions.specs.Answer.{twoColumns, twoRows}
 use Rattle.definitions.proofs.Choices.{pick-cases, both-true, either-true, implies, implied, below-true}
 use Rattle.definitions.proofs.Differences.{sub-pos, sub-cases}
-use Rattle.definitions.proofs.Places.{near, first-edge, last-edge, m-even, n-even, m-odd, n-odd}
+use Rattle.definitions.proofs.Positions.{near, first-edge, last-edge, m-even, n-even, m-odd, n-odd}
 
 -- ---- D1 = −4i and D2 = 4j: how many fours p(k) lies before c and p(k+1) behind it, to the nearest
 abbrev pub foursBefore : ℕ → ℕ → ℕ → ℕ

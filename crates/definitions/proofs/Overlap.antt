@@ -15,12 +15,12 @@ use lib.Dec.{leb}
 use lib.ListN.{getD}
 use borrow.Author.Tests.{leb-true, le-leb, eqb-true, eqb-false}
 use Rattle.definitions.specs.Accepted.{Inside}
-use Rattle.definitions.specs.Tests.{pick, allBelow}
+use Rattle.definitions.specs.Basics.{pick, allBelow}
 use Rattle.definitions.specs.Geometry.{zOf, kOf, pOf, even, twoOf}
 use Rattle.definitions.specs.BlockMap.{digitsOf, coordinateOf}
 use Rattle.definitions.specs.Why.{centreOf, Overlaps}
 use Rattle.definitions.proofs.Choices.{yes, both-true, and-intro, below-true}
-use Rattle.definitions.proofs.Places.{near}
+use Rattle.definitions.proofs.Positions.{near}
 use Rattle.definitions.proofs.Map.{foursBefore, foursBehind, digitAt, twoAt, digits-is, two-is, f-is, not-first}
 
 times : (k : ℕ) {m n : ℕ} → m ≡ n → m * k ≡ n * k

@@ -7,7 +7,7 @@ use native.Mathlib.Numerals.{add-one}
 use native.Mathlib.Omega.{arith}
 use lib.ListN.{length, take, drop, set, length-append, drop-of-length-le}
 use lib.Seq.{take-at, drop-at, drop-drop, sets, sets-eq}
-use Rattle.definitions.specs.Tests.{upTo, forEach}
+use Rattle.definitions.specs.Basics.{upTo, forEach}
 use Rattle.definitions.proofs.RecordLists.{joined-each}
 
 -- the parts 0 .. n−1, one after the other

@@ -15,7 +15,7 @@ use Rattle.definitions.specs.declared.SubSplit.the-variants.{S8x8, S8x4,
 use Rattle.definitions.specs.declared.SubSplits.{SubSplits}
 use Rattle.definitions.specs.declared.Split.{Split}
 use Rattle.definitions.specs.declared.Split.the-variants.{S16x16, S16x8, S8x16, S8x8 as Quarters}
-use Rattle.definitions.specs.Tests.{allBelow}
+use Rattle.definitions.specs.Basics.{allBelow}
 use Rattle.definitions.specs.Splits.{subPieces, pieces, subCount, count, subSplits, splits, blocksOf, times, Covers}
 use Rattle.definitions.specs.Record.{subTypeNumber}
 use Rattle.definitions.proofs.Choices.{below-true}

@@ -10,10 +10,10 @@ use lib.IntN.{ℤ, pos, natAbs, subℕ, _-ℤ_}
 use lib.Signed.{ltZ}
 use borrow.Author.Tests.{eq-eqb, ne-eqb}
 use Rattle.definitions.specs.declared.Axis.{Axis}
-use Rattle.definitions.specs.Tests.{pick, minus}
+use Rattle.definitions.specs.Basics.{pick, minus}
 use Rattle.definitions.specs.Geometry.{offsetOf, cOf, zOf, kOf, pOf, d1Of, d2Of, roundedOf, even, mOf, nOf, fOf, twoOf}
 use Rattle.definitions.proofs.Differences.{sub-shift}
-use Rattle.definitions.proofs.Places.{m-even, n-even, m-odd, n-odd}
+use Rattle.definitions.proofs.Positions.{m-even, n-even, m-odd, n-odd}
 
 pub c-aligned : (a : Axis) (p x : ℕ) → pos p -ℤ offsetOf a ≡ pos (16 * x) → cOf a p ≡ 16 * x + 8
 c-aligned a p x e = ap (λ (z : ℤ). natAbs z + 8) e

@@ -12,7 +12,7 @@ use lib.Seq.{take-append-le, drop-append-le, take-all, drop-at}
 use borrow.Author.Tests.{not-false}
 use Rattle.definitions.specs.declared.Refusal.{Refusal}
 use Rattle.definitions.specs.declared.Verdict.the-variants.{Accepted}
-use Rattle.definitions.specs.Tests.{upTo, forEach}
+use Rattle.definitions.specs.Basics.{upTo, forEach}
 use Rattle.definitions.specs.Record.{recordWords, recordAt, wellFormed}
 use Rattle.definitions.specs.Refusals.{verdictOf, recordTest, recordTests}
 use Rattle.definitions.proofs.Choices.{no}

@@ -7,8 +7,8 @@ use native.Mathlib.Omega.{arith}
 use lib.IntN.{ℤ, pos}
 use lib.ListN.{length, getD, take, drop, replicate, length-take, length-drop}
 use Rattle.definitions.specs.declared.Motion.{Motion}
-use Rattle.definitions.specs.Tests.{upTo}
-use Rattle.definitions.specs.Splits.{quadrantOf, placeOf, rasterOf}
+use Rattle.definitions.specs.Basics.{upTo}
+use Rattle.definitions.specs.Splits.{quadrantOf, inQuadrant, rasterOf}
 use Rattle.definitions.specs.Record.{recordWords, recordAt, typeOf, subTypeOf, referenceOf, vectorXOf, vectorYOf, motionOf, laidOut}
 use Rattle.definitions.specs.Inheriting.{at, motionAt}
 use Rattle.definitions.proofs.Choices.{each}
@@ -34,8 +34,8 @@ module _ (q k : ℕ) (hq : q < 4) (hk : k < 4) where
   pub raster-quadrant : quadrantOf (rasterOf q k) ≡ q
   raster-quadrant = in-square (λ i j. quadrantOf (rasterOf i j) ≡ i) (each _ (refl, refl, refl, refl) (refl, refl, refl, refl) (refl, refl, refl, refl) (refl, refl, refl, refl))
 
-  pub raster-place : placeOf (rasterOf q k) ≡ k
-  raster-place = in-square (λ i j. placeOf (rasterOf i j) ≡ j) (each _ (refl, refl, refl, refl) (refl, refl, refl, refl) (refl, refl, refl, refl) (refl, refl, refl, refl))
+  pub raster-place : inQuadrant (rasterOf q k) ≡ k
+  raster-place = in-square (λ i j. inQuadrant (rasterOf i j) ≡ j) (each _ (refl, refl, refl, refl) (refl, refl, refl, refl) (refl, refl, refl, refl) (refl, refl, refl, refl))
 
   pub raster-below : rasterOf q k < 16
   raster-below =
@@ -46,9 +46,9 @@ module _ (q k : ℕ) (hq : q < 4) (hk : k < 4) where
   pub raster-motion : (m : List (List Motion)) → motionAt m (rasterOf q k) ≡ at m q k
   raster-motion m = λ i. at m (raster-quadrant i) (raster-place i)
 
-pub raster-is : (b : ℕ) → b < 16 → rasterOf (quadrantOf b) (placeOf b) ≡ b
+pub raster-is : (b : ℕ) → b < 16 → rasterOf (quadrantOf b) (inQuadrant b) ≡ b
 raster-is =
-    each16 (λ b. rasterOf (quadrantOf b) (placeOf b) ≡ b) refl refl refl refl refl refl refl refl refl refl refl refl refl refl refl refl
+    each16 (λ b. rasterOf (quadrantOf b) (inQuadrant b) ≡ b) refl refl refl refl refl refl refl refl refl refl refl refl refl refl refl refl
 
 -- ---- A record of a list of records
 module _ (base : List ℤ) (a : ℕ) where

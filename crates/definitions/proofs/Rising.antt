@@ -15,7 +15,7 @@ use Rattle.definitions.specs.declared.Refusal.{Refusal}
 use Rattle.definitions.specs.declared.Verdict.the-variants.{Accepted, Refused}
 use Rattle.definitions.specs.declared.MacroblockReply.the-variants.{Refused as Declined}
 use Rattle.definitions.specs.declared.PictureReply.the-variants.{Refused as NotMade}
-use Rattle.definitions.specs.Tests.{allOf, upTo, forEach}
+use Rattle.definitions.specs.Basics.{allOf, upTo, forEach}
 use Rattle.definitions.specs.Geometry.{axesOf, baseSize, macroblocks, inside, columnsRead}
 use Rattle.definitions.specs.Record.{recordAt, wellFormed}
 use Rattle.definitions.specs.BlockMap.{baseAddress}

@@ -7,7 +7,7 @@ use native.Mathlib.Omega.{arith}
 use lib.Dec.{leb→le, le→leb}
 use lib.IntN.{ℤ, pos, negsuc, negℤ, natAbs, _*ℤ_, _-ℤ_, negℤ-negℤ, negℤ-+ℤ, *ℤ-negsuc, *ℤ-zero}
 use lib.Signed.{_≤ℤ_, leZ-yes}
-use Rattle.definitions.specs.Tests.{minus}
+use Rattle.definitions.specs.Basics.{minus}
 use Rattle.definitions.specs.Accepted.{Sized}
 use Rattle.definitions.specs.Inheriting.{scaledWord}
 use Rattle.definitions.specs.Why.{errorOf, Nearest}

@@ -7,7 +7,7 @@ use native.Mathlib.Omega.{arith}
 use lib.IntN.{ℤ}
 use Rattle.definitions.specs.declared.Axes.{Axes}
 use Rattle.definitions.specs.declared.Answer.the-variants.{Outside, Intra, Inherited}
-use Rattle.definitions.specs.Tests.{pick, four}
+use Rattle.definitions.specs.Basics.{pick, four}
 use Rattle.definitions.specs.Geometry.{inside}
 use Rattle.definitions.specs.BlockMap.{addressRead, blockRead}
 use Rattle.definitions.specs.Record.{recordAt, isIntra, motionOf}

@@ -12,7 +12,7 @@ use Rattle.definitions.specs.declared.Axes.{Axes}
 use Rattle.definitions.specs.declared.Prediction.{Prediction}
 use Rattle.definitions.specs.declared.Motion.{Motion}
 use Rattle.definitions.specs.declared.Split.the-variants.{S8x8 as Quarters}
-use Rattle.definitions.specs.Tests.{pick, minus, four}
+use Rattle.definitions.specs.Basics.{pick, minus, four}
 use Rattle.definitions.specs.Geometry.{baseSize, scaledSize}
 use Rattle.definitions.specs.Accepted.{Sized}
 use Rattle.definitions.specs.Splits.{sameMotion}

@@ -10,7 +10,7 @@ use Rattle.definitions.specs.declared.Verdict.the-variants.{Accepted, Re
 use Rattle.definitions.specs.declared.MacroblockReply.{MacroblockReply}
 use Rattle.definitions.specs.declared.MacroblockReply.the-variants.{Answered, Refused as Declined}
 use Rattle.definitions.specs.declared.Numbers.{Numbers}
-use Rattle.definitions.specs.Tests.{pick, allBelow, allOf, upTo}
+use Rattle.definitions.specs.Basics.{pick, allBelow, allOf, upTo}
 use Rattle.definitions.specs.Geometry.{insideAxis, mOf, nOf, fOf, twoOf, columnsRead}
 use Rattle.definitions.specs.BlockMap.{digitsOf, coordinateOf, stepOf, addressRead, blockRead}
 use Rattle.definitions.specs.Splits.{sameMotion, samePrediction, alike, oneEach, fewestIn}

@@ -11,7 +11,7 @@ use Rattle.definitions.specs.declared.Axes.{Axes}
 use Rattle.definitions.specs.declared.Numbers.{Numbers}
 use Rattle.definitions.specs.declared.Verdict.the-variants.{Accepted}
 use Rattle.definitions.specs.declared.MacroblockReply.the-variants.{Answered}
-use Rattle.definitions.specs.Tests.{upTo, forEach}
+use Rattle.definitions.specs.Basics.{upTo, forEach}
 use Rattle.definitions.specs.Geometry.{axesOf}
 use Rattle.definitions.specs.Record.{recordWords}
 use Rattle.definitions.specs.Answer.{Made}
@@ -113,12 +113,12 @@ picture-by-session s n base words counts lent free e l =
     let p = passed n words base v in
     let total = fullCount g in
     let made = madeAt g base in
-    let gives = gives-from n base words lent p l s free total (omega arith) in
+    let gaveAfter = gives-from n base words lent p l s free total (omega arith) in
     let state = state-from n base words lent p l s free total (omega arith) in
     let same : countsOf (upTo total made) ≡ counts = cc (sym (counted-made n words base v) ∙ e) in
     record {
-      accepted = gives;
-      words-same = ap (λ (x : List Exchange). forEach x wordsAfter) gives ∙ (each-same (given n base words lent p l) made wordsAfter (λ m. m .written) (λ k. refl) total ∙ sym (picture-words n words base v));
+      accepted = gaveAfter;
+      words-same = ap (λ (x : List Exchange). forEach x wordsAfter) gaveAfter ∙ (each-same (given n base words lent p l) made wordsAfter (λ m. m .written) (λ k. refl) total ∙ sym (picture-words n words base v));
       totals-same = ap (λ (t : State). exchange t totals) state ∙ ap totalsGave same;
       finished-then = ap finished state ∙ eq-eqb (sumOf (countsOf (upTo total made))) total (counts-sum total made);
       unfinished-before = λ k h. ap unfinished (state-from n base words lent p l s free k (omega arith)) ∙ ap not (going-on n base words lent p l k h);

@@ -14,12 +14,12 @@ use Rattle.definitions.specs.declared.Verdict.{Verdict}
 use Rattle.definitions.specs.declared.Verdict.the-variants.{Accepted, Refused}
 use Rattle.definitions.specs.declared.MacroblockReply.{MacroblockReply}
 use Rattle.definitions.specs.declared.MacroblockReply.the-variants.{Answered, Refused as Declined}
-use Rattle.definitions.specs.Tests.{pick, allOf, forEach}
+use Rattle.definitions.specs.Basics.{pick, allOf, forEach}
 use Rattle.definitions.specs.Geometry.{axesOf}
 use Rattle.definitions.specs.Answer.{Made}
 use Rattle.definitions.specs.Refusals.{refusal, verdictOf, geometryTests, geometryVerdict}
 use Rattle.definitions.specs.Calls.{Outcome, byVerdict, fullCount, counted, noCounts, countsOf, sumOf}
-use Rattle.definitions.specs.Session.{Call, begin, next, abandon, totals, State, fresh, begun, totalsOf, finished, onwardTests, beginTests, beginVerdict, abandonVerdict, callAtNext, nextCall, Exchange, totalsGave, exchange, ifAccepted, advanced, stateNext, exchanges, stateAfter, accepts, startsAnew, noneAnew, since, answeredWith, madeBy, madeSince, TotalsRight, sound, OnlySound}
+use Rattle.definitions.specs.Session.{Call, begin, next, abandon, totals, State, fresh, begun, totalsOf, finished, onwardTests, beginTests, beginVerdict, abandonVerdict, callAtNext, nextCall, Exchange, totalsGave, exchange, ifAccepted, advanced, stateNext, exchanges, stateAfter, accepts, startsAnew, noneAnew, since, answeredWith, madeIn, madeSince, TotalsRight, sound, OnlySound}
 use Rattle.definitions.proofs.Choices.{yes, no, both-true, and-intro, and-no}
 use Rattle.definitions.proofs.Verdicts.{both-passed}
 use Rattle.definitions.proofs.Counting.{counted-last, counted-sum, counts-length}
@@ -50,7 +50,7 @@ refused-added : (v : Verdict) (after s : State) (known : List Made) → accepts 
 refused-added Accepted after s known e k = cc
 refused-added (Refused r) after s known e k = nothing-added known k
 
-added : (s : State) (c : Call) (known : List Made) → startsAnew (exchange s c) ≡ false → totalsOf s ≡ countsOf known → totalsOf (stateNext s c) ≡ countsOf (known ++ madeBy (exchange s c))
+added : (s : State) (c : Call) (known : List Made) → startsAnew (exchange s c) ≡ false → totalsOf s ≡ countsOf known → totalsOf (stateNext s c) ≡ countsOf (known ++ madeIn (exchange s c))
 unfolding exchange stateNext
 added s (begin n) known e k = refused-added (beginVerdict s n) (begun n noCounts) s known e k
 added fresh (next base words) known e k = nothing-added known k ∙ ap (λ (l : List Made). countsOf (known ++ l)) (sym (next-fresh base words))
@@ -63,16 +63,16 @@ added s abandon known e k = refused-added (abandonVerdict s) fresh s known e k
 added s totals known e k = nothing-added known k
 
 -- with no accepted begin or abandon, what is known of the totals at the start goes on
-kept : (s : State) (calls : List Call) (known : List Made) → noneAnew (exchanges s calls) ≡ true → totalsOf s ≡ countsOf known → totalsOf (stateAfter s calls) ≡ countsOf (known ++ forEach (exchanges s calls) madeBy)
+kept : (s : State) (calls : List Call) (known : List Made) → noneAnew (exchanges s calls) ≡ true → totalsOf s ≡ countsOf known → totalsOf (stateAfter s calls) ≡ countsOf (known ++ forEach (exchanges s calls) madeIn)
 unfolding exchanges stateAfter allOf
 kept s [] known e k = nothing-added known k
 kept s (c ∷ cs) known e k =
     let both = both-true (not (startsAnew (exchange s c))) (noneAnew (exchanges (stateNext s c) cs)) e in
-    kept (stateNext s c) cs (known ++ madeBy (exchange s c)) (both .1) (added s c known (not-true (startsAnew (exchange s c)) (both .0)) k)
-    ∙ ap countsOf (append-assoc known (madeBy (exchange s c)) (forEach (exchanges (stateNext s c) cs) madeBy))
+    kept (stateNext s c) cs (known ++ madeIn (exchange s c)) (both .1) (added s c known (not-true (startsAnew (exchange s c)) (both .0)) k)
+    ∙ ap countsOf (append-assoc known (madeIn (exchange s c)) (forEach (exchanges (stateNext s c) cs) madeIn))
 
 -- with one, they are counted from the last on
-last : (s : State) (calls : List Call) → noneAnew (exchanges s calls) ≡ false → totalsOf (stateAfter s calls) ≡ countsOf (forEach (since (exchanges s calls)) madeBy)
+last : (s : State) (calls : List Call) → noneAnew (exchanges s calls) ≡ false → totalsOf (stateAfter s calls) ≡ countsOf (forEach (since (exchanges s calls)) madeIn)
 unfolding exchanges stateAfter allOf since countsOf
 last s [] e = cc
 last s (c ∷ cs) e = by (λ p. last (stateNext s c) cs p) (noneAnew (exchanges (stateNext s c) cs)) (startsAnew (exchange s c)) refl refl
@@ -80,10 +80,10 @@ last s (c ∷ cs) e = by (λ p. last (stateNext s c) cs p) (noneAnew (exchanges 
     rest : List Exchange
     rest = exchanges (stateNext s c) cs
 
-    by : (noneAnew rest ≡ false → totalsOf (stateAfter (stateNext s c) cs) ≡ countsOf (forEach (since rest) madeBy)) → (later here : Bool) → noneAnew rest ≡ later → startsAnew (exchange s c) ≡ here → totalsOf (stateAfter (stateNext s c) cs) ≡ countsOf (forEach (pick (noneAnew rest) (pick (startsAnew (exchange s c)) rest (exchange s c ∷ rest)) (since rest)) madeBy)
-    by go false here p q = go p ∙ ap (λ (l : List Exchange). countsOf (forEach l madeBy)) (sym (no _ _ p))
+    by : (noneAnew rest ≡ false → totalsOf (stateAfter (stateNext s c) cs) ≡ countsOf (forEach (since rest) madeIn)) → (later here : Bool) → noneAnew rest ≡ later → startsAnew (exchange s c) ≡ here → totalsOf (stateAfter (stateNext s c) cs) ≡ countsOf (forEach (pick (noneAnew rest) (pick (startsAnew (exchange s c)) rest (exchange s c ∷ rest)) (since rest)) madeIn)
+    by go false here p q = go p ∙ ap (λ (l : List Exchange). countsOf (forEach l madeIn)) (sym (no _ _ p))
     by go true true p q =
-        kept (stateNext s c) cs [] p (anew s c q) ∙ ap (λ (l : List Exchange). countsOf (forEach l madeBy)) (sym (yes _ _ p ∙ yes _ _ q))
+        kept (stateNext s c) cs [] p (anew s c q) ∙ ap (λ (l : List Exchange). countsOf (forEach l madeIn)) (sym (yes _ _ p ∙ yes _ _ q))
     by go true false p q = cc (and-intro {a = not (startsAnew (exchange s c))} {b = noneAnew rest} (ap not q) p)
 
 -- where there is none, since is all
@@ -112,7 +112,7 @@ totals-right = record {
 }
   where
     by : (calls : List Call) (b : Bool) → noneAnew (exchanges fresh calls) ≡ b → totalsOf (stateAfter fresh calls) ≡ countsOf (madeSince calls)
-    by calls true e = kept fresh calls [] e refl ∙ ap (λ (l : List Exchange). countsOf (forEach l madeBy)) (sym (since-all (exchanges fresh calls) e))
+    by calls true e = kept fresh calls [] e refl ∙ ap (λ (l : List Exchange). countsOf (forEach l madeIn)) (sym (since-all (exchanges fresh calls) e))
     by calls false e = last fresh calls e
 
 -- ---- soundness

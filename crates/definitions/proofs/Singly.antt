@@ -12,7 +12,7 @@ use Rattle.definitions.specs.declared.Answer.the-variants.{Outside, Intr
 use Rattle.definitions.specs.declared.Counts.{Counts}
 use Rattle.definitions.specs.declared.MacroblockReply.{MacroblockReply}
 use Rattle.definitions.specs.declared.MacroblockReply.the-variants.{Answered}
-use Rattle.definitions.specs.Tests.{pick, howMany, upTo}
+use Rattle.definitions.specs.Basics.{pick, howMany, upTo}
 use Rattle.definitions.specs.Geometry.{axesOf}
 use Rattle.definitions.specs.Record.{recordWords, recordAt}
 use Rattle.definitions.specs.Answer.{Made}

@@ -14,7 +14,7 @@ use lib.Signed.{ltZ, _≤ℤ_, leZ-yes, ≤ℤ-refl, ltZ-no}
 use borrow.Author.Tests.{eqb-true, ltb-true, not-true, not-false}
 use Rattle.definitions.specs.declared.Prediction.{Prediction}
 use Rattle.definitions.specs.declared.Motion.{Motion}
-use Rattle.definitions.specs.Tests.{minus, eqZ, four}
+use Rattle.definitions.specs.Basics.{minus, eqZ, four}
 use Rattle.definitions.specs.Splits.{rasterOf}
 use Rattle.definitions.specs.Record.{used}
 use Rattle.definitions.specs.Inheriting.{marked, zeroPrediction, zeroMotion, at, horizontal, vertical, diagonal, source, clearOf, filled, lower, referenceAt, lowest, having, withReference, unused, mergedList, merged, someOf, liveOf, copiedFrom, copied, resolved}

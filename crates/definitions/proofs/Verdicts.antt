@@ -10,7 +10,7 @@ use borrow.Author.Tests.{eq-eqb}
 use Rattle.definitions.specs.declared.Refusal.{Refusal}
 use Rattle.definitions.specs.declared.Verdict.{Verdict}
 use Rattle.definitions.specs.declared.Verdict.the-variants.{Accepted, Refused}
-use Rattle.definitions.specs.Tests.{pick, allOf}
+use Rattle.definitions.specs.Basics.{pick, allOf}
 use Rattle.definitions.specs.Refusals.{Test, verdictOf}
 use Rattle.definitions.specs.Calls.{Outcome, byVerdict}
 use Rattle.definitions.proofs.Choices.{yes, no, both-true}

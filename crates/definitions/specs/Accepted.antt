@@ -7,7 +7,7 @@ use lib.Signed.{_≤ℤ_}
 use lib.IntN.{pos}
 use Rattle.definitions.specs.declared.Axis.{Axis}
 use Rattle.definitions.specs.declared.Axes.{Axes}
-use Rattle.definitions.specs.Tests.{minus}
+use Rattle.definitions.specs.Basics.{minus}
 use Rattle.definitions.specs.Geometry.{baseSize, scaledSize, fullSize, offsetOf}
 
 -- B and S of an accepted geometry

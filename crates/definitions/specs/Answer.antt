@@ -12,7 +12,7 @@ use Rattle.definitions.specs.declared.Split.{Split}
 use Rattle.definitions.specs.declared.Split.the-variants.{S16x16, S16x8, S8x16, S8x8 as Quarters}
 use Rattle.definitions.specs.declared.Answer.{Answer}
 use Rattle.definitions.specs.declared.Answer.the-variants.{Outside, Intra, Inherited}
-use Rattle.definitions.specs.Tests.{pick, forEach}
+use Rattle.definitions.specs.Basics.{pick, forEach}
 use Rattle.definitions.specs.Geometry.{inside, classOf, columnsRead, sampleOf}
 use Rattle.definitions.specs.BlockMap.{stepOf, baseAddress}
 use Rattle.definitions.specs.Record.{typeNumber, subTypeNumber, laidOut}

@@ -7,7 +7,7 @@ use lib.ListN.{getD}
 use Rattle.definitions.specs.declared.Axis.{Axis}
 use Rattle.definitions.specs.declared.Axes.{Axes}
 use Rattle.definitions.specs.declared.AxisStep.{AxisStep}
-use Rattle.definitions.specs.Tests.{pick, minus, eqZ, four}
+use Rattle.definitions.specs.Basics.{pick, minus, eqZ, four}
 use Rattle.definitions.specs.Geometry.{baseSize, scaledSize, cOf, kOf, mOf, nOf, fOf, twoOf, even, sampleOf, macroblocks}
 
 -- a row: M, N and the four m as digits
@@ -64,12 +64,12 @@ mapRows true = evenRows
 mapRows false = oddRows
 
 -- the digits of the row with this M and N; none if there is no such row
-abbrev pub digitsIn : List MapRow → ℤ → ℤ → List ℕ
-digitsIn [] m n = []
-digitsIn (r ∷ rs) m n = pick (eqZ (r .border) m && eqZ (r .border8) n) (r .digits) (digitsIn rs m n)
+abbrev pub rowDigits : List MapRow → ℤ → ℤ → List ℕ
+rowDigits [] m n = []
+rowDigits (r ∷ rs) m n = pick (eqZ (r .border) m && eqZ (r .border8) n) (r .digits) (rowDigits rs m n)
 
 unfoldable pub digitsOf : Bool → ℤ → ℤ → List ℕ
-digitsOf k-even m n = digitsIn (mapRows k-even) m n
+digitsOf k-even m n = rowDigits (mapRows k-even) m n
 
 -- Block i of 0..3 along an axis reads base 4 by 4 coordinate 4F + m
 unfoldable pub coordinateOf : ℕ → ℕ → ℕ → ℕ → ℕ

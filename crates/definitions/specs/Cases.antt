@@ -12,7 +12,7 @@ use Rattle.definitions.specs.declared.Named.{Named}
 use Rattle.definitions.specs.declared.Split.the-variants.{S16x16}
 use Rattle.definitions.specs.declared.Answer.{Answer}
 use Rattle.definitions.specs.declared.Answer.the-variants.{Outside, Intra, Inherited}
-use Rattle.definitions.specs.Tests.{minus}
+use Rattle.definitions.specs.Basics.{minus}
 use Rattle.definitions.specs.Geometry.{axesOf}
 use Rattle.definitions.specs.Record.{recordWords, laidOut}
 use Rattle.definitions.specs.Inheriting.{unused}

@@ -18,7 +18,7 @@ use Rattle.definitions.specs.declared.Answer.{Answer}
 use Rattle.definitions.specs.declared.Answer.the-variants.{Outside, Intra, Inherited}
 use Rattle.definitions.specs.declared.MacroblockReply.the-variants.{Answered}
 use Rattle.definitions.specs.declared.PictureReply.the-variants.{Counted}
-use Rattle.definitions.specs.Tests.{pick}
+use Rattle.definitions.specs.Basics.{pick}
 use Rattle.definitions.specs.Geometry.{axesOf, baseSize, fullSize, macroblocks, inside}
 use Rattle.definitions.specs.Splits.{Covers, pieces, oneEach, count}
 use Rattle.definitions.specs.Record.{recordWords, recordAt, motionOf, typeNumber, wellFormed}

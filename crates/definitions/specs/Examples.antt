@@ -14,10 +14,10 @@ use Rattle.definitions.specs.declared.Numbers.{Numbers}
 use Rattle.definitions.specs.declared.Prediction.{Prediction}
 use Rattle.definitions.specs.declared.MacroblockReply.{MacroblockReply}
 use Rattle.definitions.specs.declared.MacroblockReply.the-variants.{Answered, Refused}
-use Rattle.definitions.specs.Tests.{pick, minus, eqZ, allBelow, allOf, upTo}
+use Rattle.definitions.specs.Basics.{pick, minus, eqZ, allBelow, allOf, upTo}
 use Rattle.definitions.specs.Geometry.{axesOf, axisOf, insideAxis, cOf, mOf, nOf, fOf, twoOf, baseSize, scaledSize}
 use Rattle.definitions.specs.BlockMap.{digitsOf, coordinateOf, stepOf, addressRead, blockRead}
-use Rattle.definitions.specs.Splits.{quadrantOf, placeOf, sameMotion, samePrediction, alike, oneEach, fewestIn}
+use Rattle.definitions.specs.Splits.{quadrantOf, inQuadrant, sameMotion, samePrediction, alike, oneEach, fewestIn}
 use Rattle.definitions.specs.Record.{recordWords, recordAt, motionOf, splitSaid, rule1, rule2, rule3, rule4, rule5, rule6, firstBroken, laidOut}
 use Rattle.definitions.specs.Inheriting.{setOf, intraSet, gathered, source, clearOf, filled, lower, lowest, having, unused, zeroPrediction, mergedList, merged, someOf, liveOf, copiedFrom, copied, resolved, scaledWord, scaledPrediction, scaledMotion, inheritedMotions}
 use Rattle.definitions.specs.Answer.{namedAt, answerOf, answerType, addressesOf, withoutMotion, writtenFor, madeOf}
@@ -74,7 +74,7 @@ holds (axis b s o p e) = seen (axisOf (axisFor b s o)) p e
 holds (word b s v w) = eqZ (scaledWord b s v) w
 holds (macroblock base members type) =
     eqb (ones (setFor base)) members && replyType (macroblockCall centred base (pos 1) (pos 1) (replicate recordWords (pos 0)) .reply) type
-holds (fill base i k) = eqb (source (clearOf (setFor base) (quadrantOf i)) (placeOf i)) k
+holds (fill base i k) = eqb (source (clearOf (setFor base) (quadrantOf i)) (inQuadrant i)) k
 holds (merge p k) = allBelow 4 (λ j. samePrediction (getD (mergedList p) j zeroPrediction) (getD p k zeroPrediction))
 
 -- an intra record, and one of type 1

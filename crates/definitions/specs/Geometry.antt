@@ -12,7 +12,7 @@ use Rattle.definitions.specs.declared.AxisNumbers.{AxisNumbers}
 use Rattle.definitions.specs.declared.Numbers.{Numbers}
 use Rattle.definitions.specs.declared.Class.{Class}
 use Rattle.definitions.specs.declared.Class.the-variants.{Corner, Vert, Hori, Center}
-use Rattle.definitions.specs.Tests.{pick, minus, signed}
+use Rattle.definitions.specs.Basics.{pick, minus, signed}
 
 -- B, S, E and o of an axis
 abbrev pub baseSize : Axis → ℕ

@@ -11,11 +11,11 @@ use Rattle.definitions.specs.declared.Axes.{Axes}
 use Rattle.definitions.specs.declared.Prediction.{Prediction}
 use Rattle.definitions.specs.declared.Motion.{Motion}
 use Rattle.definitions.specs.declared.Split.{Split}
-use Rattle.definitions.specs.Tests.{pick, minus, eqZ, signed, four}
+use Rattle.definitions.specs.Basics.{pick, minus, eqZ, signed, four}
 use Rattle.definitions.specs.Geometry.{baseSize, scaledSize}
 use Rattle.definitions.specs.BlockMap.{addressRead, blockRead}
 use Rattle.definitions.specs.Record.{recordAt, isIntra, motionOf, used}
-use Rattle.definitions.specs.Splits.{quadrantOf, placeOf, rasterOf, splits, fewestIn}
+use Rattle.definitions.specs.Splits.{quadrantOf, inQuadrant, rasterOf, splits, fewestIn}
 
 -- A sixteen-bit set marks the blocks that read intra macroblocks: bit i stands for block i.
 unfoldable pub setOf : ℕ → (ℕ → Bool) → ℕ
@@ -43,7 +43,7 @@ abbrev pub at : List (List Motion) → ℕ → ℕ → Motion
 at m q k = getD (getD m q []) k zeroMotion
 
 abbrev pub motionAt : List (List Motion) → ℕ → Motion
-motionAt m i = at m (quadrantOf i) (placeOf i)
+motionAt m i = at m (quadrantOf i) (inQuadrant i)
 
 unfoldable pub gathered : Axes → List ℤ → ℕ → ℕ → List (List Motion)
 gathered g base column row =

@@ -1,5 +1,5 @@
 -- Document 01 as definitions, in its order: read these files from the top with the paper beside them.
-pub mod Tests
+pub mod Basics
 pub mod Geometry
 pub mod Accepted
 pub mod BlockMap

@@ -15,7 +15,7 @@ use Rattle.definitions.specs.declared.Verdict.{Verdict}
 use Rattle.definitions.specs.declared.Verdict.the-variants.{Accepted, Refused}
 use Rattle.definitions.specs.declared.LogReply.{LogReply}
 use Rattle.definitions.specs.declared.LogReply.the-variants.{Written, Refused as NotWritten}
-use Rattle.definitions.specs.Tests.{pick, upTo, forEach}
+use Rattle.definitions.specs.Basics.{pick, upTo, forEach}
 use Rattle.definitions.specs.Geometry.{axesOf}
 use Rattle.definitions.specs.Splits.{count}
 use Rattle.definitions.specs.Answer.{answerType}

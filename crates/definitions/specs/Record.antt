@@ -11,7 +11,7 @@ use Rattle.definitions.specs.declared.SubSplit.{SubSplit}
 use Rattle.definitions.specs.declared.SubSplit.the-variants.{S8x8, S8x4, S4x8, S4x4}
 use Rattle.definitions.specs.declared.Split.{Split}
 use Rattle.definitions.specs.declared.Split.the-variants.{S16x16, S16x8, S8x16, S8x8 as Quarters}
-use Rattle.definitions.specs.Tests.{pick, minus, eqZ, between, allBelow, upTo, forEach}
+use Rattle.definitions.specs.Basics.{pick, minus, eqZ, between, allBelow, upTo, forEach}
 use Rattle.definitions.specs.Splits.{quadrantOf, rasterOf, oneEach}
 
 -- 77 signed 16-bit words

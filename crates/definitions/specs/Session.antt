@@ -15,7 +15,7 @@ use Rattle.definitions.specs.declared.Verdict.the-variants.{Accepted, Re
 use Rattle.definitions.specs.declared.MacroblockReply.{MacroblockReply}
 use Rattle.definitions.specs.declared.MacroblockReply.the-variants.{Answered, Refused as Declined}
 use Rattle.definitions.specs.declared.PictureReply.the-variants.{Counted}
-use Rattle.definitions.specs.Tests.{pick, allOf, upTo, forEach}
+use Rattle.definitions.specs.Basics.{pick, allOf, upTo, forEach}
 use Rattle.definitions.specs.Geometry.{axesOf}
 use Rattle.definitions.specs.Record.{recordWords}
 use Rattle.definitions.specs.Answer.{Made}
@@ -61,7 +61,7 @@ onwardTests s = test (nothingBegun s) (refusal 20) ∷ test (finished s) (refusa
 abbrev pub beginTests : State → List Test
 beginTests s = test (unfinished s) (refusal 22) ∷ []
 
--- ---- What each call gives; 20 to 22 precede 1 to 8
+-- ---- What each call gaveAfter; 20 to 22 precede 1 to 8
 -- Begin can be refused by 1 to 4.
 unfoldable pub beginVerdict : State → Numbers → Verdict
 beginVerdict s n = verdictOf (beginTests s ++ geometryTests n)
@@ -159,15 +159,15 @@ abbrev pub answeredWith : MacroblockReply → List ℤ → List Made
 answeredWith (Answered a) words = record { answer = a; written = words } ∷ []
 answeredWith (Declined r) words = []
 
-abbrev pub madeBy : Exchange → List Made
-madeBy (beginGave n v) = []
-madeBy (nextGave base words o) = answeredWith (o .reply) (o .words)
-madeBy (abandonGave v) = []
-madeBy (totalsGave c) = []
+abbrev pub madeIn : Exchange → List Made
+madeIn (beginGave n v) = []
+madeIn (nextGave base words o) = answeredWith (o .reply) (o .words)
+madeIn (abandonGave v) = []
+madeIn (totalsGave c) = []
 
 -- the accepted next calls since the last accepted begin or abandon, after a list of calls from a fresh session
 abbrev pub madeSince : List Call → List Made
-madeSince calls = forEach (since (exchanges fresh calls)) madeBy
+madeSince calls = forEach (since (exchanges fresh calls)) madeIn
 
 -- For every list of these calls from a fresh one, totals are the counts of accepted next calls of each sort since the last accepted begin or
 -- abandon, and their sum is their number.
@@ -175,42 +175,42 @@ pub record TotalsRight : Type 0 where
   pub counts : (calls : List Call) → exchange (stateAfter fresh calls) totals ≡ totalsGave (countsOf (madeSince calls))
   pub sum : (calls : List Call) → sumOf (countsOf (madeSince calls)) ≡ length (madeSince calls)
 
--- After a list of calls from a fresh session: the geometry begun, the number of macroblocks made, and what one call more gives
+-- After a list of calls from a fresh session: the geometry begun, the number of macroblocks made, and what one call more gaveAfter
 abbrev pub geometryAfter : List Call → Option Numbers
 geometryAfter calls = geometrySince (exchanges fresh calls)
 
 abbrev pub madeAfter : List Call → ℕ
 madeAfter calls = length (madeSince calls)
 
-abbrev pub gives : List Call → Call → Exchange
-gives calls c = exchange (stateAfter fresh calls) c
+abbrev pub gaveAfter : List Call → Call → Exchange
+gaveAfter calls c = exchange (stateAfter fresh calls) c
 
 -- next refused, its words as they were
 abbrev pub nextRefused : List ℤ → List ℤ → Refusal → Exchange
 nextRefused base words r = nextGave base words (record { reply = Declined r; words = words })
 
 -- For every list of these calls from a fresh one:
-pub record PlaceRight : Type 0 where
+pub record AddressRight : Type 0 where
   -- nothing begun: next and abandon are refused by 20, and begin by 1 to 4 only
-  pub next-nothing : (calls : List Call) → geometryAfter calls ≡ none → (base words : List ℤ) → gives calls (next base words) ≡ nextRefused base words (refusal 20)
-  pub abandon-nothing : (calls : List Call) → geometryAfter calls ≡ none → gives calls abandon ≡ abandonGave (Refused (refusal 20))
-  pub begin-nothing : (calls : List Call) → geometryAfter calls ≡ none → (m : Numbers) → gives calls (begin m) ≡ beginGave m (geometryVerdict m)
+  pub next-nothing : (calls : List Call) → geometryAfter calls ≡ none → (base words : List ℤ) → gaveAfter calls (next base words) ≡ nextRefused base words (refusal 20)
+  pub abandon-nothing : (calls : List Call) → geometryAfter calls ≡ none → gaveAfter calls abandon ≡ abandonGave (Refused (refusal 20))
+  pub begin-nothing : (calls : List Call) → geometryAfter calls ≡ none → (m : Numbers) → gaveAfter calls (begin m) ≡ beginGave m (geometryVerdict m)
   -- after the last macroblock: next and abandon are refused by 21, and begin by 1 to 4 only
   pub next-last : (calls : List Call) (n : Numbers) → geometryAfter calls ≡ some n → madeAfter calls ≡ fullCount (axesOf n)
-      → (base words : List ℤ) → gives calls (next base words) ≡ nextRefused base words (refusal 21)
+      → (base words : List ℤ) → gaveAfter calls (next base words) ≡ nextRefused base words (refusal 21)
   pub abandon-last : (calls : List Call) (n : Numbers) → geometryAfter calls ≡ some n → madeAfter calls ≡ fullCount (axesOf n)
-      → gives calls abandon ≡ abandonGave (Refused (refusal 21))
+      → gaveAfter calls abandon ≡ abandonGave (Refused (refusal 21))
   pub begin-last : (calls : List Call) (n : Numbers) → geometryAfter calls ≡ some n → madeAfter calls ≡ fullCount (axesOf n)
-      → (m : Numbers) → gives calls (begin m) ≡ beginGave m (geometryVerdict m)
+      → (m : Numbers) → gaveAfter calls (begin m) ≡ beginGave m (geometryVerdict m)
   -- unfinished: next is the one-macroblock call for the next address in raster order, abandon is accepted, and begin refused by 22
   pub next-unfinished : (calls : List Call) (n : Numbers) → geometryAfter calls ≡ some n → madeAfter calls < fullCount (axesOf n)
       → (base words : List ℤ)
-      → gives calls (next base words)
+      → gaveAfter calls (next base words)
       ≡ nextGave base words (callAt n base (madeAfter calls) words)
   pub abandon-unfinished : (calls : List Call) (n : Numbers) → geometryAfter calls ≡ some n → madeAfter calls < fullCount (axesOf n)
-      → gives calls abandon ≡ abandonGave Accepted
+      → gaveAfter calls abandon ≡ abandonGave Accepted
   pub begin-unfinished : (calls : List Call) (n : Numbers) → geometryAfter calls ≡ some n → madeAfter calls < fullCount (axesOf n)
-      → (m : Numbers) → gives calls (begin m) ≡ beginGave m (Refused (refusal 22))
+      → (m : Numbers) → gaveAfter calls (begin m) ≡ beginGave m (Refused (refusal 22))
   -- there is no other case
   pub no-more : (calls : List Call) (n : Numbers) → geometryAfter calls ≡ some n → madeAfter calls ≤ fullCount (axesOf n)
 

@@ -12,7 +12,7 @@ use Rattle.definitions.specs.declared.SubSplit.{SubSplit}
 use Rattle.definitions.specs.declared.SubSplit.the-variants.{S8x8, S8x4, S4x8, S4x4}
 use Rattle.definitions.specs.declared.Split.{Split}
 use Rattle.definitions.specs.declared.Split.the-variants.{S16x16, S16x8, S8x16, S8x8 as Quarters}
-use Rattle.definitions.specs.Tests.{pick, eqZ, allOf, forEach}
+use Rattle.definitions.specs.Basics.{pick, eqZ, allOf, forEach}
 
 -- Motion is both references and both vectors: two motions are the same
 unfoldable pub samePrediction : Prediction → Prediction → Bool
@@ -21,12 +21,12 @@ samePrediction p q = eqZ (p .reference) (q .reference) && (eqZ (p .x) (q .x) && 
 unfoldable pub sameMotion : Motion → Motion → Bool
 sameMotion m n = samePrediction (m .list0) (n .list0) && samePrediction (m .list1) (n .list1)
 
--- The sixteen blocks as four quadrants of four: block i stands in quadrant quadrantOf i at place placeOf i, and rasterOf leads back.
+-- The sixteen blocks as four quadrants of four: block i stands in quadrant quadrantOf i at place inQuadrant i, and rasterOf leads back.
 abbrev pub quadrantOf : ℕ → ℕ
 quadrantOf i = 2 * (i / 8) + i % 4 / 2
 
-abbrev pub placeOf : ℕ → ℕ
-placeOf i = 2 * (i / 4 % 2) + i % 2
+abbrev pub inQuadrant : ℕ → ℕ
+inQuadrant i = 2 * (i / 4 % 2) + i % 2
 
 abbrev pub rasterOf : ℕ → ℕ → ℕ
 rasterOf q k = getD (0 ∷ 2 ∷ 8 ∷ 10 ∷ []) q 0 + getD (0 ∷ 1 ∷ 4 ∷ 5 ∷ []) k 0

@@ -13,7 +13,7 @@ use Rattle.definitions.specs.declared.Refusal.{Refusal}
 use Rattle.definitions.specs.declared.TextRead.{TextRead}
 use Rattle.definitions.specs.declared.TextReply.{TextReply}
 use Rattle.definitions.specs.declared.TextReply.the-variants.{Read, Refused}
-use Rattle.definitions.specs.Tests.{forEach}
+use Rattle.definitions.specs.Basics.{forEach}
 use Rattle.definitions.specs.Record.{recordWords, wordOf, laidOut}
 use Rattle.definitions.specs.Answer.{withoutMotion}
 use Rattle.definitions.specs.Refusals.{refusal}

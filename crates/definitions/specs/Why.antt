@@ -4,7 +4,7 @@ use Prim.Native.Nat.{ℕ, _+_, _*_, _-_, _<_, _≤_}
 use mathlib.Core.Path.{_≡_}
 use lib.IntN.{ℤ, pos, negℤ, natAbs, _*ℤ_, _-ℤ_}
 use lib.Signed.{_≤ℤ_}
-use Rattle.definitions.specs.Tests.{minus}
+use Rattle.definitions.specs.Basics.{minus}
 use Rattle.definitions.specs.Accepted.{Sized, Inside}
 use Rattle.definitions.specs.BlockMap.{coordinateOf}
 use Rattle.definitions.specs.Inheriting.{scaledWord}

@@ -3,7 +3,7 @@ use Prim.Native.Nat.{ℕ, _+_, _*_}
 use mathlib.Core.Path.{_≡_}
 use mathlib.Core.Bool.{Bool, true, false}
 use native.Mathlib.Omega.{arith}
-use Rattle.definitions.specs.Tests.{pick}
+use Rattle.definitions.specs.Basics.{pick}
 use Rattle.definitions.specs.Inheriting.{setOf}
 use Rattle.gather.specs.Reads.{bitOf, rowSet}
 

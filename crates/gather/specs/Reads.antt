@@ -6,18 +6,18 @@ use mathlib.Core.List.{List}
 use lib.IntN.{ℤ}
 use lib.ListN.{length, getD}
 use Rattle.definitions.specs.declared.Motion.{Motion}
-use Rattle.definitions.specs.Tests.{four, pick}
+use Rattle.definitions.specs.Basics.{four, pick}
 use Rattle.definitions.specs.BlockMap.{columnOf, blockIn}
 use Rattle.definitions.specs.Splits.{rasterOf}
 use Rattle.definitions.specs.Record.{recordWords, recordAt, isIntra, motionOf, wellFormed}
 use Rattle.definitions.specs.Inheriting.{setOf}
 
 -- the record that a block with coordinates x and y reads, which of its blocks, and the motion
-abbrev pub addressRead : ℕ → ℕ → ℕ → ℕ
-addressRead width x y = columnOf y * width + columnOf x
+abbrev pub addressAt : ℕ → ℕ → ℕ → ℕ
+addressAt width x y = columnOf y * width + columnOf x
 
 abbrev pub recordRead : ℕ → List ℤ → ℕ → ℕ → List ℤ
-recordRead width base x y = recordAt base (addressRead width x y)
+recordRead width base x y = recordAt base (addressAt width x y)
 
 abbrev pub blockAt : ℕ → ℕ → ℕ
 blockAt x y = 4 * blockIn y + blockIn x
@@ -27,8 +27,8 @@ motionRead width base x y = motionOf (recordRead width base x y) (blockAt x y)
 
 -- that record lies in the base and is well formed
 pub record ReadableAt (width : ℕ) (base : List ℤ) (x y : ℕ) : Type 0 where
-  pub low : addressRead width x y < 65536
-  pub fits : (addressRead width x y + 1) * recordWords ≤ length base
+  pub low : addressAt width x y < 65536
+  pub fits : (addressAt width x y + 1) * recordWords ≤ length base
   pub formed : wellFormed (recordRead width base x y) ≡ true
 
 -- block i of the sixteen: the record and the motion that it reads; of all sixteen the intra set and the motions

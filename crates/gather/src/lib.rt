@@ -2,8 +2,8 @@
 ghost use Prim.Native.Nat.{_*_, _+_, _≤_};
 ghost use Rattle.definitions.specs.Record.{isIntra, subTypeOf, typeOf};
 ghost use Rattle.definitions.specs.Splits.{quadrantOf};
-ghost use Rattle.gather.specs.Reads.{Readable, ReadableAt, addressRead, bitOf, blockAt, motionRead, recordRead, rowSet, setBy};
-ghost use Rattle.definitions.specs.Tests.{eqZ};
+ghost use Rattle.gather.specs.Reads.{Readable, ReadableAt, addressAt, bitOf, blockAt, motionRead, recordRead, rowSet, setBy};
+ghost use Rattle.definitions.specs.Basics.{eqZ};
 ghost use lib.IntN.{pos};
 ghost use lib.ListN.{getD};
 ghost use mathlib.Core.List.{[], _∷_};
@@ -17,7 +17,7 @@ use records::motion_of;
 // The base macroblock of the 4 by 4 block at coordinates x and y.
 fn address_of(width: usize, x: u16, y: u16) -> usize
     requires { ⌜ width ≤ 256 ⌝ }
-    ensures { λ r. ⌜ r ≡ addressRead width x y ⌝ }
+    ensures { λ r. ⌜ r ≡ addressAt width x y ⌝ }
 {
     (y / 4) as usize * width + (x / 4) as usize
 }

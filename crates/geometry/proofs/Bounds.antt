@@ -12,10 +12,10 @@ use mir.Val.{SFits}
 use Rattle.definitions.specs.declared.Axis.{Axis}
 use Rattle.definitions.specs.Accepted.{Inside, Sized}
 use Rattle.definitions.specs.Geometry.{pOf, scaledSize, offsetOf, insideAxis}
-use Rattle.definitions.specs.Tests.{minus}
+use Rattle.definitions.specs.Basics.{minus}
 use Rattle.definitions.proofs.Choices.{both-true}
 use Rattle.definitions.proofs.Differences.{sub-cases}
-use Rattle.definitions.proofs.Places.{room}
+use Rattle.definitions.proofs.Positions.{room}
 
 pub base-product : (b s c : ℕ) → Inside b s c → c * b + b / 2 < 2 ^ 31
 base-product b s c a = omega (arith, room b s c a)

@@ -8,9 +8,9 @@ use lib.Dec.{eqb, leb}
 use lib.IntN.{ℤ, natAbs}
 use lib.ListN.{getD, length}
 use borrow.Author.Tests.{eqb-true, leb-true}
-use Rattle.definitions.specs.BlockMap.{MapRow, digitsIn, digitsOf, mapRows}
+use Rattle.definitions.specs.BlockMap.{MapRow, rowDigits, digitsOf, mapRows}
 use Rattle.definitions.specs.Geometry.{even}
-use Rattle.definitions.specs.Tests.{eqZ, allOf}
+use Rattle.definitions.specs.Basics.{eqZ, allOf}
 use Rattle.definitions.proofs.Choices.{both-true, eqZ-true, pick-cases}
 use Rattle.geometry.specs.Step.{Complete, decimals}
 
@@ -18,12 +18,12 @@ use Rattle.geometry.specs.Step.{Complete, decimals}
 abbrev passes : (ℤ → ℤ → List ℕ → Bool) → List MapRow → Bool
 passes P rows = allOf (λ r. P (r .border) (r .border8) (r .digits)) rows
 
-each-row : (P : ℤ → ℤ → List ℕ → Bool) (rows : List MapRow) → passes P rows ≡ true → (m n : ℤ) → length (digitsIn rows m n) ≡ 4 → P m n (digitsIn rows m n) ≡ true
+each-row : (P : ℤ → ℤ → List ℕ → Bool) (rows : List MapRow) → passes P rows ≡ true → (m n : ℤ) → length (rowDigits rows m n) ≡ 4 → P m n (rowDigits rows m n) ≡ true
 unfolding allOf
 each-row P [] e m n l = absurd (omega arith)
 each-row P (r ∷ rs) e m n l =
     let tests = both-true (P (r .border) (r .border8) (r .digits)) (passes P rs) e in
-    pick-cases (λ ds. length ds ≡ 4 → P m n ds ≡ true) (eqZ (r .border) m && eqZ (r .border8) n) (r .digits) (digitsIn rs m n)
+    pick-cases (λ ds. length ds ≡ 4 → P m n ds ≡ true) (eqZ (r .border) m && eqZ (r .border8) n) (r .digits) (rowDigits rs m n)
     (λ q h. let both = both-true (eqZ (r .border) m) (eqZ (r .border8) n) q in (λ i. P (sym (eqZ-true (r .border) m (both .0)) i) (sym (eqZ-true (r .border8) n (both .1)) i) (r .digits)) ∙ tests .0)
     (λ q h. each-row P rs (tests .1) m n h)
     l
@@ -39,7 +39,7 @@ at-row P e k m n l = go (k % 2) (omega arith) l
     tests : (passes (P 0) (mapRows true) ≡ true) × (passes (P 1) (mapRows false) ≡ true)
     tests = both-true (passes (P 0) (mapRows true)) (passes (P 1) (mapRows false)) e
 
-    go : (r : ℕ) → r ≤ 1 → length (digitsIn (mapRows (eqb r 0)) m n) ≡ 4 → P r m n (digitsIn (mapRows (eqb r 0)) m n) ≡ true
+    go : (r : ℕ) → r ≤ 1 → length (rowDigits (mapRows (eqb r 0)) m n) ≡ 4 → P r m n (rowDigits (mapRows (eqb r 0)) m n) ≡ true
     go zero h l = each-row (P 0) (mapRows true) (tests .0) m n l
     go (suc zero) h l = each-row (P 1) (mapRows false) (tests .1) m n l
     go (suc (suc r)) h l = absurd (omega arith)

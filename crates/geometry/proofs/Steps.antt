@@ -12,10 +12,10 @@ use borrow.Author.Tests.{lt-leb, ltb-true}
 use Rattle.definitions.specs.Accepted.{Inside}
 use Rattle.definitions.specs.BlockMap.{coordinateOf, digitsOf}
 use Rattle.definitions.specs.Geometry.{d1Of, d2Of, even, fOf, kOf, mOf, nOf, roundedOf, twoOf}
-use Rattle.definitions.specs.Tests.{four, minus, pick}
+use Rattle.definitions.specs.Basics.{four, minus, pick}
 use Rattle.definitions.proofs.Choices.{both-true}
 use Rattle.definitions.proofs.Map.{d1-rounded, foursBefore, not-first, row-of}
-use Rattle.definitions.proofs.Places.{m-even}
+use Rattle.definitions.proofs.Positions.{m-even}
 use Rattle.geometry.proofs.Rows.{tops}
 
 -- −n is above −8: n is below 8

@@ -8,7 +8,7 @@ use Rattle.definitions.specs.declared.Refusal.{Refusal}
 use Rattle.definitions.specs.declared.Verdict.{Verdict}
 use Rattle.definitions.specs.declared.Verdict.the-variants.{Accepted, Refused}
 use Rattle.definitions.specs.Refusals.{geometryTests, geometryVerdict, offsetRight, refusal, scaledRight, sizeRight}
-use Rattle.definitions.specs.Tests.{pick}
+use Rattle.definitions.specs.Basics.{pick}
 use Rattle.definitions.specs.Accepted.{AcceptedAxes}
 use Rattle.definitions.specs.Geometry.{axesOf}
 use Rattle.definitions.proofs.Accepted.{AcceptedNumbers, accepted-axes}

@@ -10,7 +10,7 @@ use Rattle.definitions.specs.BlockMap.{digitsOf}
 use Rattle.definitions.specs.Geometry.{even}
 
 -- an axis of an accepted geometry, and a sample far below what 32 bits hold
-pub record Placed (a : Axis) (p : ℕ) : Type 0 where
+pub record AtSample (a : Axis) (p : ℕ) : Type 0 where
   pub accepted : AcceptedAxis a
   pub reach : p < 65536
 

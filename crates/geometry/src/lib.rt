@@ -7,7 +7,7 @@ pub use step::axis_step;
 pub use step::is_inside;
 ghost use Rattle.definitions.specs.Geometry.{axesOf, axisOf, classOf};
 ghost use Rattle.definitions.specs.Refusals.{geometryVerdict, offsetRight, refusal, scaledRight, sizeRight};
-ghost use Rattle.definitions.specs.Tests.{between as inRange};
+ghost use Rattle.definitions.specs.Basics.{between as inRange};
 ghost use Rattle.geometry.specs.Checked.{NoneNegative, checkedOf};
 ghost use mathlib.Core.Bool.{_&&_, true};
 ghost use mathlib.Core.Path.{_≡_};

@@ -2,7 +2,7 @@
 ghost use Prim.Native.Nat.{_*_, _+_, _<_};
 ghost use Rattle.definitions.specs.BlockMap.{digitsOf};
 ghost use Rattle.definitions.specs.Geometry.{even};
-ghost use Rattle.definitions.specs.Tests.{four};
+ghost use Rattle.definitions.specs.Basics.{four};
 ghost use Rattle.geometry.specs.Step.{Complete, decimals};
 ghost use lib.ListN.{getD, length};
 ghost use mathlib.Core.Path.{_≡_};

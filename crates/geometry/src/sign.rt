@@ -1,6 +1,6 @@
 // The size and the sign of a displacement.
 ghost use Prim.Native.Nat.{_<_};
-ghost use Rattle.definitions.specs.Tests.{signed};
+ghost use Rattle.definitions.specs.Basics.{signed};
 ghost use lib.IntN.{natAbs};
 ghost use mathlib.Core.Path.{_≡_};
 use definitions::EnhancementOffset;

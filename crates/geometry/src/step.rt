@@ -3,8 +3,8 @@ ghost use Prim.Native.Nat.{_*_, _+_, _-_, _/_, _<_, _≤_};
 ghost use Rattle.definitions.specs.Accepted.{Inside, Sized};
 ghost use Rattle.definitions.specs.BlockMap.{stepOf};
 ghost use Rattle.definitions.specs.Geometry.{cOf, d1Of, d2Of, even, insideAxis, kOf, pOf, roundedOf, zOf};
-ghost use Rattle.definitions.specs.Tests.{minus, pick};
-ghost use Rattle.geometry.specs.Step.{Placed};
+ghost use Rattle.definitions.specs.Basics.{minus, pick};
+ghost use Rattle.geometry.specs.Step.{AtSample};
 ghost use lib.Dec.{leb};
 ghost use lib.IntN.{natAbs, subℕ};
 ghost use lib.Signed.{ltZ};
@@ -21,7 +21,7 @@ use definitions::EnhancementSample;
 
 // o ≤ P and P + 16 ≤ o + S.
 pub fn is_inside(a: Axis, p: EnhancementSample) -> bool
-    requires { ⌜ Placed a (p .0) ⌝ }
+    requires { ⌜ AtSample a (p .0) ⌝ }
     ensures { λ r. ⌜ r ≡ insideAxis a (p .0) ⌝ }
 {
     let o = a.offset.0;
@@ -31,7 +31,7 @@ pub fn is_inside(a: Axis, p: EnhancementSample) -> bool
 
 // All that the axis gives for the macroblock at P.
 pub fn axis_step(a: Axis, p: EnhancementSample) -> AxisStep
-    requires { ⌜ Placed a (p .0) × (insideAxis a (p .0) ≡ true) ⌝ }
+    requires { ⌜ AtSample a (p .0) × (insideAxis a (p .0) ≡ true) ⌝ }
     ensures { λ r. ⌜ r ≡ stepOf a (p .0) ⌝ }
 {
     let c = centre(a, p);
@@ -52,7 +52,7 @@ pub fn axis_step(a: Axis, p: EnhancementSample) -> AxisStep
 
 // c = P − o + 8: the macroblock's centre, from the window's edge.
 fn centre(a: Axis, p: EnhancementSample) -> EnhancementSample
-    requires { ⌜ Placed a (p .0) × (insideAxis a (p .0) ≡ true) ⌝ }
+    requires { ⌜ AtSample a (p .0) × (insideAxis a (p .0) ≡ true) ⌝ }
     ensures { λ r. ⌜ r .0 ≡ cOf a (p .0) ⌝ }
 {
     EnhancementSample((p.0 as i32 - a.offset.0) as u32 + 8)
@@ -71,7 +71,7 @@ fn distances_at(b: BaseSample, s: EnhancementSample, c: EnhancementSample) -> Di
     ensures d1 { λ r. ⌜ r .d1 .0 ≡ roundedOf (d1Of (b .0) (s .0) (c .0)) ⌝ }
     ensures d2 { λ r. ⌜ r .d2 .0 ≡ roundedOf (d2Of (b .0) (s .0) (c .0)) ⌝ }
 {
-    let k = base_place(b, s, c).0 / 8;
+    let k = base_sample(b, s, c).0 / 8;
     Distances {
         k,
         d1: rounded_distance(b, s, c, k),
@@ -89,11 +89,11 @@ fn rounded_distance(
     requires { ⌜ Inside (b .0) (s .0) (c .0) × (j ≤ 512) ⌝ }
     ensures { λ r. ⌜ r .0 ≡ roundedOf (subℕ (pOf (b .0) (s .0) j) (c .0)) ⌝ }
 {
-    rounded(distance(grid_place(b, s, j), c))
+    rounded(distance(grid_sample(b, s, j), c))
 }
 
 // Z = (c·B + B/2) / S: c on the base scale.
-fn base_place(b: BaseSample, s: EnhancementSample, c: EnhancementSample) -> BaseSample
+fn base_sample(b: BaseSample, s: EnhancementSample, c: EnhancementSample) -> BaseSample
     requires { ⌜ Inside (b .0) (s .0) (c .0) ⌝ }
     ensures { λ r. ⌜ r .0 ≡ zOf (b .0) (s .0) (c .0) ⌝ }
 {
@@ -101,7 +101,7 @@ fn base_place(b: BaseSample, s: EnhancementSample, c: EnhancementSample) -> Base
 }
 
 // p(j) = (8·j·S + B/2) / B: where base sample 8j lies on the enhancement scale.
-fn grid_place(b: BaseSample, s: EnhancementSample, j: u32) -> EnhancementSample
+fn grid_sample(b: BaseSample, s: EnhancementSample, j: u32) -> EnhancementSample
     requires { ⌜ Sized (b .0) (s .0) × (j ≤ 512) ⌝ }
     ensures { λ r. ⌜ r .0 ≡ pOf (b .0) (s .0) j ⌝ }
 {

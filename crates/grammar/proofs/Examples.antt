@@ -8,7 +8,7 @@ use native.Mathlib.Omega.{arith}
 use lib.Dec.{ltb, leb}
 use lib.ListN.{length}
 use borrow.Author.Tests.{ltb-true, ltb-false, leb-true}
-use Rattle.definitions.specs.Tests.{allOf}
+use Rattle.definitions.specs.Basics.{allOf}
 use Rattle.definitions.specs.Text.{readAs, read}
 use Rattle.definitions.specs.Log.{logFor, LogOf}
 use Rattle.definitions.specs.Examples.{wholeCase, wholeEntries, wholeText, wholeLog, whole-holds, Broken, broken, PlacesRight}

@@ -4,7 +4,7 @@ use mathlib.Core.Path.{_≡_, refl, sym, _∙_, ap}
 use mathlib.Core.List.{List, []}
 use lib.ListN.{getD, length}
 use Rattle.definitions.specs.declared.Motion.{Motion}
-use Rattle.definitions.specs.Tests.{pick, four}
+use Rattle.definitions.specs.Basics.{pick, four}
 use Rattle.definitions.specs.Inheriting.{clearOf, someOf, liveOf, copiedFrom, copied}
 use Rattle.definitions.proofs.Choices.{four-is}
 

@@ -19,7 +19,7 @@ use Rattle.definitions.specs.declared.TextReply.{TextReply}
 use Rattle.definitions.specs.declared.TextReply.the-variants.{Read, Refused as NotRead}
 use Rattle.definitions.specs.declared.LogReply.{LogReply}
 use Rattle.definitions.specs.declared.LogReply.the-variants.{Written, Refused as NotWritten}
-use Rattle.definitions.specs.Tests.{allOf}
+use Rattle.definitions.specs.Basics.{allOf}
 use Rattle.definitions.specs.Geometry.{axesOf}
 use Rattle.definitions.specs.Record.{recordWords}
 use Rattle.definitions.specs.Refusals.{refusal, verdictOf, geometryTests, geometryVerdict, baseCount, recordTests, allAddresses}

@@ -6,7 +6,7 @@ use native.Mathlib.Numerals.{add-one}
 use native.Mathlib.Omega.{arith}
 use lib.ListN.{length, take, drop, getD, length-append, take-append-drop}
 use lib.Seq.{sets, length-sets, take-suc, take-all}
-use Rattle.definitions.specs.Tests.{forEach}
+use Rattle.definitions.specs.Basics.{forEach}
 use Rattle.definitions.specs.Log.{decimal, lineOf}
 use Rattle.definitions.proofs.Parts.{sets-append}
 use Rattle.definitions.proofs.RecordLists.{joined-each}

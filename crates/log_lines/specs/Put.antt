@@ -4,7 +4,7 @@ use mathlib.Core.Path.{_≡_}
 use mathlib.Core.List.{List, _∷_}
 use lib.ListN.{length}
 use lib.Seq.{sets}
-use Rattle.definitions.specs.Tests.{forEach}
+use Rattle.definitions.specs.Basics.{forEach}
 use Rattle.definitions.specs.Log.{decimal}
 
 -- there is room for the bytes from a place on

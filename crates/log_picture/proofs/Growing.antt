@@ -9,7 +9,7 @@ use lib.ListN.{length, length-append}
 use Rattle.definitions.specs.declared.Axes.{Axes}
 use Rattle.definitions.specs.declared.Answer.{Answer}
 use Rattle.definitions.specs.declared.Counts.{Counts}
-use Rattle.definitions.specs.Tests.{upTo}
+use Rattle.definitions.specs.Basics.{upTo}
 use Rattle.definitions.specs.Geometry.{fullSize, macroblocks}
 use Rattle.definitions.specs.Answer.{answerType}
 use Rattle.definitions.specs.Calls.{fullCount, madeAt, countsOf}

@@ -17,7 +17,7 @@ use definitions::Split;
 use definitions::SubSplit;
 use log_lines::put_line;
 use macroblock::axis_read;
-use macroblock::place;
+use macroblock::make;
 use macroblock::type_number;
 use picture::full_count;
 
@@ -105,7 +105,7 @@ fn answer_at(g: Axes, base: &[i16], a: usize) -> Answer
     let h = axis_read(g.horizontal, (a % width) as u32);
     let v = axis_read(g.vertical, (a / width) as u32);
     let mut words = [0i16; RECORD_WORDS];
-    place(g, base, h, v, &mut words)
+    make(g, base, h, v, &mut words)
 }
 
 // A line per macroblock, in raster order, then the sync line.

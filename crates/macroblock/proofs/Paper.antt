@@ -12,7 +12,7 @@ use Rattle.definitions.specs.Inheriting.{intraSet, gathered, inheritedMotions}
 use Rattle.definitions.specs.Answer.{namedAt, answerOf, writtenFor, madeOf}
 use Rattle.definitions.proofs.Choices.{yes, no, and-intro}
 use Rattle.definitions.proofs.Answers.{made-outside}
-use Rattle.macroblock.specs.Made.{motionsBy, resolvedBy, answerBy, madeBy, readIn, nowhere, readOf, placedBy}
+use Rattle.macroblock.specs.Made.{motionsBy, resolvedBy, answerBy, madeInside, readIn, nowhere, readOf, madeBy}
 use Rattle.gather.specs.Reads.{motionRead, setBy, gatheredBy}
 
 module _ (g : Axes) (column row : ℕ) (base : List ℤ) where
@@ -30,8 +30,8 @@ module _ (g : Axes) (column row : ℕ) (base : List ℤ) where
   unfolding answerOf answerBy namedAt intraSet inheritedMotions gathered addressRead blockRead motionsBy resolvedBy setBy gatheredBy motionRead
   answer-same e = yes _ _ e
 
-  pub made-by : inside g column row ≡ true → madeOf g base column row ≡ madeBy g hor ver base
-  unfolding madeOf madeBy
+  pub made-by : inside g column row ≡ true → madeOf g base column row ≡ madeInside g hor ver base
+  unfolding madeOf madeInside
   made-by e =
       let p = answer-same e in
       let q = motions-same in
@@ -45,19 +45,19 @@ module _ (g : Axes) (column row : ℕ) (base : List ℤ) where
   abbrev down : AxisRead
   down = readOf (g .vertical) row
 
-  by-window : (a b : Bool) → insideAxis (g .horizontal) (sampleOf column) ≡ a → insideAxis (g .vertical) (sampleOf row) ≡ b → madeOf g base column row ≡ placedBy g across down base
-  unfolding placedBy readOf
+  by-window : (a b : Bool) → insideAxis (g .horizontal) (sampleOf column) ≡ a → insideAxis (g .vertical) (sampleOf row) ≡ b → madeOf g base column row ≡ madeBy g across down base
+  unfolding madeBy readOf
   by-window true true p q =
       let x : across ≡ hor g column row base = yes _ _ p in
       let y : down ≡ ver g column row base = yes _ _ q in
       made-by g column row base (and-intro p q)
-      ∙ sym ((λ i. placedBy g (x i) (y i) base) ∙ yes _ _ refl)
+      ∙ sym ((λ i. madeBy g (x i) (y i) base) ∙ yes _ _ refl)
   by-window true false p q =
       let y : down ≡ nowhere = no _ _ q in
-      made-outside g base column row (rw (p, q)) ∙ sym ((λ i. placedBy g across (y i) base) ∙ no (madeBy g across nowhere base) _ (and-false (across .inside)))
+      made-outside g base column row (rw (p, q)) ∙ sym ((λ i. madeBy g across (y i) base) ∙ no (madeInside g across nowhere base) _ (and-false (across .inside)))
   by-window false b p q =
       let x : across ≡ nowhere = no _ _ p in
-      made-outside g base column row (rw p) ∙ sym ((λ i. placedBy g (x i) down base) ∙ no _ _ refl)
+      made-outside g base column row (rw p) ∙ sym ((λ i. madeBy g (x i) down base) ∙ no _ _ refl)
 
-  pub placed-by : madeOf g base column row ≡ placedBy g across down base
+  pub placed-by : madeOf g base column row ≡ madeBy g across down base
   placed-by = by-window (insideAxis (g .horizontal) (sampleOf column)) (insideAxis (g .vertical) (sampleOf row)) refl refl

@@ -6,7 +6,7 @@ use native.Mathlib.Omega.{arith}
 use Rattle.definitions.specs.declared.Axis.{Axis}
 use Rattle.definitions.specs.declared.AxisStep.{AxisStep}
 use Rattle.macroblock.specs.declared.AxisRead.{AxisRead}
-use Rattle.definitions.specs.Tests.{pick}
+use Rattle.definitions.specs.Basics.{pick}
 use Rattle.definitions.specs.Geometry.{baseSize, scaledSize, insideAxis, sampleOf, cOf}
 use Rattle.definitions.specs.BlockMap.{stepOf, coordinateOf}
 use Rattle.definitions.specs.Accepted.{AcceptedAxis, Inside}

@@ -12,7 +12,7 @@ use borrow.Author.Tests.{eqb-true, le-leb}
 use Rattle.definitions.specs.declared.Axes.{Axes}
 use Rattle.definitions.specs.declared.Motion.{Motion}
 use Rattle.definitions.specs.declared.Split.the-variants.{S16x16}
-use Rattle.definitions.specs.Tests.{pick, eqZ, four}
+use Rattle.definitions.specs.Basics.{pick, eqZ, four}
 use Rattle.definitions.specs.Geometry.{baseSize, macroblocks}
 use Rattle.definitions.specs.Splits.{quadrantOf}
 use Rattle.definitions.specs.Record.{recordAt, isIntra, typeOf, subTypeOf, motionOf, typeNumber, laidOut}

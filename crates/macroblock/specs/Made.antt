@@ -14,7 +14,7 @@ use Rattle.definitions.specs.declared.Named.{Named}
 use Rattle.definitions.specs.declared.Answer.{Answer}
 use Rattle.definitions.specs.declared.Answer.the-variants.{Outside, Intra, Inherited}
 use Rattle.macroblock.specs.declared.AxisRead.{AxisRead}
-use Rattle.definitions.specs.Tests.{pick, four}
+use Rattle.definitions.specs.Basics.{pick, four}
 use Rattle.definitions.specs.Geometry.{baseSize, classOf, macroblocks, insideAxis, sampleOf}
 use Rattle.definitions.specs.BlockMap.{stepOf}
 use Rattle.definitions.specs.Record.{typeNumber, laidOut}
@@ -60,8 +60,8 @@ unfoldable pub answerBy : Axes → AxisRead → AxisRead → List ℤ → Answer
 answerBy g h v base =
     pick (mostlyIntra (setBy (macroblocks (baseSize (g .horizontal))) (h .reads) (v .reads) base)) (Intra (namedBy h v)) (Inherited (namedBy h v) (chosen (motionsBy g h v base)))
 
-unfoldable pub madeBy : Axes → AxisRead → AxisRead → List ℤ → Made
-madeBy g h v base = record { answer = answerBy g h v base; written = writtenFor (answerBy g h v base) (motionsBy g h v base) }
+unfoldable pub madeInside : Axes → AxisRead → AxisRead → List ℤ → Made
+madeInside g h v base = record { answer = answerBy g h v base; written = writtenFor (answerBy g h v base) (motionsBy g h v base) }
 
 -- the record where it inherits
 unfoldable pub inheritedBy : Axes → AxisRead → AxisRead → List ℤ → List ℤ
@@ -70,13 +70,13 @@ inheritedBy g h v base =
     laidOut (typeNumber (chosen m)) (λ q. getD (subTypes (chosen m)) q 0) (motionAt m)
 
 -- ---- What is made of any macroblock: outside no record is read
-unfoldable pub placedBy : Axes → AxisRead → AxisRead → List ℤ → Made
-placedBy g h v base = pick (h .inside && v .inside) (madeBy g h v base) (record { answer = Outside; written = writtenFor Outside [] })
+unfoldable pub madeBy : Axes → AxisRead → AxisRead → List ℤ → Made
+madeBy g h v base = pick (h .inside && v .inside) (madeInside g h v base) (record { answer = Outside; written = writtenFor Outside [] })
 
 -- What the making of a macroblock asks: axes of an accepted geometry, and records that lie in the base and are well formed
 pub record Ready (g : Axes) (h v : AxisRead) (base : List ℤ) : Type 0 where
   pub axes : AcceptedAxes g
   pub readable : Readable (macroblocks (baseSize (g .horizontal))) (h .reads) (v .reads) base
 
-abbrev pub Placeable : Axes → AxisRead → AxisRead → List ℤ → Type 0
-Placeable g h v base = (h .inside && v .inside) ≡ true → Ready g h v base
+abbrev pub Makeable : Axes → AxisRead → AxisRead → List ℤ → Type 0
+Makeable g h v base = (h .inside && v .inside) ≡ true → Ready g h v base

@@ -6,7 +6,7 @@ ghost use Rattle.definitions.specs.Geometry.{baseSize, macroblocks};
 ghost use Rattle.definitions.specs.Inheriting.{chosen, clearOf, filled, merged, motionAt};
 ghost use Rattle.definitions.specs.Record.{laidOut, recordWords, subTypeNumber, typeNumber};
 ghost use Rattle.gather.specs.Reads.{ReadableAt, motionRead, setBy};
-ghost use Rattle.macroblock.specs.Made.{Placeable, Ready, Small, inheritedBy, madeBy, motionsBy, namedBy, nowhere, onePart, placedBy, readIn, readOf, resolvedBy};
+ghost use Rattle.macroblock.specs.Made.{Makeable, Ready, Small, inheritedBy, madeInside, motionsBy, namedBy, nowhere, onePart, madeBy, readIn, readOf, resolvedBy};
 ghost use lib.ListN.{getD, length};
 ghost use mathlib.Core.Bool.{_&&_, true};
 ghost use mathlib.Core.List.{[], _∷_};
@@ -242,8 +242,8 @@ fn is_half(reads: [u16; 4]) -> bool
 // Where one macroblock is read: intra, or of one motion (it is 16×16, or one quadrant of it is read that is not divided), it needs no step.
 fn make_of_one(g: Axes, base: &[i16], h: AxisRead, v: AxisRead, out: &mut [i16]) -> Answer
     requires { ⌜ Ready g h v (now base) × ((onePart 4 (h .reads) && onePart 4 (v .reads)) ≡ true) × (length (now out) ≡ recordWords) ⌝ }
-    ensures answer { λ r. ⌜ r ≡ madeBy g h v (now (base .entry)) .answer ⌝ }
-    ensures written { λ r. ⌜ now (out .exit) ≡ madeBy g h v (now (base .entry)) .written ⌝ }
+    ensures answer { λ r. ⌜ r ≡ madeInside g h v (now (base .entry)) .answer ⌝ }
+    ensures written { λ r. ⌜ now (out .exit) ≡ madeInside g h v (now (base .entry)) .written ⌝ }
 {
     let width = (g.horizontal.base.0 / 16) as usize;
     let across = h.reads;
@@ -267,8 +267,8 @@ fn make_of_one(g: Axes, base: &[i16], h: AxisRead, v: AxisRead, out: &mut [i16])
 
 fn make_of_more(g: Axes, base: &[i16], h: AxisRead, v: AxisRead, out: &mut [i16]) -> Answer
     requires { ⌜ Ready g h v (now base) × (length (now out) ≡ recordWords) ⌝ }
-    ensures answer { λ r. ⌜ r ≡ madeBy g h v (now (base .entry)) .answer ⌝ }
-    ensures written { λ r. ⌜ now (out .exit) ≡ madeBy g h v (now (base .entry)) .written ⌝ }
+    ensures answer { λ r. ⌜ r ≡ madeInside g h v (now (base .entry)) .answer ⌝ }
+    ensures written { λ r. ⌜ now (out .exit) ≡ madeInside g h v (now (base .entry)) .written ⌝ }
 {
     let width = (g.horizontal.base.0 / 16) as usize;
     let across = h.reads;
@@ -284,10 +284,10 @@ fn make_of_more(g: Axes, base: &[i16], h: AxisRead, v: AxisRead, out: &mut [i16]
 }
 
 // ---- In or out of the window
-pub fn place(g: Axes, base: &[i16], h: AxisRead, v: AxisRead, out: &mut [i16]) -> Answer
-    requires { ⌜ Placeable g h v (now base) × (length (now out) ≡ recordWords) ⌝ }
-    ensures answer { λ r. ⌜ r ≡ placedBy g h v (now (base .entry)) .answer ⌝ }
-    ensures written { λ r. ⌜ now (out .exit) ≡ placedBy g h v (now (base .entry)) .written ⌝ }
+pub fn make(g: Axes, base: &[i16], h: AxisRead, v: AxisRead, out: &mut [i16]) -> Answer
+    requires { ⌜ Makeable g h v (now base) × (length (now out) ≡ recordWords) ⌝ }
+    ensures answer { λ r. ⌜ r ≡ madeBy g h v (now (base .entry)) .answer ⌝ }
+    ensures written { λ r. ⌜ now (out .exit) ≡ madeBy g h v (now (base .entry)) .written ⌝ }
 {
     if h.inside & v.inside {
         let across = h.reads;

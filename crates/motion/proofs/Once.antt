@@ -6,9 +6,9 @@ use lib.ListN.{getD}
 use Rattle.definitions.specs.declared.Motion.{Motion}
 use Rattle.definitions.specs.declared.SubSplit.the-variants.{S8x8, S8x4, S4x8}
 use Rattle.definitions.specs.declared.Split.the-variants.{S16x16, S16x8, S8x16}
-use Rattle.definitions.specs.Tests.{four}
+use Rattle.definitions.specs.Basics.{four}
 use Rattle.definitions.specs.Inheriting.{at, zeroMotion, chosen, motionAt}
-use Rattle.definitions.specs.Splits.{placeOf}
+use Rattle.definitions.specs.Splits.{inQuadrant}
 use Rattle.definitions.proofs.Shapes.{quadrantShape}
 use Rattle.definitions.proofs.Fewest.{OneEach, One, chosen-one, shape-one}
 
@@ -57,7 +57,7 @@ module _ (f : Motion → Motion) where
   -- a quadrant, by its shape
   module _ (q : List Motion) where
     abbrev place : ℕ → Motion
-    place i = getD q (placeOf i) zeroMotion
+    place i = getD q (inQuadrant i) zeroMotion
 
     pub once-8x8 : (a : Motion) → S8x8 ≡ quadrantShape q → a ≡ f (getD q 0 zeroMotion) → four (λ k. a) ≡ four (λ k. f (getD q k zeroMotion))
     once-8x8 a e = of-8x8 place a (shape-one q S8x8 e)

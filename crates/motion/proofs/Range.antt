@@ -6,7 +6,7 @@ use native.Mathlib.Omega.{arith}
 use lib.IntN.{ℤ, pos, negsuc, natAbs}
 use lib.Signed.{leZ}
 use borrow.Author.Tests.{leb-true}
-use Rattle.definitions.specs.Tests.{minus, between}
+use Rattle.definitions.specs.Basics.{minus, between}
 use Rattle.definitions.specs.Record.{vectorLimit}
 use Rattle.definitions.proofs.Choices.{both-true}
 

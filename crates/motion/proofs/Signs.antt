@@ -10,7 +10,7 @@ use mir.Syntax.{w16}
 use mir.Val.{SFits, toZ, ofZ}
 use mir.Facts.{toZ-ofZ}
 use borrow.Author.Tests.{ltb-true}
-use Rattle.definitions.specs.Tests.{minus, signed}
+use Rattle.definitions.specs.Basics.{minus, signed}
 use Rattle.definitions.proofs.Differences.{zero-minus}
 
 -- below 0

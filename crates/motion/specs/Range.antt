@@ -4,7 +4,7 @@ use mathlib.Core.Path.{_≡_}
 use mathlib.Core.Bool.{true}
 use lib.IntN.{pos}
 use Rattle.definitions.specs.declared.Prediction.{Prediction}
-use Rattle.definitions.specs.Tests.{minus, between}
+use Rattle.definitions.specs.Basics.{minus, between}
 use Rattle.definitions.specs.Record.{vectorLimit}
 
 pub record InRange (p : Prediction) : Type 0 where

@@ -22,9 +22,9 @@ pub record AcceptedScale (s : Scale) : Type 0 where
   pub inverse : s .inverse ≡ inverseOf (s .base)
 
 -- scaledPrediction and scaledMotion, with B and S from the horizontal and the vertical scale
-abbrev pub predictionBy : Scale → Scale → Prediction → Prediction
-predictionBy h v p =
+abbrev pub predictionScaled : Scale → Scale → Prediction → Prediction
+predictionScaled h v p =
     record { reference = p .reference; x = scaledWord (h .base) (h .scaled) (p .x); y = scaledWord (v .base) (v .scaled) (p .y) }
 
-abbrev pub motionBy : Scale → Scale → Motion → Motion
-motionBy h v m = record { list0 = predictionBy h v (m .list0); list1 = predictionBy h v (m .list1) }
+abbrev pub motionScaled : Scale → Scale → Motion → Motion
+motionScaled h v m = record { list0 = predictionScaled h v (m .list0); list1 = predictionScaled h v (m .list1) }

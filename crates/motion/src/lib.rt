@@ -5,9 +5,9 @@ ghost use Rattle.definitions.specs.Accepted.{AcceptedAxis};
 ghost use Rattle.definitions.specs.Inheriting.{at, chosen, scaledMotion, scaledWord, zeroMotion};
 ghost use Rattle.definitions.specs.Record.{vectorLimit};
 ghost use Rattle.definitions.specs.Splits.{sameMotion, samePrediction};
-ghost use Rattle.definitions.specs.Tests.{eqZ, four, signed};
+ghost use Rattle.definitions.specs.Basics.{eqZ, four, signed};
 ghost use Rattle.motion.specs.Range.{InRange};
-ghost use Rattle.motion.specs.Scales.{AcceptedScale, motionBy, predictionBy, scaleOf};
+ghost use Rattle.motion.specs.Scales.{AcceptedScale, motionScaled, predictionScaled, scaleOf};
 ghost use lib.IntN.{natAbs, pos};
 ghost use lib.ListN.{getD};
 ghost use lib.Signed.{_≤ℤ_};
@@ -104,7 +104,7 @@ fn scale_word(s: Scale, v: i16) -> i16
 
 fn scale_prediction(h: Scale, v: Scale, p: Prediction) -> Prediction
     requires { ⌜ AcceptedScale h × AcceptedScale v × InRange p ⌝ }
-    ensures { λ r. ⌜ r ≡ predictionBy h v p ⌝ }
+    ensures { λ r. ⌜ r ≡ predictionScaled h v p ⌝ }
 {
     Prediction {
         reference: p.reference,
@@ -115,7 +115,7 @@ fn scale_prediction(h: Scale, v: Scale, p: Prediction) -> Prediction
 
 fn scale_with(h: Scale, v: Scale, m: Motion) -> Motion
     requires { ⌜ AcceptedScale h × AcceptedScale v × (InRange (m .list0) × InRange (m .list1)) ⌝ }
-    ensures { λ r. ⌜ r ≡ motionBy h v m ⌝ }
+    ensures { λ r. ⌜ r ≡ motionScaled h v m ⌝ }
 {
     let p = m.list0;
     let q = m.list1;
@@ -134,7 +134,7 @@ pub fn scale_motion(g: Axes, m: Motion) -> Motion
 // Blocks of one piece have one motion: it is scaled once a piece. A quadrant by its shape:
 fn scale_quadrant(h: Scale, v: Scale, s: SubSplit, m: [Motion; 4]) -> [Motion; 4]
     requires { ⌜ AcceptedScale h × AcceptedScale v × ((k : ℕ) → k < 4 → InRange (getD m k zeroMotion .list0) × InRange (getD m k zeroMotion .list1)) × (s ≡ quadrantShape m) ⌝ }
-    ensures { λ r. ⌜ r ≡ four (λ k. motionBy h v (getD m k zeroMotion)) ⌝ }
+    ensures { λ r. ⌜ r ≡ four (λ k. motionScaled h v (getD m k zeroMotion)) ⌝ }
 {
     let a = scale_with(h, v, m[0]);
     match s {

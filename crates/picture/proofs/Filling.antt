@@ -13,7 +13,7 @@ use Rattle.definitions.specs.declared.Axis.{Axis}
 use Rattle.definitions.specs.declared.Axes.{Axes}
 use Rattle.definitions.specs.declared.Answer.{Answer}
 use Rattle.definitions.specs.declared.Counts.{Counts}
-use Rattle.definitions.specs.Tests.{upTo, forEach}
+use Rattle.definitions.specs.Basics.{upTo, forEach}
 use Rattle.definitions.specs.Geometry.{fullSize, macroblocks}
 use Rattle.definitions.specs.Answer.{Made, madeOf}
 use Rattle.definitions.specs.Calls.{counted, countsOf, sumOf, fullCount, madeAt}
@@ -21,7 +21,7 @@ use Rattle.definitions.proofs.Counting.{counts-more, counts-sum}
 use Rattle.definitions.proofs.Parts.{parts}
 use Rattle.definitions.proofs.RecordLists.{each-same}
 use Rattle.macroblock.specs.declared.AxisRead.{AxisRead}
-use Rattle.macroblock.specs.Made.{readOf, placedBy, Placeable}
+use Rattle.macroblock.specs.Made.{readOf, madeBy, Makeable}
 use Rattle.macroblock.proofs.Paper.{placed-by}
 use Rattle.definitions.specs.Accepted.{AcceptedAxes}
 use Rattle.upsample.specs.Staged.{Formed}
@@ -76,13 +76,13 @@ module _ (g : Axes) (address column row : ℕ) (c : column < macroblocks (fullSi
     known : Known g base (f .placed) column row h v
     known = known-of g base (f .placed) column row h v p q
 
-    pub placeable : Placeable g h v base
+    pub placeable : Makeable g h v base
     placeable t =
         known .made-ready t (λ a m. f .formed a (omega (arith, known .named-below t a (subst (List·Memᴰ a) (known .named t) m) .0, f .placed .base-length)))
 
-    pub made-there : placedBy g h v base ≡ madeAt g base address
+    pub made-there : madeBy g h v base ≡ madeAt g base address
     unfolding madeAt
-    made-there = (λ i. placedBy g (p i) (q i) base) ∙ (sym (placed-by g column row base) ∙ (λ i. madeOf g base (sym its-column i) (sym its-row i)))
+    made-there = (λ i. madeBy g (p i) (q i) base) ∙ (sym (placed-by g column row base) ∙ (λ i. madeOf g base (sym its-column i) (sym its-row i)))
 
 -- ---- counts and words so far
 module _ (f : ℕ → Made) where

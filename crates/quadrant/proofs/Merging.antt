@@ -8,7 +8,7 @@ use lib.ListN.{getD, length}
 use lib.Signed.{ltZ}
 use Rattle.definitions.specs.declared.Prediction.{Prediction}
 use Rattle.definitions.specs.declared.Motion.{Motion}
-use Rattle.definitions.specs.Tests.{pick, eqZ, four}
+use Rattle.definitions.specs.Basics.{pick, eqZ, four}
 use Rattle.definitions.specs.Record.{used}
 use Rattle.definitions.specs.Inheriting.{zeroPrediction, zeroMotion, source, lower, lowest, having, withReference, unused, mergedList, merged}
 use Rattle.definitions.proofs.Choices.{yes, no, both-true, eqZ-true, each, four-same, four-is}

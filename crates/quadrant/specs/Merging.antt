@@ -7,7 +7,7 @@ use lib.ListN.{getD}
 use lib.Signed.{ltZ}
 use Rattle.definitions.specs.declared.Prediction.{Prediction}
 use Rattle.definitions.specs.declared.Motion.{Motion}
-use Rattle.definitions.specs.Tests.{pick, eqZ}
+use Rattle.definitions.specs.Basics.{pick, eqZ}
 use Rattle.definitions.specs.Record.{used}
 use Rattle.definitions.specs.Inheriting.{zeroMotion, unused}
 

@@ -4,7 +4,7 @@ use mathlib.Core.Path.{_≡_, refl, ap, _∙_}
 use mathlib.Core.List.{List, [], _∷_, _++_}
 use native.Mathlib.Nat.{sub-zero, zero-add, add-zero}
 use native.Mathlib.Omega.{arith}
-use Rattle.definitions.specs.Tests.{upTo}
+use Rattle.definitions.specs.Basics.{upTo}
 use Rattle.definitions.proofs.Choices.{upTo-same}
 use Rattle.records.specs.Checking.{addresses}
 

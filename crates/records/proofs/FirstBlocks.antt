@@ -18,7 +18,7 @@ use Rattle.definitions.specs.declared.SubSplit.the-variants.{S8x8, S8x4, S4x8, 
 use Rattle.definitions.specs.declared.SubSplits.{SubSplits}
 use Rattle.definitions.specs.declared.Split.{Split}
 use Rattle.definitions.specs.declared.Split.the-variants.{S16x16, S16x8, S8x16, S8x8 as Quarters}
-use Rattle.definitions.specs.Tests.{pick, eqZ, allBelow, allOf}
+use Rattle.definitions.specs.Basics.{pick, eqZ, allBelow, allOf}
 use Rattle.definitions.specs.Splits.{samePrediction, sameMotion, quadrantOf, rasterOf, subPieces, alike, oneEach}
 use Rattle.definitions.specs.Record.{wordOf, typeOf, subTypeOf, isIntra, motionOf, subSplitOf, splitSaid, rule6}
 use Rattle.definitions.proofs.Choices.{yes, no, each, below-true, below-intro, below-same}

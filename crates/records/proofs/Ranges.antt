@@ -8,7 +8,7 @@ use native.Mathlib.Omega.{arith}
 use lib.Dec.{leb, eqb}
 use lib.IntN.{ℤ, pos, negsuc}
 use borrow.Author.Tests.{leb-true, leb-false, eq-eqb, ne-eqb}
-use Rattle.definitions.specs.Tests.{minus, eqZ, between, allBelow}
+use Rattle.definitions.specs.Basics.{minus, eqZ, between, allBelow}
 use Rattle.definitions.specs.Record.{vectorLimit, wordOf, typeOf, isIntra, referenceOf, used, vectorWord, rule1, rule2, rule3, rule4, rule5}
 use Rattle.definitions.proofs.Choices.{eqZ-true, yes, no, below-same, each}
 use Rattle.records.specs.declared.Range.{Range}

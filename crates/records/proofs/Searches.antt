@@ -4,8 +4,8 @@ use mathlib.Core.Path.{_≡_, refl, sym, ap, _∙_}
 use mathlib.Core.Bool.{Bool, true, false, _&&_, and-false}
 use native.Mathlib.Numerals.{add-one}
 use native.Mathlib.Omega.{arith}
-use Rattle.definitions.specs.Tests.{allBelow}
-use Rattle.definitions.specs.Splits.{quadrantOf, placeOf, rasterOf}
+use Rattle.definitions.specs.Basics.{allBelow}
+use Rattle.definitions.specs.Splits.{quadrantOf, inQuadrant, rasterOf}
 use Rattle.definitions.proofs.Choices.{both-ways, below-true, below-intro}
 use Rattle.definitions.proofs.Records.{raster-below, raster-is}
 
@@ -50,4 +50,4 @@ by-quadrants f =
     both-ways _ _
     (λ e. below-intro 4 _ (λ q hq. below-intro 4 _ (λ k hk. below-true 16 f e (rasterOf q k) (raster-below q k hq hk))))
     (λ e. below-intro 16 f (λ b h.
-    ap f (sym (raster-is b h)) ∙ below-true 4 (λ k. f (rasterOf (quadrantOf b) k)) (below-true 4 _ e (quadrantOf b) (omega arith)) (placeOf b) (omega arith)))
+    ap f (sym (raster-is b h)) ∙ below-true 4 (λ k. f (rasterOf (quadrantOf b) k)) (below-true 4 _ e (quadrantOf b) (omega arith)) (inQuadrant b) (omega arith)))

@@ -9,7 +9,7 @@ use lib.IntN.{ℤ}
 use borrow.Author.Tests.{eq-eqb, ne-eqb}
 use Rattle.definitions.specs.declared.Verdict.{Verdict}
 use Rattle.definitions.specs.declared.Verdict.the-variants.{Refused}
-use Rattle.definitions.specs.Tests.{pick, allBelow}
+use Rattle.definitions.specs.Basics.{pick, allBelow}
 use Rattle.definitions.specs.Record.{recordAt, rule1, rule2, rule3, rule4, rule5, rule6, firstBroken}
 use Rattle.definitions.specs.Refusals.{verdictOf, recordTests}
 use Rattle.definitions.proofs.Choices.{yes, no}

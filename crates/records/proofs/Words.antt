@@ -5,7 +5,7 @@ use lib.IntN.{ℤ}
 use mir.Syntax.{w16}
 use mir.Val.{SFits, ofZ}
 use borrow.Author.Tests.{eq-eqb, ne-eqb}
-use Rattle.definitions.specs.Tests.{eqZ}
+use Rattle.definitions.specs.Basics.{eqZ}
 use Rattle.definitions.proofs.Motions.{word-same}
 
 module _ (a b : ℤ) (fa : SFits w16 a) (fb : SFits w16 b) where

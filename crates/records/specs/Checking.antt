@@ -12,8 +12,8 @@ use Rattle.definitions.specs.declared.Split.{Split}
 use Rattle.definitions.specs.declared.Split.the-variants.{S16x16, S16x8, S8x16, S8x8 as Quarters}
 use Rattle.definitions.specs.declared.Verdict.{Verdict}
 use Rattle.definitions.specs.declared.Verdict.the-variants.{Accepted, Refused}
-use Rattle.definitions.specs.Tests.{pick, eqZ, between, allBelow, upTo}
-use Rattle.definitions.specs.Splits.{sameMotion, quadrantOf, placeOf, rasterOf}
+use Rattle.definitions.specs.Basics.{pick, eqZ, between, allBelow, upTo}
+use Rattle.definitions.specs.Splits.{sameMotion, quadrantOf, inQuadrant, rasterOf}
 use Rattle.definitions.specs.Record.{wordOf, referenceOf, vectorXOf, vectorYOf, motionOf, isIntra, used, splitSaid, vectorWord, rule1, rule2, rule3, rule4}
 use Rattle.records.specs.declared.Range.{Range}
 
@@ -47,8 +47,8 @@ blockWithin f g r w = (f (wordOf r w) && f (wordOf r (w + 1))) && (g (wordOf r (
 -- rule 6: the first block of the piece that block b stands in
 abbrev pub subFirstBlock : SubSplit → ℕ → ℕ
 subFirstBlock S8x8 b = rasterOf (quadrantOf b) 0
-subFirstBlock S8x4 b = rasterOf (quadrantOf b) (placeOf b / 2 * 2)
-subFirstBlock S4x8 b = rasterOf (quadrantOf b) (placeOf b % 2)
+subFirstBlock S8x4 b = rasterOf (quadrantOf b) (inQuadrant b / 2 * 2)
+subFirstBlock S4x8 b = rasterOf (quadrantOf b) (inQuadrant b % 2)
 subFirstBlock S4x4 b = b
 
 abbrev pub subSplitAt : SubSplits → ℕ → SubSplit

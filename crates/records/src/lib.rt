@@ -4,7 +4,7 @@ ghost use Prim.Native.Nat.{ℕ, _+_, _*_, _≤_, _<_};
 ghost use lib.IntN.{pos, ℤ};
 ghost use lib.ListN.{length};
 ghost use lib.Bits.{bitAnd};
-ghost use Rattle.definitions.specs.Tests.{allBelow, eqZ};
+ghost use Rattle.definitions.specs.Basics.{allBelow, eqZ};
 ghost use Rattle.definitions.specs.Splits.{quadrantOf};
 ghost use Rattle.definitions.specs.Record.{isIntra, motionOf, predictionOf, recordAt, recordWords, rule2, rule4, subSplitOf, subTypeOf, typeOf, used, vectorWord, wordOf};
 ghost use Rattle.definitions.specs.Refusals.{verdictOf, recordTests};

@@ -2,7 +2,7 @@
 use Prim.Native.Nat.{ℕ}
 use lib.Dec.{eqb, ltb}
 use Rattle.definitions.specs.declared.Axes.{Axes}
-use Rattle.definitions.specs.Tests.{pick}
+use Rattle.definitions.specs.Basics.{pick}
 use Rattle.definitions.specs.Geometry.{axesOf}
 use Rattle.definitions.specs.Calls.{fullCount, columnAt, rowAt, sumOf}
 use Rattle.definitions.specs.Session.{State, fresh, begun, finished}

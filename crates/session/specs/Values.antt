@@ -6,7 +6,7 @@ use lib.IntN.{pos}
 use Rattle.definitions.specs.declared.AxisNumbers.{AxisNumbers}
 use Rattle.definitions.specs.declared.MacroblockReply.{MacroblockReply}
 use Rattle.definitions.specs.declared.MacroblockReply.the-variants.{Answered, Refused as Declined}
-use Rattle.definitions.specs.Tests.{pick}
+use Rattle.definitions.specs.Basics.{pick}
 use Rattle.definitions.specs.Calls.{counted, noCounts, countsOf}
 use Rattle.definitions.specs.Session.{Call, State, fresh, begun, totalsOf, Exchange, beginGave, nextGave, abandonGave, totalsGave, exchange, stateBy, stateNext, stateAfter, accepts, madeSince, sound}
 use Rattle.session.specs.declared.Session.{Session}

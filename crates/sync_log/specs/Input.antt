@@ -5,6 +5,6 @@ use lib.ListN.{length}
 use Rattle.sync_log.specs.declared.Input.{Input}
 use Rattle.sync_log.specs.declared.Input.the-variants.{Text, Failed}
 
-abbrev pub Within : Input → List ℕ → Type 0
-Within (Text n) buf = n ≤ length buf
-Within Failed buf = Unit
+abbrev pub InputRead : Input → List ℕ → Type 0
+InputRead (Text n) buf = n ≤ length buf
+InputRead Failed buf = Unit

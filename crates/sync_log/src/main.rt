@@ -1,7 +1,7 @@
 // The log program: a sync text from standard input, its log to standard output.
 ghost use Prim.Native.Nat.{_≤_};
 ghost use Rattle.definitions.specs.Log.{LogAnswer, logBytes};
-ghost use Rattle.sync_log.specs.Input.{Within};
+ghost use Rattle.sync_log.specs.Input.{InputRead};
 ghost use lib.ListN.{length, replicate};
 ghost use mathlib.Core.Path.{_≡_};
 use definitions::LogReply;
@@ -18,7 +18,7 @@ enum Input {
 
 // Standard input, however its bytes arrive.
 fn read_input(buf: &mut [u8]) -> Input
-    ensures { λ r. ⌜ Within r (now (buf .exit)) ⌝ }
+    ensures { λ r. ⌜ InputRead r (now (buf .exit)) ⌝ }
 {
     let mut done: usize = 0;
     while done < buf.len() {

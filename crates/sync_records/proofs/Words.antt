@@ -8,7 +8,7 @@ use lib.IntN.{ℤ, pos}
 use lib.ListN.{length, take, drop, getD, set}
 use lib.Seq.{sets, sets-eq, drop-drop, length-take-le, take-suc}
 use Rattle.definitions.specs.declared.Motion.{Motion}
-use Rattle.definitions.specs.Tests.{four}
+use Rattle.definitions.specs.Basics.{four}
 use Rattle.definitions.specs.Record.{recordWords, laidOut}
 use Rattle.definitions.specs.Inheriting.{motionAt}
 use Rattle.definitions.proofs.Parts.{sets-append}

@@ -12,7 +12,7 @@ use Rattle.macroblock.specs.declared.AxisRead.{AxisRead}
 use Rattle.definitions.specs.declared.Refusal.{Refusal}
 use Rattle.definitions.specs.declared.Verdict.{Verdict}
 use Rattle.definitions.specs.declared.Verdict.the-variants.{Accepted, Refused}
-use Rattle.definitions.specs.Tests.{forEach}
+use Rattle.definitions.specs.Basics.{forEach}
 use Rattle.definitions.specs.Geometry.{columnsRead}
 use Rattle.definitions.specs.BlockMap.{baseAddress}
 use Rattle.definitions.specs.Record.{recordWords}

@@ -21,10 +21,10 @@ use Rattle.definitions.proofs.Map.{f-below}
 use Rattle.macroblock.specs.declared.AxisRead.{AxisRead}
 use Rattle.macroblock.specs.Made.{namedBy, readIn, readOf, Ready}
 use Rattle.macroblock.proofs.Reading.{read-says}
-use Rattle.upsample.specs.Staged.{InBase, Placed}
+use Rattle.upsample.specs.Staged.{InBase, BaseRight}
 use Rattle.upsample.proofs.Sizes.{base-small}
 
-module _ (g : Axes) (base : List ℤ) (placed : Placed g base) (column row : ℕ) where
+module _ (g : Axes) (base : List ℤ) (placed : BaseRight g base) (column row : ℕ) where
   abbrev hor : AxisRead
   hor = readIn (stepOf (g .horizontal) (sampleOf column))
 

@@ -22,9 +22,9 @@ use Rattle.definitions.specs.Calls.{Outcome, byVerdict, macroblockTests, macrob
 use Rattle.definitions.proofs.Choices.{yes, no}
 use Rattle.definitions.proofs.Verdicts.{then-verdict, refused-first}
 use Rattle.macroblock.specs.declared.AxisRead.{AxisRead}
-use Rattle.macroblock.specs.Made.{readOf, placedBy}
+use Rattle.macroblock.specs.Made.{readOf, madeBy}
 use Rattle.macroblock.proofs.Paper.{placed-by}
-use Rattle.upsample.specs.Staged.{axesTests, axesCall, placedCall}
+use Rattle.upsample.specs.Staged.{axesTests, axesCall, sizedCall}
 
 -- what a call hands back and leaves, as an outcome says
 abbrev pub Handed : {Reply : Type 0} → Reply → List ℤ → Outcome Reply → Type 0
@@ -49,15 +49,15 @@ module _ (g : Axes) (base : List ℤ) (column row : ℕ) (words : List ℤ) wher
   abbrev verdict : Verdict
   verdict = verdictOf (recordTests base (addressesRead g column row))
 
-  pub placed-refused : (r : Refusal) → verdict ≡ Refused r → Handed (Declined r) words (placedCall g base column row words)
-  unfolding placedCall
+  pub placed-refused : (r : Refusal) → verdict ≡ Refused r → Handed (Declined r) words (sizedCall g base column row words)
+  unfolding sizedCall
   placed-refused r e = handed _ _ _ (ap (λ (v : Verdict). byVerdict v Declined words answers) e)
 
   pub placed-answered : verdict ≡ Accepted → (h v : AxisRead) → h ≡ readOf (g .horizontal) column → v ≡ readOf (g .vertical) row → (answer : Answer) (written : List ℤ)
-      → answer ≡ placedBy g h v base .answer → written ≡ placedBy g h v base .written → Handed (Answered answer) written (placedCall g base column row words)
-  unfolding placedCall
+      → answer ≡ madeBy g h v base .answer → written ≡ madeBy g h v base .written → Handed (Answered answer) written (sizedCall g base column row words)
+  unfolding sizedCall
   placed-answered e h v p q answer written a w =
-      let m : placedBy g h v base ≡ made = (λ i. placedBy g (p i) (q i) base) ∙ sym (placed-by g column row base) in
+      let m : madeBy g h v base ≡ made = (λ i. madeBy g (p i) (q i) base) ∙ sym (placed-by g column row base) in
       let x : answer ≡ made .answer = a ∙ ap (λ (k : Made). k .answer) m in
       let y : written ≡ made .written = w ∙ ap (λ (k : Made). k .written) m in
       handed _ _ _ (ap (λ (u : Verdict). byVerdict u Declined words answers) e ∙ (λ i. record { reply = Answered (sym x i); words = sym y i }))
@@ -94,8 +94,8 @@ module _ (g : Axes) (base : List ℤ) (column row : ℤ) (words : List ℤ) wher
       unfolding axesTests
       wrong-place n = handed _ _ _ (by-tests _ (no _ _ base-passed ∙ (no _ _ output-passed ∙ yes _ _ (ap not n))))
 
-      pub right-place : (withinAxis (fullSize (g .horizontal)) column && withinAxis (fullSize (g .vertical)) row) ≡ true → call ≡ placedCall g base (natAbs column) (natAbs row) words
-      unfolding axesTests placedCall
+      pub right-place : (withinAxis (fullSize (g .horizontal)) column && withinAxis (fullSize (g .vertical)) row) ≡ true → call ≡ sizedCall g base (natAbs column) (natAbs row) words
+      unfolding axesTests sizedCall
       right-place n = by-tests _ (no _ _ base-passed ∙ (no _ _ output-passed ∙ no _ _ (ap not n)))
 
 -- ---- refusals 1 to 4

@@ -10,7 +10,7 @@ use Rattle.definitions.specs.declared.MacroblockReply.{MacroblockReply}
 use Rattle.definitions.specs.declared.MacroblockReply.the-variants.{Answered, Refused as Declined}
 use Rattle.definitions.specs.declared.PictureReply.{PictureReply}
 use Rattle.definitions.specs.declared.PictureReply.the-variants.{Counted, Refused as NotMade}
-use Rattle.definitions.specs.Tests.{upTo, forEach}
+use Rattle.definitions.specs.Basics.{upTo, forEach}
 use Rattle.definitions.specs.Accepted.{AcceptedAxes}
 use Rattle.definitions.specs.Geometry.{columnsRead}
 use Rattle.definitions.specs.BlockMap.{baseAddress}
@@ -31,8 +31,8 @@ axesCall g base column row words =
     byVerdict (verdictOf (axesTests g base column row words)) Declined words (record { reply = Answered (made .answer); words = made .written })
 
 -- and once the lengths and its place are: refusal 8
-unfoldable pub placedCall : Axes → List ℤ → ℕ → ℕ → List ℤ → Outcome MacroblockReply
-placedCall g base column row words =
+unfoldable pub sizedCall : Axes → List ℤ → ℕ → ℕ → List ℤ → Outcome MacroblockReply
+sizedCall g base column row words =
     let made = madeOf g base column row in
     byVerdict (verdictOf (recordTests base (addressesRead g column row))) Declined words (record { reply = Answered (made .answer); words = made .written })
 
@@ -52,11 +52,11 @@ abbrev pub InBase : List ℤ → List ℕ → Type 0
 InBase base addresses = (a : ℕ) → List·Memᴰ a addresses → ((a + 1) * recordWords ≤ length base) × (a < 65536)
 
 -- an accepted geometry, and a base of the right length
-pub record Placed (g : Axes) (base : List ℤ) : Type 0 where
+pub record BaseRight (g : Axes) (base : List ℤ) : Type 0 where
   pub axes : AcceptedAxes g
   pub base-length : length base ≡ recordWords * baseCount g
 
 -- and every record of it well formed
 pub record Formed (g : Axes) (base : List ℤ) : Type 0 where
-  pub placed : Placed g base
+  pub placed : BaseRight g base
   pub formed : AllFormed g base

@@ -8,7 +8,7 @@ ghost use Rattle.definitions.specs.Record.{recordWords};
 ghost use Rattle.definitions.specs.Refusals.{baseCount, recordTests, refusal, verdictOf, withinAxis};
 ghost use Rattle.macroblock.specs.Made.{namedBy};
 ghost use Rattle.upsample.specs.Promised.{SinglyPromised};
-ghost use Rattle.upsample.specs.Staged.{InBase, Placed, axesCall, placedCall, rowAddresses};
+ghost use Rattle.upsample.specs.Staged.{InBase, BaseRight, axesCall, sizedCall, rowAddresses};
 ghost use lib.ListN.{length};
 ghost use mathlib.Core.Path.{_≡_};
 use definitions::Axes;
@@ -22,7 +22,7 @@ use geometry::Checked;
 use geometry::Geometry;
 use macroblock::AxisRead;
 use macroblock::axis_read;
-use macroblock::place;
+use macroblock::make;
 use records::check;
 
 pub fn refused(number: u32) -> Refusal
@@ -82,26 +82,26 @@ fn check_read(g: Axes, base: &[i16], h: AxisRead, v: AxisRead) -> Verdict
 
 // ---- One macroblock
 // Lengths and place are right: refusal 8, or the answer.
-fn placed_macroblock(
+fn sized_macroblock(
     g: Axes,
     base: &[i16],
     column: u32,
     row: u32,
     out: &mut [i16],
 ) -> MacroblockReply
-    requires { ⌜ Placed g (now base) × (length (now out) ≡ recordWords) × (column < 256) × (row < 256) ⌝ }
-    ensures reply { λ r. ⌜ r ≡ placedCall g (now (base .entry)) column row (now (out .entry)) .reply ⌝ }
-    ensures words { λ r. ⌜ now (out .exit) ≡ placedCall g (now (base .entry)) column row (now (out .entry)) .words ⌝ }
+    requires { ⌜ BaseRight g (now base) × (length (now out) ≡ recordWords) × (column < 256) × (row < 256) ⌝ }
+    ensures reply { λ r. ⌜ r ≡ sizedCall g (now (base .entry)) column row (now (out .entry)) .reply ⌝ }
+    ensures words { λ r. ⌜ now (out .exit) ≡ sizedCall g (now (base .entry)) column row (now (out .entry)) .words ⌝ }
 {
     let h = axis_read(g.horizontal, column);
     let v = axis_read(g.vertical, row);
     if h.inside & v.inside {
         return match check_read(g, base, h, v) {
-            Verdict::Accepted => MacroblockReply::Answered(place(g, base, h, v, out)),
+            Verdict::Accepted => MacroblockReply::Answered(make(g, base, h, v, out)),
             Verdict::Refused(r) => MacroblockReply::Refused(r),
         };
     }
-    MacroblockReply::Answered(place(g, base, h, v, out))
+    MacroblockReply::Answered(make(g, base, h, v, out))
 }
 
 // The geometry is accepted: refusals 5 to 8, or the answer.
@@ -125,7 +125,7 @@ fn accepted_macroblock(
     let width = g.horizontal.full;
     let height = g.vertical.full;
     if is_within(width, column) & is_within(height, row) {
-        return placed_macroblock(g, base, column as u32, row as u32, out);
+        return sized_macroblock(g, base, column as u32, row as u32, out);
     }
     MacroblockReply::Refused(refused(7))
 }

@@ -3,7 +3,7 @@ ghost use mathlib.Core.Path.{_≡_};
 ghost use mathlib.Core.List.{_∷_};
 ghost use lib.IntN.{pos};
 ghost use lib.ListN.{length, getD};
-ghost use Rattle.definitions.specs.Tests.{upTo, forEach};
+ghost use Rattle.definitions.specs.Basics.{upTo, forEach};
 ghost use Rattle.definitions.specs.Splits.{rasterOf};
 ghost use Rattle.definitions.specs.Record.{recordWords, referencesOf, vectorsOf, laidOut};
 ghost use Rattle.definitions.specs.Inheriting.{motionAt};

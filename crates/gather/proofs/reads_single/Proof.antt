@@ -3,7 +3,7 @@ use Prim.Native.Nat.{_+_, _*_, _/_, _%_}
 use mathlib.Core.Path.{_≡_, _∙_}
 use native.Mathlib.Omega.{arith}
 use lib.IntN.{pos}
-use Rattle.definitions.specs.Tests.{eqZ}
+use Rattle.definitions.specs.Basics.{eqZ}
 use Rattle.definitions.specs.BlockMap.{blockIn}
 use Rattle.definitions.specs.Splits.{quadrantOf}
 use Rattle.definitions.specs.Record.{recordAt, subTypeOf}

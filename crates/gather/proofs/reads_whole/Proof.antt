@@ -2,7 +2,7 @@
 use Prim.Native.Nat.{ℕ}
 use mathlib.Core.Path.{ap, _∙_}
 use lib.IntN.{pos}
-use Rattle.definitions.specs.Tests.{eqZ}
+use Rattle.definitions.specs.Basics.{eqZ}
 use Rattle.definitions.specs.Record.{recordAt, typeOf}
 use borrow.Author.Needs.{needs}
 use Rattle.gather.proofs.reads_whole.Statement.{statement}

@@ -6,7 +6,7 @@ use Prim.Native.Nat.{ℕ, _-_, _≤_}
 use mathlib.Core.List.{List, [], _∷_}
 use lib.ListN.{length, take}
 use borrow.Author.Needs.{needs}
-use Rattle.definitions.specs.Tests.{forEach}
+use Rattle.definitions.specs.Basics.{forEach}
 use Rattle.log_lines.specs.Put.{Fits, Put}
 use Rattle.log_lines.proofs.put_word.Statement.{statement}
 use Rattle.log_lines.proofs.put_word.Tie as tie

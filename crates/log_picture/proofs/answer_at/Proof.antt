@@ -38,15 +38,15 @@ axis-read-requires-2 c κs = (c .before .before .pre .0 .placed .axes .vertical,
 slice-aggregate-place : tie.Need-slice-aggregate-place
 slice-aggregate-place c = search needs
 
-place-requires : tie.Need-place-requires
-place-requires c κs =
+make-requires : tie.Need-make-requires
+make-requires c κs =
     let s = c .before .before .before .before in
     (placeable (s .args .g) (s .args .a) _ _ (there s .within) (there s .whole) (s .args .base .now) (s .pre .0) _ _ (c .before .before .axis-read .ensures) (c .before .axis-read2 .ensures), length-replicate 77 (pos 0))
 
 returns : tie.Need-returns
 returns c =
     let s = c .before .before .before .before .before .before in
-    c .before .place .ensures .0 ∙ ap (λ (k : Made). k .answer) (made-there (s .args .g) (s .args .a) _ _ (there s .within) (there s .whole) (s .args .base .now) (s .pre .0) _ _ (c .before .before .before .before .axis-read .ensures) (c .before .before .before .axis-read2 .ensures))
+    c .before .make .ensures .0 ∙ ap (λ (k : Made). k .answer) (made-there (s .args .g) (s .args .a) _ _ (there s .within) (there s .whole) (s .args .base .now) (s .pre .0) _ _ (c .before .before .before .before .axis-read .ensures) (c .before .before .before .axis-read2 .ensures))
 
 pub answer-at-spec : {M : Type 1} → statement M
 answer-at-spec =
@@ -60,5 +60,5 @@ answer-at-spec =
     cast-axis-read-2
     axis-read-requires-2
     slice-aggregate-place
-    place-requires
+    make-requires
     returns)

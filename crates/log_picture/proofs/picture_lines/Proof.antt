@@ -3,7 +3,7 @@ use Prim.Native.Nat.{_-_, _*_, _≤_}
 use mathlib.Core.Path.{_≡_, refl, _∙_}
 use native.Mathlib.Omega.{arith}
 use borrow.Author.Needs.{needs}
-use Rattle.definitions.specs.Tests.{upTo}
+use Rattle.definitions.specs.Basics.{upTo}
 use Rattle.definitions.specs.Calls.{madeAt, countsOf}
 use Rattle.picture.proofs.Filling.{Located, located, counts-none, counts-next, counts-low}
 use Rattle.log_lines.specs.Put.{Put}

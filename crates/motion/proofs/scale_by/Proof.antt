@@ -6,13 +6,13 @@ use native.Mathlib.Omega.{arith}
 use Rattle.definitions.specs.declared.Motion.{Motion}
 use Rattle.definitions.specs.declared.SubSplits.{SubSplits}
 use Rattle.definitions.specs.Inheriting.{at, scaledMotion}
-use Rattle.definitions.specs.Tests.{four}
+use Rattle.definitions.specs.Basics.{four}
 use Rattle.definitions.proofs.Choices.{four-same}
 use Rattle.definitions.proofs.Fewest.{chosen-shapes}
 use Rattle.definitions.proofs.Shapes.{shapesOf}
 use Rattle.motion.specs.declared.Scale.{Scale}
 use Rattle.motion.specs.Range.{InRange}
-use Rattle.motion.specs.Scales.{AcceptedScale, motionBy}
+use Rattle.motion.specs.Scales.{AcceptedScale, motionScaled}
 use Rattle.motion.proofs.ByScales.{accepted, by-scales}
 use Rattle.motion.proofs.Once.{once-16x16, once-16x8, once-8x16}
 use borrow.Author.Needs.{needs}
@@ -42,10 +42,10 @@ module _ (c : tie.After-scale-of2) where
   asked : (q : ℕ) → q < 4 → AcceptedScale h × AcceptedScale v × (InRange (at motions q 0 .list0) × InRange (at motions q 0 .list1))
   asked q l = (accepted-scales .0, accepted-scales .1, c .before .before .pre .2 q 0 l (omega arith))
 
-  by : (m : Motion) → motionBy h v m ≡ scaled m
+  by : (m : Motion) → motionScaled h v m ≡ scaled m
   by = by-scales (c .before .before .args .g) h v (c .before .scale-of .ensures) (c .scale-of2 .ensures)
 
-  by-four : (q : ℕ) → four (λ k. motionBy h v (at motions q k)) ≡ four (λ k. scaled (at motions q k))
+  by-four : (q : ℕ) → four (λ k. motionScaled h v (at motions q k)) ≡ four (λ k. scaled (at motions q k))
   by-four q = four-same (by _) (by _) (by _) (by _)
 
 -- ---- an 8×8 split

@@ -2,7 +2,7 @@
 use mathlib.Core.Path.{sym, _∙_}
 use native.Mathlib.Omega.{arith}
 use Rattle.definitions.proofs.Choices.{four-same}
-use Rattle.motion.specs.Scales.{motionBy}
+use Rattle.motion.specs.Scales.{motionScaled}
 use Rattle.motion.proofs.Once.{once-8x8, once-8x4, once-4x8}
 use borrow.Author.Needs.{needs}
 use Rattle.motion.proofs.scale_quadrant.Statement.{statement}
@@ -59,18 +59,18 @@ scale-with-requires-6 c κs = let p = c .before .before .before .before .before 
 returns : tie.Need-returns
 returns c =
     let s = c .before .before .before .before in
-    once-8x8 (motionBy (s .args .h) (s .args .v)) (s .args .t4) _ (sym (c .enum-told .given .1) ∙ s .pre .3) (c .before .before .scale-with .ensures)
+    once-8x8 (motionScaled (s .args .h) (s .args .v)) (s .args .t4) _ (sym (c .enum-told .given .1) ∙ s .pre .3) (c .before .before .scale-with .ensures)
 
 returns-2 : tie.Need-returns-2
 returns-2 c =
     let s = c .before .before .before .before .before .before in
-    once-8x4 (motionBy (s .args .h) (s .args .v)) (s .args .t4) _ _ (sym (c .before .before .enum-told2 .given .1) ∙ s .pre .3)
+    once-8x4 (motionScaled (s .args .h) (s .args .v)) (s .args .t4) _ _ (sym (c .before .before .enum-told2 .given .1) ∙ s .pre .3)
     (c .before .before .before .before .scale-with .ensures) (c .scale-with2 .ensures)
 
 returns-3 : tie.Need-returns-3
 returns-3 c =
     let s = c .before .before .before .before .before .before in
-    once-4x8 (motionBy (s .args .h) (s .args .v)) (s .args .t4) _ _ (sym (c .before .before .enum-told3 .given .1) ∙ s .pre .3)
+    once-4x8 (motionScaled (s .args .h) (s .args .v)) (s .args .t4) _ _ (sym (c .before .before .enum-told3 .given .1) ∙ s .pre .3)
     (c .before .before .before .before .scale-with .ensures) (c .scale-with3 .ensures)
 
 returns-4 : tie.Need-returns-4

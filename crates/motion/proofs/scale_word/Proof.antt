@@ -9,7 +9,7 @@ use mir.Syntax.{w16}
 use mir.Val.{toZ}
 use native.Mathlib.Omega.{arith}
 use Rattle.definitions.specs.Record.{vectorLimit}
-use Rattle.definitions.specs.Tests.{signed}
+use Rattle.definitions.specs.Basics.{signed}
 use Rattle.motion.proofs.Signs.{by-words}
 use borrow.Author.Needs.{needs}
 use Rattle.motion.proofs.scale_word.Statement.{statement}

@@ -4,7 +4,7 @@ use mathlib.Core.List.{_++_}
 use mathlib.Core.Path.{_≡_, sym, ap, _∙_}
 use native.Mathlib.Omega.{arith}
 use lib.ListN.{length, getD, drop, length-take, length-drop}
-use Rattle.definitions.specs.Tests.{upTo}
+use Rattle.definitions.specs.Basics.{upTo}
 use Rattle.definitions.specs.Record.{recordWords}
 use Rattle.definitions.specs.Answer.{Made}
 use Rattle.definitions.specs.Calls.{madeAt, countsOf, fullCount}
@@ -76,14 +76,14 @@ mul-place c = search needs
 sub-place : tie.Need-sub-place Inv-loop μ-loop
 sub-place c = search needs
 
-part-place-start : tie.Need-part-place-start Inv-loop μ-loop
-part-place-start c = search needs
+part-make-start : tie.Need-part-make-start Inv-loop μ-loop
+part-make-start c = search needs
 
-part-place-end : tie.Need-part-place-end Inv-loop μ-loop
-part-place-end c = search needs
+part-make-end : tie.Need-part-make-end Inv-loop μ-loop
+part-make-end c = search needs
 
-place-requires : tie.Need-place-requires Inv-loop μ-loop
-place-requires c κs =
+make-requires : tie.Need-make-requires Inv-loop μ-loop
+make-requires c κs =
     let l = c .before .before .before .before .before in
     let s = c .before .before .before .before .before .before .before .before .before .before in
     (placeable (s .args .g) (l .loop .a) (l .loop .at .column) (l .loop .at .row) (l .loop .inv .5) (l .loop .inv .4) (s .args .base .now) (s .pre .0) _ _ (column-there (c .before .before .before .before)) (c .before .row-read .ensures), simp (length-take, length-drop) (omega arith))
@@ -152,9 +152,9 @@ fill-spec =
     row-read-requires
     mul-place
     sub-place
-    part-place-start
-    part-place-end
-    place-requires
+    part-make-start
+    part-make-end
+    make-requires
     count-requires
     next-requires
     add-a

@@ -1,7 +1,7 @@
 -- `quadrant::is_used` meets its contract. Assumes nothing.
 use mathlib.Core.Bool.{not}
 use mathlib.Core.Path.{ap}
-use Rattle.definitions.specs.Tests.{minus}
+use Rattle.definitions.specs.Basics.{minus}
 use Rattle.definitions.proofs.Motions.{word-same}
 use borrow.Author.Needs.{needs}
 use Rattle.quadrant.proofs.is_used.Statement.{statement}

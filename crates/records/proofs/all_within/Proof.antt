@@ -2,7 +2,7 @@
 use borrow.Author.Needs.{needs}
 use Prim.Native.Nat.{_+_, _-_, _≤_}
 use mathlib.Core.Path.{_≡_, sym}
-use Rattle.definitions.specs.Tests.{allBelow}
+use Rattle.definitions.specs.Basics.{allBelow}
 use Rattle.definitions.specs.Record.{wordOf}
 use Rattle.records.specs.Checking.{within, allWithin}
 use Rattle.records.proofs.Searches.{search-none, below-more, search-end}

@@ -5,7 +5,7 @@ use mathlib.Core.Path.{_≡_, refl, sym, _∙_, ap}
 use mathlib.Core.Bool.{true}
 use borrow.Author.Tests.{not-true, not-false}
 use borrow.Author.Needs.{needs}
-use Rattle.definitions.specs.Tests.{allBelow}
+use Rattle.definitions.specs.Basics.{allBelow}
 use Rattle.records.specs.Checking.{foundAt, vectorsRight, sameAsFirst}
 use Rattle.records.proofs.Verdicts.{verdict-end, verdict-head, verdict-5, verdict-6, verdict-next, verdict}
 use Rattle.records.proofs.Searches.{search-none, search-more}

@@ -4,7 +4,7 @@ use mathlib.Core.List.{List}
 use mathlib.Core.Path.{_∙_, ap}
 use lib.IntN.{ℤ, pos}
 use lib.ListN.{getD}
-use Rattle.definitions.specs.Tests.{eqZ}
+use Rattle.definitions.specs.Basics.{eqZ}
 use Rattle.definitions.specs.Record.{subTypeOf}
 use Rattle.definitions.proofs.Motions.{word-same}
 use borrow.Author.Needs.{needs}

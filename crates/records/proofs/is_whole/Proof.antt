@@ -5,7 +5,7 @@ use lib.IntN.{ℤ, pos}
 use mathlib.Core.List.{List}
 use borrow.Author.Needs.{needs}
 use Rattle.definitions.specs.Record.{typeOf}
-use Rattle.definitions.specs.Tests.{eqZ}
+use Rattle.definitions.specs.Basics.{eqZ}
 use Rattle.definitions.proofs.Motions.{word-same}
 use Rattle.records.proofs.is_whole.Statement.{statement}
 use Rattle.records.proofs.is_whole.Tie as tie

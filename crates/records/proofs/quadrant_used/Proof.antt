@@ -4,7 +4,7 @@ use mathlib.Core.Bool.{not}
 use mathlib.Core.Path.{sym, _∙_, ap}
 use borrow.Author.Needs.{needs}
 use Rattle.definitions.specs.Record.{wordOf}
-use Rattle.definitions.specs.Tests.{minus}
+use Rattle.definitions.specs.Basics.{minus}
 use Rattle.definitions.proofs.Motions.{word-same}
 use Rattle.records.proofs.Ranges.{used-first, used-second}
 use Rattle.records.proofs.Words.{word-is, word-is-not}

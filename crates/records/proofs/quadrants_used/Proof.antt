@@ -4,7 +4,7 @@ use mathlib.Core.Path.{_≡_, sym, _∙_}
 use mathlib.Core.Bool.{true}
 use borrow.Author.Tests.{not-true, not-false}
 use borrow.Author.Needs.{needs}
-use Rattle.definitions.specs.Tests.{allBelow}
+use Rattle.definitions.specs.Basics.{allBelow}
 use Rattle.records.specs.Checking.{quadrantUsed}
 use Rattle.records.proofs.Searches.{search-none, search-more, search-end, search-fault}
 use Rattle.records.proofs.quadrants_used.Statement.{statement}

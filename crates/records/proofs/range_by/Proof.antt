@@ -1,6 +1,6 @@
 -- `range_by` meets its contract: only 0 where the reference is −1. Assumes nothing.
 use borrow.Author.Needs.{needs}
-use Rattle.definitions.specs.Tests.{minus}
+use Rattle.definitions.specs.Basics.{minus}
 use Rattle.definitions.specs.Record.{wordOf}
 use Rattle.records.proofs.Ranges.{range-zero, range-any}
 use Rattle.records.proofs.Words.{word-is, word-is-not}

@@ -2,7 +2,7 @@
 use Rattle.upsample.proofs.Staging.{wrong-base, wrong-output, wrong-place, right-place}
 use Rattle.definitions.proofs.Demand.{within-low}
 use Rattle.upsample.proofs.Within.{within-natural}
-use Rattle.upsample.specs.Staged.{placedCall}
+use Rattle.upsample.specs.Staged.{sizedCall}
 use Rattle.definitions.proofs.Choices.{both-true}
 use Rattle.definitions.specs.Calls.{Outcome}
 use Rattle.definitions.specs.Refusals.{baseCount, withinAxis}
@@ -112,8 +112,8 @@ returns-3 c =
     let p = toZ-ofZ (s .fits .column) in
     let q = toZ-ofZ (s .fits .row) in
     let e = right-place (s .args .g) (s .args .base .now) (s .args .column) (s .args .row) (s .args .out .now) (base-right (t .before .before .before .before .before .before)) (t .before .before .before .before .before .if2 .left) (both (t .before) ∙ t .if3 .taken) in (
-      c .before .placed-macroblock .ensures .0 ∙ ((λ i. placedCall (s .args .g) (s .args .base .now) (natAbs (p i)) (natAbs (q i)) (s .args .out .now) .reply) ∙ sym (ap (λ (o : Outcome MacroblockReply). o .reply) e)),
-      c .before .placed-macroblock .ensures .1 ∙ ((λ i. placedCall (s .args .g) (s .args .base .now) (natAbs (p i)) (natAbs (q i)) (s .args .out .now) .words) ∙ sym (ap (λ (o : Outcome MacroblockReply). o .words) e)),
+      c .before .sized-macroblock .ensures .0 ∙ ((λ i. sizedCall (s .args .g) (s .args .base .now) (natAbs (p i)) (natAbs (q i)) (s .args .out .now) .reply) ∙ sym (ap (λ (o : Outcome MacroblockReply). o .reply) e)),
+      c .before .sized-macroblock .ensures .1 ∙ ((λ i. sizedCall (s .args .g) (s .args .base .now) (natAbs (p i)) (natAbs (q i)) (s .args .out .now) .words) ∙ sym (ap (λ (o : Outcome MacroblockReply). o .words) e)),
     )
 
 refused-requires-3 : tie.Need-refused-requires-3

@@ -9,7 +9,7 @@ use mir.Facts.{toZ-ofZ}
 use mir.Val.{toZ, ofZ}
 use mir.Syntax.{w16}
 use borrow.Author.Needs.{needs}
-use Rattle.definitions.specs.Tests.{upTo}
+use Rattle.definitions.specs.Basics.{upTo}
 use Rattle.definitions.proofs.Parts.{stored-all}
 use Rattle.write.proofs.write_types.Statement.{statement}
 use Rattle.write.proofs.write_types.Tie as tie

@@ -4,7 +4,7 @@ use mathlib.Core.Path.{ap}
 use mathlib.Core.List.{List}
 use lib.ListN.{getD}
 use borrow.Author.Needs.{needs}
-use Rattle.definitions.specs.Tests.{four}
+use Rattle.definitions.specs.Basics.{four}
 use Rattle.geometry.proofs.map.reads.Statement.{statement}
 use Rattle.geometry.proofs.map.reads.Tie as tie
 

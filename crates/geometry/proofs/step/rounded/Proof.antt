@@ -3,7 +3,7 @@ use Prim.Native.Nat.{ℕ, _+_, _*_, _/_}
 use mathlib.Core.Path.{_∙_, ap}
 use native.Mathlib.Omega.{arith}
 use borrow.Author.Needs.{needs}
-use Rattle.definitions.specs.Tests.{signed}
+use Rattle.definitions.specs.Basics.{signed}
 use Rattle.geometry.proofs.step.rounded.Statement.{statement}
 use Rattle.geometry.proofs.step.rounded.Tie as tie
 

@@ -5,7 +5,7 @@ use native.Mathlib.Omega.{arith}
 use lib.IntN.{subℕ}
 use borrow.Author.Needs.{needs}
 use Rattle.definitions.specs.Geometry.{roundedOf}
-use Rattle.definitions.proofs.Places.{near}
+use Rattle.definitions.proofs.Positions.{near}
 use Rattle.geometry.proofs.Bounds.{difference-small, place-top}
 use Rattle.geometry.proofs.step.rounded_distance.Statement.{statement}
 use Rattle.geometry.proofs.step.rounded_distance.Tie as tie
@@ -13,10 +13,10 @@ use Rattle.geometry.proofs.step.rounded_distance.Tie as tie
 grid-place-requires : tie.Need-grid-place-requires
 grid-place-requires c κs = search needs
 
-reach : (c : tie.After-grid-place) → (c .grid-place .result .0 < 65536) × (c .before .args .c .0 < 65536)
+reach : (c : tie.After-grid-place) → (c .grid-sample .result .0 < 65536) × (c .before .args .c .0 < 65536)
 reach c =
     let s = c .before in
-    (omega (arith, c .grid-place .ensures, place-top _ _ _ (s .pre .0 .sized) (s .pre .1)), omega (arith, near _ _ _ (s .pre .0)))
+    (omega (arith, c .grid-sample .ensures, place-top _ _ _ (s .pre .0 .sized) (s .pre .1)), omega (arith, near _ _ _ (s .pre .0)))
 
 distance-requires : tie.Need-distance-requires
 distance-requires c κs = reach c
@@ -30,7 +30,7 @@ returns : tie.Need-returns
 returns c =
     let s = c .before .before in
     c .rounded .ensures
-    ∙ ap roundedOf (c .before .distance .ensures ∙ ap (λ (x : ℕ). subℕ x (s .before .args .c .0)) (s .grid-place .ensures))
+    ∙ ap roundedOf (c .before .distance .ensures ∙ ap (λ (x : ℕ). subℕ x (s .before .args .c .0)) (s .grid-sample .ensures))
 
 pub rounded-distance-spec : {M : Type 1} → statement M
 rounded-distance-spec = tie.close (tie.spec grid-place-requires distance-requires rounded-requires returns)

@@ -1,4 +1,4 @@
--- `macroblock::place` meets its contract. Assumes nothing.
+-- `macroblock::make` meets its contract. Assumes nothing.
 use mathlib.Core.Bool.{_&&_}
 use mathlib.Core.Path.{sym, _∙_}
 use Rattle.macroblock.proofs.Making.{placed-in, placed-out}
@@ -49,8 +49,8 @@ returns-3 c =
     let r = placed-out (c .before .before .before .before .before .before .args .g) (c .before .before .before .before .before .before .args .h) (c .before .before .before .before .before .before .args .v) (c .before .before .before .before .before .before .args .base .now) (c .before .before .before .if1 .left) (c .before .write-unused .ensures) in
     (r .answered, r .written)
 
-pub place-spec : {M : Type 1} → statement M
-place-spec =
+pub make-spec : {M : Type 1} → statement M
+make-spec =
     tie.close
     (tie.spec
     is-one-requires

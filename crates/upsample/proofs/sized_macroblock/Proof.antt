@@ -1,4 +1,4 @@
--- `upsample::placed_macroblock` meets its contract. Assumes nothing.
+-- `upsample::sized_macroblock` meets its contract. Assumes nothing.
 use Rattle.upsample.proofs.Staging.{none-read, placed-refused, placed-answered}
 use Rattle.upsample.proofs.Readiness.{Known, known-of}
 use Rattle.definitions.proofs.RecordLists.{all-formed}
@@ -8,8 +8,8 @@ use Prim.Native.Nat.{ℕ}
 use mathlib.Core.List.{List}
 use mathlib.Core.Path.{_≡_, sym, ap, _∙_}
 use borrow.Author.Needs.{needs}
-use Rattle.upsample.proofs.placed_macroblock.Statement.{statement}
-use Rattle.upsample.proofs.placed_macroblock.Tie as tie
+use Rattle.upsample.proofs.sized_macroblock.Statement.{statement}
+use Rattle.upsample.proofs.sized_macroblock.Tie as tie
 
 axis-read-requires : tie.Need-axis-read-requires
 axis-read-requires c κs = search needs
@@ -39,8 +39,8 @@ check-read-requires c κs =
 enum-told : tie.Need-enum-told
 enum-told c = search needs
 
-place-requires : tie.Need-place-requires
-place-requires c κs =
+make-requires : tie.Need-make-requires
+make-requires c κs =
     let s = c .before .before .before .before .before .before .before .before .before in
     let k = known (c .before .before .before .before .before .before .before) in
     let e = checked-is (c .before .before .before) ∙ c .before .enum-told .given .1 in
@@ -57,15 +57,15 @@ returns c =
     let a = c .before .before .before .before .before .before .before .before .before in
     let s = a .before .before in
     let e = checked-is (c .before .before .before .before .before) ∙ c .before .before .before .enum-told .given .1 in
-    placed-answered (s .args .g) (s .args .base .now) (s .args .column) (s .args .row) (s .args .out .now) e (a .before .axis-read .result) (a .axis-read2 .result) (a .before .axis-read .ensures) (a .axis-read2 .ensures) _ _ (c .before .place .ensures .0) (c .before .place .ensures .1)
+    placed-answered (s .args .g) (s .args .base .now) (s .args .column) (s .args .row) (s .args .out .now) e (a .before .axis-read .result) (a .axis-read2 .result) (a .before .axis-read .ensures) (a .axis-read2 .ensures) _ _ (c .before .make .ensures .0) (c .before .make .ensures .1)
 
 returns-2 : tie.Need-returns-2
 returns-2 c =
     let s = c .before .before .before .before .before .before .before .before .before in
     placed-refused (s .args .g) (s .args .base .now) (s .args .column) (s .args .row) (s .args .out .now) (c .before .r .given .0 .0) (checked-is (c .before .before .before) ∙ c .before .r .given .1)
 
-place-requires-2 : tie.Need-place-requires-2
-place-requires-2 c κs = (λ t. absurd (true≢false (sym t ∙ c .before .if1 .left)), c .before .before .before .before .before .before .pre .1)
+make-requires-2 : tie.Need-make-requires-2
+make-requires-2 c κs = (λ t. absurd (true≢false (sym t ∙ c .before .if1 .left)), c .before .before .before .before .before .before .pre .1)
 
 same-length-2 : tie.Need-same-length-2
 same-length-2 c = search needs
@@ -85,11 +85,11 @@ placed-macroblock-spec =
     axis-read-requires-2
     check-read-requires
     enum-told
-    place-requires
+    make-requires
     enum-known-r
     same-length
     returns
     returns-2
-    place-requires-2
+    make-requires-2
     same-length-2
     returns-3)

@@ -1,4 +1,4 @@
--- A session's place, and refusals 20 to 22, over lists of calls (PlaceRight of specs/Session). Assumes nothing.
+-- A session's place, and refusals 20 to 22, over lists of calls (AddressRight of specs/Session). Assumes nothing.
 use Prim.Native.Nat.{ℕ, _<_}
 use mathlib.Core.Path.{_≡_, refl, sym, ap, subst, _∙_}
 use mathlib.Core.Bool.{Bool, true, false, not, _&&_}
@@ -13,11 +13,11 @@ use Rattle.definitions.specs.declared.Verdict.{Verdict}
 use Rattle.definitions.specs.declared.Verdict.the-variants.{Accepted, Refused}
 use Rattle.definitions.specs.declared.MacroblockReply.{MacroblockReply}
 use Rattle.definitions.specs.declared.MacroblockReply.the-variants.{Answered, Refused as Declined}
-use Rattle.definitions.specs.Tests.{pick, allOf}
+use Rattle.definitions.specs.Basics.{pick, allOf}
 use Rattle.definitions.specs.Geometry.{axesOf}
 use Rattle.definitions.specs.Refusals.{geometryVerdict}
 use Rattle.definitions.specs.Calls.{macroblockCall, fullCount, columnAt, rowAt, noCounts, countsOf, sumOf}
-use Rattle.definitions.specs.Session.{Call, begin, next, abandon, totals, State, fresh, begun, totalsOf, finished, unfinished, beginVerdict, abandonVerdict, nextCall, Exchange, beginGave, nextGave, abandonGave, totalsGave, exchange, ifAccepted, advanced, stateNext, exchanges, stateAfter, accepts, startsAnew, noneAnew, geometryIf, geometryBy, geometrySince, geometryAfter, madeSince, madeAfter, PlaceRight, sound}
+use Rattle.definitions.specs.Session.{Call, begin, next, abandon, totals, State, fresh, begun, totalsOf, finished, unfinished, beginVerdict, abandonVerdict, nextCall, Exchange, beginGave, nextGave, abandonGave, totalsGave, exchange, ifAccepted, advanced, stateNext, exchanges, stateAfter, accepts, startsAnew, noneAnew, geometryIf, geometryBy, geometrySince, geometryAfter, madeSince, madeAfter, AddressRight, sound}
 use Rattle.definitions.proofs.Choices.{yes, no, both-true}
 use Rattle.definitions.proofs.Sessions.{totals-right, next-going, next-over, sound-parts, only-sound}
 
@@ -127,9 +127,9 @@ free-begin : (s : State) (m : Numbers) → unfinished s ≡ false → beginVerdi
 unfolding beginVerdict
 free-begin s m f = no _ _ f
 
-pub place-right : PlaceRight
+pub address-right : AddressRight
 unfolding exchange nextCall abandonVerdict beginVerdict pick
-place-right = record {
+address-right = record {
   next-nothing = λ calls e base words. ap (λ (s : State). exchange s (next base words)) (nothing-after calls e);
   abandon-nothing = λ calls e. ap (λ (s : State). exchange s abandon) (nothing-after calls e);
   begin-nothing = λ calls e m. ap (λ (s : State). exchange s (begin m)) (nothing-after calls e);

@@ -1,9 +1,9 @@
--- `geometry::step::grid_place` meets its contract. Assumes nothing.
+-- `geometry::step::grid_sample` meets its contract. Assumes nothing.
 use native.Mathlib.Omega.{arith}
 use borrow.Author.Needs.{needs}
 use Rattle.geometry.proofs.Bounds.{grid-product}
-use Rattle.geometry.proofs.step.grid_place.Statement.{statement}
-use Rattle.geometry.proofs.step.grid_place.Tie as tie
+use Rattle.geometry.proofs.step.grid_sample.Statement.{statement}
+use Rattle.geometry.proofs.step.grid_sample.Tie as tie
 
 mul-t4 : tie.Need-mul-t4
 mul-t4 c = search needs

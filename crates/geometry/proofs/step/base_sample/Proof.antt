@@ -1,9 +1,9 @@
--- `geometry::step::base_place` meets its contract. Assumes nothing.
+-- `geometry::step::base_sample` meets its contract. Assumes nothing.
 use native.Mathlib.Omega.{arith}
 use borrow.Author.Needs.{needs}
 use Rattle.geometry.proofs.Bounds.{base-product}
-use Rattle.geometry.proofs.step.base_place.Statement.{statement}
-use Rattle.geometry.proofs.step.base_place.Tie as tie
+use Rattle.geometry.proofs.step.base_sample.Statement.{statement}
+use Rattle.geometry.proofs.step.base_sample.Tie as tie
 
 mul-t4 : tie.Need-mul-t4
 mul-t4 c = record { fits = omega (arith, base-product _ _ _ (c .before .before .pre)) }
