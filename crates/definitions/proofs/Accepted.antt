@@ -19,8 +19,8 @@ use Rattle.definitions.specs.Accepted.{Inside, AcceptedAxis, AcceptedAxe
 use Rattle.definitions.specs.Basics.{pick, minus}
 use Rattle.definitions.specs.Geometry.{baseSize, scaledSize, fullSize, offsetOf, axisOf, axesOf, insideAxis, inside, cOf, sampleOf, macroblocks}
 use Rattle.definitions.specs.Refusals.{sizeRight, scaledRight, offsetRight, geometryTests, geometryVerdict}
-use Rattle.definitions.specs.Calls.{fullCount}
 use Rattle.definitions.specs.Examples.{wholeCase}
+use Rattle.definitions.specs.Raster.{fullCount}
 use Rattle.definitions.proofs.Choices.{both-true}
 use Rattle.definitions.proofs.Differences.{sub-pos, sub-cases, pos-minus}
 

@@ -9,8 +9,9 @@ use Rattle.definitions.specs.declared.Axes.{Axes}
 use Rattle.definitions.specs.Basics.{forEach}
 use Rattle.definitions.specs.Accepted.{Inside}
 use Rattle.definitions.specs.Geometry.{baseSize, scaledSize, cOf, fOf, twoOf, columnsRead, sampleOf, macroblocks}
-use Rattle.definitions.specs.BlockMap.{coordinateOf, stepOf, baseAddress, addressRead}
-use Rattle.definitions.specs.Answer.{namedAt, columnsOf, rowsOf, addressesOf}
+use Rattle.definitions.specs.BlockMap.{coordinateOf, stepOf, addressRead}
+use Rattle.definitions.specs.Answer.{originAt, columnsOf, rowsOf, addressesOf}
+use Rattle.definitions.specs.Raster.{baseAddress}
 use Rattle.definitions.proofs.Choices.{four-at}
 use Rattle.definitions.proofs.Map.{read-named, named-below, class-columns, class-rows}
 
@@ -32,39 +33,39 @@ module _ (g : Axes) (column row : ℕ) where
   abbrev ver : ℕ
   ver = cOf (g .vertical) (sampleOf row)
 
-  pub columns-are : columnsOf (namedAt g column row) ≡ columnsRead (fOf (baseSize (g .horizontal)) (scaledSize (g .horizontal)) hor) (twoOf (baseSize (g .horizontal)) (scaledSize (g .horizontal)) hor)
-  unfolding namedAt stepOf
+  pub columns-are : columnsOf (originAt g column row) ≡ columnsRead (fOf (baseSize (g .horizontal)) (scaledSize (g .horizontal)) hor) (twoOf (baseSize (g .horizontal)) (scaledSize (g .horizontal)) hor)
+  unfolding originAt stepOf
   columns-are = ap (columnsRead _) (class-columns _ _)
 
-  pub rows-are : rowsOf (namedAt g column row) ≡ columnsRead (fOf (baseSize (g .vertical)) (scaledSize (g .vertical)) ver) (twoOf (baseSize (g .vertical)) (scaledSize (g .vertical)) ver)
-  unfolding namedAt stepOf
+  pub rows-are : rowsOf (originAt g column row) ≡ columnsRead (fOf (baseSize (g .vertical)) (scaledSize (g .vertical)) ver) (twoOf (baseSize (g .vertical)) (scaledSize (g .vertical)) ver)
+  unfolding originAt stepOf
   rows-are = ap (columnsRead _) (class-rows (twoOf (baseSize (g .horizontal)) (scaledSize (g .horizontal)) hor) _)
 
   module _ (h : Inside (baseSize (g .horizontal)) (scaledSize (g .horizontal)) hor) (v : Inside (baseSize (g .vertical)) (scaledSize (g .vertical)) ver) where
     -- the columns and rows that are named lie inside the base
-    pub column-below : {x : ℕ} → List·Memᴰ x (columnsOf (namedAt g column row)) → x < macroblocks (baseSize (g .horizontal))
+    pub column-below : {x : ℕ} → List·Memᴰ x (columnsOf (originAt g column row)) → x < macroblocks (baseSize (g .horizontal))
     column-below m = named-below _ _ _ h (rw columns-are at m)
 
-    pub row-below : {y : ℕ} → List·Memᴰ y (rowsOf (namedAt g column row)) → y < macroblocks (baseSize (g .vertical))
+    pub row-below : {y : ℕ} → List·Memᴰ y (rowsOf (originAt g column row)) → y < macroblocks (baseSize (g .vertical))
     row-below m = named-below _ _ _ v (rw rows-are at m)
 
     -- every block reads a macroblock that is named
-    pub address-named : (i : ℕ) → i < 16 → List·Memᴰ (addressRead g column row i) (addressesOf g (namedAt g column row))
+    pub address-named : (i : ℕ) → i < 16 → List·Memᴰ (addressRead g column row i) (addressesOf g (originAt g column row))
     unfolding addressRead addressesOf stepOf
     address-named i l =
         let x : i % 4 < 4 = omega arith in
         let y : i / 4 < 4 = omega arith in
-        for-member (λ r. map (λ c. baseAddress g c r) (columnsOf (namedAt g column row))) (rowsOf (namedAt g column row))
+        for-member (λ r. map (λ c. baseAddress g c r) (columnsOf (originAt g column row))) (rowsOf (originAt g column row))
         (rw (rows-are, four-at (coordinateOf (baseSize (g .vertical)) (scaledSize (g .vertical)) ver) 0 (i / 4) y) (read-named _ _ _ v (i / 4) y))
-        (Memᴰ·map (λ c. baseAddress g c _) {l = columnsOf (namedAt g column row)}
+        (Memᴰ·map (λ c. baseAddress g c _) {l = columnsOf (originAt g column row)}
         (rw (columns-are, four-at (coordinateOf (baseSize (g .horizontal)) (scaledSize (g .horizontal)) hor) 0 (i % 4) x) (read-named _ _ _ h (i % 4) x)))
 
     -- and each macroblock that is named has an address of the base
-    pub address-below : {a : ℕ} → List·Memᴰ a (addressesOf g (namedAt g column row)) → a < macroblocks (baseSize (g .horizontal)) * macroblocks (baseSize (g .vertical))
+    pub address-below : {a : ℕ} → List·Memᴰ a (addressesOf g (originAt g column row)) → a < macroblocks (baseSize (g .horizontal)) * macroblocks (baseSize (g .vertical))
     unfolding addressesOf
     address-below {a} m =
-        let r = member-for (λ r. map (λ c. baseAddress g c r) (columnsOf (namedAt g column row))) (rowsOf (namedAt g column row)) m in
-        let c = Memᴰ·of-map (λ c. baseAddress g c (r .0)) (columnsOf (namedAt g column row)) (r .2) in
+        let r = member-for (λ r. map (λ c. baseAddress g c r) (columnsOf (originAt g column row))) (rowsOf (originAt g column row)) m in
+        let c = Memᴰ·of-map (λ c. baseAddress g c (r .0)) (columnsOf (originAt g column row)) (r .2) in
         let width = macroblocks (baseSize (g .horizontal)) in
         let x : c .0 < width = column-below (c .1) in
         let y : r .0 < macroblocks (baseSize (g .vertical)) = row-below (r .1) in

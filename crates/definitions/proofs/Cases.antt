@@ -21,14 +21,15 @@ use Rattle.definitions.specs.Basics.{pick, allBelow, allOf, upTo}
 use Rattle.definitions.specs.Geometry.{axesOf, fullSize, macroblocks, insideAxis, mOf, nOf, fOf, twoOf, columnsRead}
 use Rattle.definitions.specs.BlockMap.{digitsOf, coordinateOf, stepOf, addressRead, blockRead}
 use Rattle.definitions.specs.Splits.{sameMotion, samePrediction, alike, oneEach, fewestIn}
-use Rattle.definitions.specs.Record.{recordWords, recordAt, wellFormed, motionOf, splitSaid, rule1, rule2, rule3, rule4, rule5, rule6, firstBroken, laidOut}
+use Rattle.definitions.specs.Record.{recordWords, recordAt, wellFormed, motionOf, splitSaid, rule1, rule2, rule3, rule4, rule5, rule6, firstBroken, narrow, laidOut}
 use Rattle.definitions.specs.Inheriting.{setOf, intraSet, gathered, source, clearOf, filled, lower, lowest, having, mergedList, merged, someOf, liveOf, copiedFrom, copied, resolved, scaledPrediction, scaledMotion, inheritedMotions}
-use Rattle.definitions.specs.Answer.{namedAt, answerOf, addressesOf, writtenFor, madeOf}
-use Rattle.definitions.specs.Refusals.{geometryTests, geometryVerdict, baseCount, recordTests, addressesRead}
-use Rattle.definitions.specs.Calls.{Outcome, macroblockTests, macroblockCall, fullCount, pictureTests, madeAt, countsOf, pictureCall}
+use Rattle.definitions.specs.Answer.{originAt, answerOf, addressesOf, writtenFor, madeOf}
+use Rattle.definitions.specs.Refusals.{geometryTests, geometryVerdict, recordTests, addressesRead}
+use Rattle.definitions.specs.Calls.{Outcome, macroblockTests, macroblockCall, pictureTests, madeAt, countsOf, pictureCall}
 use Rattle.definitions.specs.Demand3.{SinglyGives}
 use Rattle.definitions.specs.Examples.{centred, intraRecord, wholeRecord, onlyLast, allButLast, wholeCase}
-use Rattle.definitions.specs.Cases.{blank, Concrete, first, doubledRecord, outsideRecord, counts, Cases}
+use Rattle.definitions.specs.Cases.{blank, Concrete, fromZero, doubledRecord, outsideRecord, threeCounts, Cases}
+use Rattle.definitions.specs.Raster.{baseCount, fullCount}
 use Rattle.definitions.proofs.Choices.{below-true}
 use Rattle.definitions.proofs.Demand.{call-accepted, gives-made, counted-accepted, record-made, demand3}
 use Rattle.definitions.proofs.Singly.{picture-by-singly}
@@ -37,47 +38,47 @@ use Rattle.definitions.proofs.Singly.{picture-by-singly}
 concrete : (n : Numbers) (column row : ℕ) (base : List ℤ) (answer : Answer) (written : List ℤ) (counts : Counts)
     → geometryVerdict n ≡ Accepted
     → length base ≡ recordWords * baseCount (axesOf n)
-    → allBelow (baseCount (axesOf n)) (λ a. wellFormed (recordAt base a)) ≡ true
+    → allBelow (baseCount (axesOf n)) (λ a. wellFormed narrow (recordAt base a)) ≡ true
     → ltb column (macroblocks (fullSize (axesOf n .horizontal))) ≡ true
     → ltb row (macroblocks (fullSize (axesOf n .vertical))) ≡ true
-    → SinglyGives n column row (blank 1) base answer written
-    → pictureCall n base (blank (fullCount (axesOf n))) .reply ≡ Counted counts
+    → SinglyGives narrow n column row (blank 1) base answer written
+    → pictureCall narrow n base (blank (fullCount (axesOf n))) .reply ≡ Counted counts
     → Concrete n column row base answer written counts
 concrete n column row base answer written counts accepted size formed x y singly counted =
     let words = blank (fullCount (axesOf n)) in
     let within-x = ltb-true column _ x in
     let within-y = ltb-true row _ y in
     let replied = ap (λ (o : Outcome MacroblockReply). o .reply) singly in
-    let given = gives-made n column row (blank 1) base (call-accepted n base (pos column) (pos row) (blank 1) answer replied) in
-    let there = record-made n words base column row within-x within-y (counted-accepted n words base counts counted) in
+    let given = gives-made narrow n column row (blank 1) base (call-accepted narrow n base (pos column) (pos row) (blank 1) answer replied) in
+    let there = record-made narrow n words base column row within-x within-y (counted-accepted narrow n words base counts counted) in
     record {
       case = record {
         geometry = accepted;
         base-length = size;
-        formed = below-true (baseCount (axesOf n)) (λ a. wellFormed (recordAt base a)) formed;
+        formed = below-true (baseCount (axesOf n)) (λ a. wellFormed narrow (recordAt base a)) formed;
         column-within = within-x;
         row-within = within-y;
       };
       singly = singly;
       picture = record { counts = counts; accepted = counted; answered = replied; at-address = there ∙ ap (λ (o : Outcome MacroblockReply). o .words) (sym given ∙ singly) };
-      counted = refl;
+      picture-counts = refl;
     }
 
 -- ---- what computes: the whole case, and the starred macroblock with base 0, 1 and 2 intra and with only base 3 intra
 pub record Computed : Type 0 where
-  pub whole-formed : allBelow 1 (λ a. wellFormed (recordAt wholeRecord a)) ≡ true
-  pub whole-first : SinglyGives wholeCase 0 0 (blank 1) wholeRecord (Inherited (first Corner) S16x16) doubledRecord
-  pub whole-outside : SinglyGives wholeCase 2 0 (blank 1) wholeRecord Outside outsideRecord
-  pub whole-counted : pictureCall wholeCase wholeRecord (blank 6) .reply ≡ Counted (counts 4 0 2)
-  pub filled-formed : allBelow 4 (λ a. wellFormed (recordAt onlyLast a)) ≡ true
-  pub filled-center : SinglyGives centred 1 1 (blank 1) onlyLast (Inherited (first Center) S16x16) wholeRecord
-  pub filled-counted : pictureCall centred onlyLast (blank 16) .reply ≡ Counted (counts 1 0 15)
-  pub intra-formed : allBelow 4 (λ a. wellFormed (recordAt allButLast a)) ≡ true
-  pub intra-center : SinglyGives centred 1 1 (blank 1) allButLast (Intra (first Center)) intraRecord
-  pub intra-counted : pictureCall centred allButLast (blank 16) .reply ≡ Counted (counts 0 1 15)
+  pub whole-formed : allBelow 1 (λ a. wellFormed narrow (recordAt wholeRecord a)) ≡ true
+  pub whole-first : SinglyGives narrow wholeCase 0 0 (blank 1) wholeRecord (Inherited (fromZero Corner) S16x16) doubledRecord
+  pub whole-outside : SinglyGives narrow wholeCase 2 0 (blank 1) wholeRecord Outside outsideRecord
+  pub whole-counted : pictureCall narrow wholeCase wholeRecord (blank 6) .reply ≡ Counted (threeCounts 4 0 2)
+  pub filled-formed : allBelow 4 (λ a. wellFormed narrow (recordAt onlyLast a)) ≡ true
+  pub filled-center : SinglyGives narrow centred 1 1 (blank 1) onlyLast (Inherited (fromZero Center) S16x16) wholeRecord
+  pub filled-counted : pictureCall narrow centred onlyLast (blank 16) .reply ≡ Counted (threeCounts 1 0 15)
+  pub intra-formed : allBelow 4 (λ a. wellFormed narrow (recordAt allButLast a)) ≡ true
+  pub intra-center : SinglyGives narrow centred 1 1 (blank 1) allButLast (Intra (fromZero Center)) intraRecord
+  pub intra-counted : pictureCall narrow centred allButLast (blank 16) .reply ≡ Counted (threeCounts 0 1 15)
 
 pub computed : Computed
-unfolding allOf allBelow pick upTo insideAxis mOf nOf fOf twoOf columnsRead digitsOf coordinateOf stepOf addressRead blockRead sameMotion samePrediction alike oneEach fewestIn recordAt motionOf splitSaid rule1 rule2 rule3 rule4 rule5 rule6 firstBroken laidOut setOf intraSet gathered source clearOf filled lower lowest having mergedList merged someOf liveOf copiedFrom copied resolved scaledPrediction scaledMotion inheritedMotions namedAt answerOf addressesOf writtenFor madeOf geometryTests recordTests addressesRead macroblockTests macroblockCall ones onesIn pictureTests madeAt countsOf pictureCall
+unfolding allOf allBelow pick upTo insideAxis mOf nOf fOf twoOf columnsRead digitsOf coordinateOf stepOf addressRead blockRead sameMotion samePrediction alike oneEach fewestIn recordAt motionOf splitSaid rule1 rule2 rule3 rule4 rule5 rule6 firstBroken laidOut setOf intraSet gathered source clearOf filled lower lowest having mergedList merged someOf liveOf copiedFrom copied resolved scaledPrediction scaledMotion inheritedMotions originAt answerOf addressesOf writtenFor madeOf geometryTests recordTests addressesRead macroblockTests macroblockCall ones onesIn pictureTests madeAt countsOf pictureCall
 computed = record {
   whole-formed = refl;
   whole-first = refl;
@@ -96,8 +97,8 @@ unfolding pick upTo laidOut geometryTests
 cases = record {
   inherited = concrete wholeCase 0 0 wholeRecord _ _ _ refl refl (computed .whole-formed) refl refl (computed .whole-first) (computed .whole-counted);
   outside = concrete wholeCase 2 0 wholeRecord _ _ _ refl refl (computed .whole-formed) refl refl (computed .whole-outside) (computed .whole-counted);
-  others = λ base l. demand3 .singly wholeCase 2 0 (blank 1) wholeRecord Outside outsideRecord (computed .whole-outside) .others base l (λ a m. absurd (List·Memᴰ·not-nil m));
-  by-calls = picture-by-singly wholeCase wholeRecord (blank 6) (counts 4 0 2) (λ a. blank 1) (computed .whole-counted) (λ a h. refl);
-  filled = concrete centred 1 1 onlyLast _ _ _ refl refl (computed .filled-formed) refl refl (computed .filled-center) (computed .filled-counted);
+  others = λ base l. demand3 narrow .singly wholeCase 2 0 (blank 1) wholeRecord Outside outsideRecord (computed .whole-outside) .others base l (λ a m. absurd (List·Memᴰ·not-nil m));
+  by-calls = picture-by-singly narrow wholeCase wholeRecord (blank 6) (threeCounts 4 0 2) (λ a. blank 1) (computed .whole-counted) (λ a h. refl);
+  filled-there = concrete centred 1 1 onlyLast _ _ _ refl refl (computed .filled-formed) refl refl (computed .filled-center) (computed .filled-counted);
   intra = concrete centred 1 1 allButLast _ _ _ refl refl (computed .intra-formed) refl refl (computed .intra-center) (computed .intra-counted);
 }

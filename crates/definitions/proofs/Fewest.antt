@@ -15,8 +15,9 @@ use Rattle.definitions.specs.declared.SubSplits.{SubSplits}
 use Rattle.definitions.specs.declared.Split.{Split}
 use Rattle.definitions.specs.declared.Split.the-variants.{S16x16, S16x8, S8x16, S8x8 as Quarters}
 use Rattle.definitions.specs.Basics.{pick, allOf}
-use Rattle.definitions.specs.Splits.{sameMotion, inQuadrant, subPieces, pieces, alike, oneEach, subCount, count, splits, sixteenPieces, fewer, fewestIn}
+use Rattle.definitions.specs.Splits.{sameMotion, subPieces, pieces, alike, oneEach, subCount, count, splits, sixteenPieces, fewer, fewestIn}
 use Rattle.definitions.specs.Inheriting.{zeroMotion, at, motionAt, chosen}
+use Rattle.definitions.specs.Blocks.{inQuadrant}
 use Rattle.definitions.proofs.Choices.{yes, pick-cases, both-true, and-intro}
 use Rattle.definitions.proofs.Motions.{motion-true, motion-same}
 use Rattle.definitions.proofs.Pieces.{split-cases, all-listed}

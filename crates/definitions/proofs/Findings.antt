@@ -12,8 +12,10 @@ use Rattle.definitions.specs.declared.Refusal.{Refusal}
 use Rattle.definitions.specs.declared.Verdict.{Verdict}
 use Rattle.definitions.specs.declared.Verdict.the-variants.{Accepted, Refused}
 use Rattle.definitions.specs.Geometry.{axesOf}
-use Rattle.definitions.specs.Refusals.{refusal, verdictOf, geometryTests, geometryVerdict, baseCount, recordTests, allAddresses}
+use Rattle.definitions.specs.Record.{narrow}
+use Rattle.definitions.specs.Refusals.{refusal, verdictOf, geometryTests, geometryVerdict, recordTests, allAddresses}
 use Rattle.definitions.specs.Log.{programTests}
+use Rattle.definitions.specs.Raster.{baseCount}
 use Rattle.definitions.proofs.Choices.{yes, no}
 use Rattle.definitions.proofs.Verdicts.{then-verdict, refused-first, given-by}
 use Rattle.definitions.proofs.RecordLists.{records-give, member-index}
@@ -29,7 +31,7 @@ module _ (n : Numbers) (lines : ℕ) (base : List ℤ) where
     unfolding programTests
     count-wrong d = then-verdict (geometryTests n) _ accepted ∙ yes _ _ (ap not (ne-eqb _ _ d))
 
-    pub count-right : lines ≡ baseCount (axesOf n) → verdictOf (programTests n lines base) ≡ verdictOf (recordTests base (allAddresses (axesOf n)))
+    pub count-right : lines ≡ baseCount (axesOf n) → verdictOf (programTests n lines base) ≡ verdictOf (recordTests narrow base (allAddresses (axesOf n)))
     unfolding programTests
     count-right e = then-verdict (geometryTests n) _ accepted ∙ no _ _ (ap not (eq-eqb _ _ e))
 
@@ -53,7 +55,7 @@ module _ (lines : ℕ) where
     by-count a true e v =
         let same = eqb-true _ _ e in
         let records = allAddresses (axesOf n) in
-        given-by (RefusedBy lines) (recordTests base records) (records-give (RefusedBy lines) base records (λ x m. let l = member-index (baseCount (axesOf n)) x m in by-record (omega arith))) r
+        given-by (RefusedBy lines) (recordTests narrow base records) (records-give narrow (RefusedBy lines) base records (λ x m. let l = member-index (baseCount (axesOf n)) x m in by-record (omega arith))) r
         (sym (count-right n lines base a same) ∙ v)
     by-count a false e v =
         let five : Refused (refusal 5) ≡ Refused r = sym (count-wrong n lines base a (eqb-false _ _ e)) ∙ v in

@@ -18,9 +18,9 @@ use Rattle.definitions.specs.declared.Refusal.{Refusal}
 use Rattle.definitions.specs.Basics.{pick, upTo, forEach}
 use Rattle.definitions.specs.Splits.{subCount}
 use Rattle.definitions.specs.Answer.{answerType}
-use Rattle.definitions.specs.Calls.{fullCount}
 use Rattle.definitions.specs.Text.{Digit, All, none, each, valued, Plain, nought, digits}
 use Rattle.definitions.specs.Log.{digitsIn, decimal, lineOf, mbWord, syncWord, answerPieces, macroblockLine, syncLine, pictureLines, refusedLine}
+use Rattle.definitions.specs.Raster.{fullCount}
 use Rattle.definitions.proofs.Choices.{yes, no}
 
 -- ---- Numbers in decimal

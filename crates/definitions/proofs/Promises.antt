@@ -10,7 +10,7 @@ use lib.Dec.{T, ltb, lit<}
 use lib.IntN.{ℤ, pos}
 use lib.ListN.{getD, take}
 use Rattle.definitions.specs.declared.Axes.{Axes}
-use Rattle.definitions.specs.declared.Named.{Named}
+use Rattle.definitions.specs.declared.Origin.{Origin}
 use Rattle.definitions.specs.declared.Motion.{Motion}
 use Rattle.definitions.specs.declared.Split.{Split}
 use Rattle.definitions.specs.declared.Split.the-variants.{S16x16, S16x8, S8x16, S8x8 as Quarters}
@@ -18,11 +18,12 @@ use Rattle.definitions.specs.declared.Answer.{Answer}
 use Rattle.definitions.specs.declared.Answer.the-variants.{Outside, Intra, Inherited}
 use Rattle.definitions.specs.Accepted.{Inside}
 use Rattle.definitions.specs.Geometry.{baseSize, scaledSize, cOf, sampleOf, macroblocks, inside}
-use Rattle.definitions.specs.Splits.{quadrantOf, rasterOf, oneEach, count}
-use Rattle.definitions.specs.Record.{motionOf, typeNumber}
+use Rattle.definitions.specs.Splits.{oneEach, count}
+use Rattle.definitions.specs.Record.{motionOf, typeNumber, allOne}
 use Rattle.definitions.specs.Inheriting.{intraSet, gathered, resolved, at, motionAt, scaledPrediction, scaledMotion, inheritedMotions, chosen}
-use Rattle.definitions.specs.Answer.{answerClass, answerColumn, answerRow, columnsNamed, rowsNamed, subTypes, unusedMotion, writtenFor}
-use Rattle.definitions.specs.Demand3.{namedByPaper}
+use Rattle.definitions.specs.Answer.{answerOrigin, columnsNamed, rowsNamed, subTypes, dividedBy, unusedMotion, writtenFor}
+use Rattle.definitions.specs.Demand3.{originByPaper}
+use Rattle.definitions.specs.Blocks.{quadrantOf, rasterOf}
 use Rattle.definitions.proofs.Choices.{yes, no}
 use Rattle.definitions.proofs.Answers.{Decided, is-outside, is-intra, is-inherited}
 use Rattle.definitions.proofs.Addresses.{column-below, row-below}
@@ -48,19 +49,19 @@ module _ (g : Axes) (base : List ℤ) (column row : ℕ) where
   motions = inheritedMotions g base column row
 
   -- class, first column and row
-  pub named-right : {answer : Answer} → Decided g base column row answer → record { class = answerClass answer; column = answerColumn answer; row = answerRow answer } ≡ namedByPaper g column row
-  named-right (is-outside e) = sym (no _ _ e)
-  named-right (is-intra e m) = sym (yes _ _ e)
-  named-right (is-inherited e m) = sym (yes _ _ e)
+  pub origin-right : {answer : Answer} → Decided g base column row answer → answerOrigin answer ≡ originByPaper g column row
+  origin-right (is-outside e) = sym (no _ _ e)
+  origin-right (is-intra e m) = sym (yes _ _ e)
+  origin-right (is-inherited e m) = sym (yes _ _ e)
 
   -- the sort
-  pub inherited-when : {answer : Answer} → Decided g base column row answer → ((n : Named) × (s : Split) × (answer ≡ Inherited n s)) ↔ ((inside g column row ≡ true) × (ones set ≤ 8))
+  pub inherited-when : {answer : Answer} → Decided g base column row answer → ((o : Origin) × (s : Split) × (answer ≡ Inherited o s)) ↔ ((inside g column row ≡ true) × (ones set ≤ 8))
   unfolding sort
   inherited-when (is-outside e) = (λ w. absurd (other-sort (w .2) (λ q. omega arith)), λ w. absurd (true≢false (sym (w .0) ∙ e)))
   inherited-when (is-intra e m) = (λ w. absurd (other-sort (w .2) (λ q. omega arith)), λ w. absurd (omega (arith, m, w .1)))
   inherited-when (is-inherited e m) = (λ w. (e, m), λ w. (_, _, refl))
 
-  pub intra-when : {answer : Answer} → Decided g base column row answer → ((n : Named) × (answer ≡ Intra n)) ↔ ((inside g column row ≡ true) × (9 ≤ ones set))
+  pub intra-when : {answer : Answer} → Decided g base column row answer → ((o : Origin) × (answer ≡ Intra o)) ↔ ((inside g column row ≡ true) × (9 ≤ ones set))
   unfolding sort
   intra-when (is-outside e) = (λ w. absurd (other-sort (w .1) (λ q. omega arith)), λ w. absurd (true≢false (sym (w .0) ∙ e)))
   intra-when (is-intra e m) = (λ w. (e, m), λ w. (_, refl))
@@ -75,12 +76,12 @@ module _ (g : Axes) (base : List ℤ) (column row : ℕ) where
   -- the written record outside
   pub nothing-written : {answer : Answer} → Decided g base column row answer → inside g column row ≡ false → (i : ℕ) → i < 16 → motionOf (writtenFor answer motions) i ≡ unusedMotion
   unfolding writtenFor
-  nothing-written (is-outside e) w = λ i h. laid-motion 5 (λ q. 0) (λ b. unusedMotion) i h refl refl
+  nothing-written (is-outside e) w = λ i h. laid-motion (allOne 5 unusedMotion) i h refl refl
   nothing-written (is-intra e m) w = λ i h. absurd (true≢false (sym e ∙ w))
   nothing-written (is-inherited e m) w = λ i h. absurd (true≢false (sym e ∙ w))
 
   -- inherited, the split is the one that is chosen
-  split-chosen : {answer : Answer} → Decided g base column row answer → (n : Named) (s : Split) → answer ≡ Inherited n s → s ≡ chosen motions
+  split-chosen : {answer : Answer} → Decided g base column row answer → (o : Origin) (s : Split) → answer ≡ Inherited o s → s ≡ chosen motions
   unfolding sort
   split-chosen (is-outside e) n s q = absurd (other-sort q (λ r. omega arith))
   split-chosen (is-intra e m) n s q = absurd (other-sort q (λ r. omega arith))
@@ -106,13 +107,13 @@ module _ (g : Axes) (base : List ℤ) (column row : ℕ) where
           (sym (s .one0 k (lit< y)), sym (s .one1 k (lit< y)))
 
   -- inherited, each block read back from the written record has the motion that map and steps fix;
-  pub motions-written : {answer : Answer} → (n : Named) (s : Split) → answer ≡ Inherited n s → (i : ℕ) → i < 16 → motionOf (writtenFor answer motions) i ≡ motionAt motions i
+  pub motions-written : {answer : Answer} → (o : Origin) (s : Split) → answer ≡ Inherited o s → (i : ℕ) → i < 16 → motionOf (writtenFor answer motions) i ≡ motionAt motions i
   unfolding writtenFor
   motions-written n s q i h =
-      ap (λ (a : Answer). motionOf (writtenFor a motions) i) q ∙ laid-motion (typeNumber s) (λ k. getD (subTypes s) k 0) (motionAt motions) i h (shared i h .0) (shared i h .1)
+      ap (λ (a : Answer). motionOf (writtenFor a motions) i) q ∙ laid-motion (dividedBy s (motionAt motions)) i h (shared i h .0) (shared i h .1)
 
   -- one motion in each piece, and every other split with one motion in each has more pieces;
-  pub fewest-written : {answer : Answer} → Decided g base column row answer → (n : Named) (s : Split) → answer ≡ Inherited n s → Fewest (motionOf (writtenFor answer motions)) s
+  pub fewest-written : {answer : Answer} → Decided g base column row answer → (o : Origin) (s : Split) → answer ≡ Inherited o s → Fewest (motionOf (writtenFor answer motions)) s
   fewest-written {answer} d n s q =
       let f = chosen-fewest motions in
       let e = split-chosen d n s q in
@@ -123,10 +124,10 @@ module _ (g : Axes) (base : List ℤ) (column row : ℕ) where
       }
 
   -- and the first five words say the split
-  pub split-written : {answer : Answer} → (n : Named) (s : Split) → answer ≡ Inherited n s → take 5 (writtenFor answer motions) ≡ pos (typeNumber s) ∷ map pos (subTypes s)
+  pub split-written : {answer : Answer} → (o : Origin) (s : Split) → answer ≡ Inherited o s → take 5 (writtenFor answer motions) ≡ pos (typeNumber s) ∷ map pos (subTypes s)
   unfolding writtenFor
   split-written n s q =
-      ap (λ (a : Answer). take 5 (writtenFor a motions)) q ∙ (laid-types (typeNumber s) (λ k. getD (subTypes s) k 0) (motionAt motions) ∙ types-are s)
+      ap (λ (a : Answer). take 5 (writtenFor a motions)) q ∙ (laid-types (dividedBy s (motionAt motions)) ∙ types-are s)
     where
       types-are : (s : Split)
           → pos (typeNumber s) ∷ pos (getD (subTypes s) 0 0) ∷ pos (getD (subTypes s) 1 0) ∷ pos (getD (subTypes s) 2 0) ∷ pos (getD (subTypes s) 3 0) ∷ []

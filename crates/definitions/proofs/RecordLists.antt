@@ -19,24 +19,24 @@ use Rattle.definitions.proofs.Choices.{no}
 use Rattle.definitions.proofs.Verdicts.{first-passed, EachGives}
 
 -- ---- the tests of some records are passed exactly when each is well formed
-pub all-formed : (base : List ℤ) (addresses : List ℕ) → verdictOf (recordTests base addresses) ≡ Accepted → (a : ℕ) → List·Memᴰ a addresses → wellFormed (recordAt base a) ≡ true
+pub all-formed : (limit : ℕ) (base : List ℤ) (addresses : List ℕ) → verdictOf (recordTests limit base addresses) ≡ Accepted → (a : ℕ) → List·Memᴰ a addresses → wellFormed limit (recordAt base a) ≡ true
 unfolding recordTests
-all-formed base [] v a m = absurd (List·Memᴰ·not-nil m)
-all-formed base (b ∷ rest) v a m =
-    let h = first-passed (recordTest base b) (recordTests base rest) v in
-    ⊎-elim (λ e. ap (λ (c : ℕ). wellFormed (recordAt base c)) e ∙ not-false (wellFormed (recordAt base b)) (h .0)) (λ t. all-formed base rest (h .1) a t) (List·Memᴰ·cases-cons m)
+all-formed limit base [] v a m = absurd (List·Memᴰ·not-nil m)
+all-formed limit base (b ∷ rest) v a m =
+    let h = first-passed (recordTest limit base b) (recordTests limit base rest) v in
+    ⊎-elim (λ e. ap (λ (c : ℕ). wellFormed limit (recordAt base c)) e ∙ not-false (wellFormed limit (recordAt base b)) (h .0)) (λ t. all-formed limit base rest (h .1) a t) (List·Memᴰ·cases-cons m)
 
-pub formed-all : (base : List ℤ) (addresses : List ℕ) → ((a : ℕ) → List·Memᴰ a addresses → wellFormed (recordAt base a) ≡ true) → verdictOf (recordTests base addresses) ≡ Accepted
+pub formed-all : (limit : ℕ) (base : List ℤ) (addresses : List ℕ) → ((a : ℕ) → List·Memᴰ a addresses → wellFormed limit (recordAt base a) ≡ true) → verdictOf (recordTests limit base addresses) ≡ Accepted
 unfolding recordTests
-formed-all base [] f = refl
-formed-all base (b ∷ rest) f =
-    no _ _ (ap not (f b (List·Memᴰ·head refl))) ∙ formed-all base rest (λ a m. f a (List·Memᴰ·tail m))
+formed-all limit base [] f = refl
+formed-all limit base (b ∷ rest) f =
+    no _ _ (ap not (f b (List·Memᴰ·head refl))) ∙ formed-all limit base rest (λ a m. f a (List·Memᴰ·tail m))
 
 -- what holds of what each record's test gives
-pub records-give : (P : Refusal → Type 0) (base : List ℤ) (addresses : List ℕ) → ((a : ℕ) → List·Memᴰ a addresses → P (recordTest base a .gives)) → EachGives P (recordTests base addresses)
+pub records-give : (limit : ℕ) (P : Refusal → Type 0) (base : List ℤ) (addresses : List ℕ) → ((a : ℕ) → List·Memᴰ a addresses → P (recordTest limit base a .gives)) → EachGives P (recordTests limit base addresses)
 unfolding recordTests
-records-give P base [] h = tt
-records-give P base (a ∷ rest) h = (h a (List·Memᴰ·head refl), records-give P base rest (λ b m. h b (List·Memᴰ·tail m)))
+records-give limit P base [] h = tt
+records-give limit P base (a ∷ rest) h = (h a (List·Memᴰ·head refl), records-give limit P base rest (λ b m. h b (List·Memᴰ·tail m)))
 
 -- ---- the members of f 0, f 1, .. f (n−1), and of 0, 1, .. n−1
 pub index-member : (n a : ℕ) → a < n → List·Memᴰ a (upTo n (λ k. k))

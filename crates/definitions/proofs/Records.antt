@@ -8,9 +8,9 @@ use lib.IntN.{ℤ, pos}
 use lib.ListN.{length, getD, take, drop, replicate, length-take, length-drop}
 use Rattle.definitions.specs.declared.Motion.{Motion}
 use Rattle.definitions.specs.Basics.{upTo}
-use Rattle.definitions.specs.Splits.{quadrantOf, inQuadrant, rasterOf}
-use Rattle.definitions.specs.Record.{recordWords, recordAt, typeOf, subTypeOf, referenceOf, vectorXOf, vectorYOf, motionOf, laidOut}
+use Rattle.definitions.specs.Record.{recordWords, recordAt, typeOf, subTypeOf, referenceOf, vectorXOf, vectorYOf, motionOf, Contents, laidOut, allOne}
 use Rattle.definitions.specs.Inheriting.{at, motionAt}
+use Rattle.definitions.specs.Blocks.{quadrantOf, inQuadrant, rasterOf}
 use Rattle.definitions.proofs.Choices.{each}
 
 -- ---- Blocks
@@ -34,8 +34,8 @@ module _ (q k : ℕ) (hq : q < 4) (hk : k < 4) where
   pub raster-quadrant : quadrantOf (rasterOf q k) ≡ q
   raster-quadrant = in-square (λ i j. quadrantOf (rasterOf i j) ≡ i) (each _ (refl, refl, refl, refl) (refl, refl, refl, refl) (refl, refl, refl, refl) (refl, refl, refl, refl))
 
-  pub raster-place : inQuadrant (rasterOf q k) ≡ k
-  raster-place = in-square (λ i j. inQuadrant (rasterOf i j) ≡ j) (each _ (refl, refl, refl, refl) (refl, refl, refl, refl) (refl, refl, refl, refl) (refl, refl, refl, refl))
+  pub raster-within : inQuadrant (rasterOf q k) ≡ k
+  raster-within = in-square (λ i j. inQuadrant (rasterOf i j) ≡ j) (each _ (refl, refl, refl, refl) (refl, refl, refl, refl) (refl, refl, refl, refl) (refl, refl, refl, refl))
 
   pub raster-below : rasterOf q k < 16
   raster-below =
@@ -44,7 +44,7 @@ module _ (q k : ℕ) (hq : q < 4) (hk : k < 4) where
       omega arith
 
   pub raster-motion : (m : List (List Motion)) → motionAt m (rasterOf q k) ≡ at m q k
-  raster-motion m = λ i. at m (raster-quadrant i) (raster-place i)
+  raster-motion m = λ i. at m (raster-quadrant i) (raster-within i)
 
 pub raster-is : (b : ℕ) → b < 16 → rasterOf (quadrantOf b) (inQuadrant b) ≡ b
 raster-is =
@@ -75,31 +75,31 @@ unfolding motionOf
 motion-is r b m refs vecs =
     λ i. record { list0 = record { reference = refs .0 i; x = vecs .0 i; y = vecs .1 i }; list1 = record { reference = refs .1 i; x = vecs .2 i; y = vecs .3 i } }
 
-module _ (type : ℕ) (sub : ℕ → ℕ) (m : ℕ → Motion) where
-  pub laid-length : length (laidOut type sub m) ≡ recordWords
+module _ (c : Contents) where
+  pub laid-length : length (laidOut c) ≡ recordWords
   unfolding laidOut upTo
   laid-length = refl
 
-  pub laid-types : take 5 (laidOut type sub m) ≡ pos type ∷ pos (sub 0) ∷ pos (sub 1) ∷ pos (sub 2) ∷ pos (sub 3) ∷ []
+  pub laid-types : take 5 (laidOut c) ≡ pos (c .kind) ∷ pos (c .sub 0) ∷ pos (c .sub 1) ∷ pos (c .sub 2) ∷ pos (c .sub 3) ∷ []
   unfolding laidOut upTo
   laid-types = refl
 
-  pub laid-type : typeOf (laidOut type sub m) ≡ pos type
+  pub laid-type : typeOf (laidOut c) ≡ pos (c .kind)
   unfolding laidOut
   laid-type = refl
 
-  pub laid-sub-type : (q : ℕ) → q < 4 → subTypeOf (laidOut type sub m) q ≡ pos (sub q)
+  pub laid-sub-type : (q : ℕ) → q < 4 → subTypeOf (laidOut c) q ≡ pos (c .sub q)
   unfolding laidOut upTo
-  laid-sub-type = each (λ q. subTypeOf (laidOut type sub m) q ≡ pos (sub q)) refl refl refl refl
+  laid-sub-type = each (λ q. subTypeOf (laidOut c) q ≡ pos (c .sub q)) refl refl refl refl
 
-  pub laid-references : (q : ℕ) → q < 4 → References (laidOut type sub m) q (m (rasterOf q 0))
+  pub laid-references : (q : ℕ) → q < 4 → References (laidOut c) q (c .motion (rasterOf q 0))
   unfolding laidOut upTo
-  laid-references = each (λ q. References (laidOut type sub m) q (m (rasterOf q 0))) (refl, refl) (refl, refl) (refl, refl) (refl, refl)
+  laid-references = each (λ q. References (laidOut c) q (c .motion (rasterOf q 0))) (refl, refl) (refl, refl) (refl, refl) (refl, refl)
 
-  pub laid-vectors : (b : ℕ) → b < 16 → Vectors (laidOut type sub m) b (m b)
+  pub laid-vectors : (b : ℕ) → b < 16 → Vectors (laidOut c) b (c .motion b)
   unfolding laidOut upTo
   laid-vectors =
-      each16 (λ b. Vectors (laidOut type sub m) b (m b))
+      each16 (λ b. Vectors (laidOut c) b (c .motion b))
       (refl, refl, refl, refl) (refl, refl, refl, refl) (refl, refl, refl, refl) (refl, refl, refl, refl)
       (refl, refl, refl, refl) (refl, refl, refl, refl) (refl, refl, refl, refl) (refl, refl, refl, refl)
       (refl, refl, refl, refl) (refl, refl, refl, refl) (refl, refl, refl, refl) (refl, refl, refl, refl)
@@ -109,14 +109,15 @@ module _ (type : ℕ) (sub : ℕ → ℕ) (m : ℕ → Motion) where
   pub laid-motion :
       (b : ℕ) →
       b < 16 →
-      m (rasterOf (quadrantOf b) 0) .list0 .reference ≡ m b .list0 .reference →
-      m (rasterOf (quadrantOf b) 0) .list1 .reference ≡ m b .list1 .reference →
-      motionOf (laidOut type sub m) b ≡ m b
+      c .motion (rasterOf (quadrantOf b) 0) .list0 .reference ≡ c .motion b .list0 .reference →
+      c .motion (rasterOf (quadrantOf b) 0) .list1 .reference ≡ c .motion b .list1 .reference →
+      motionOf (laidOut c) b ≡ c .motion b
   laid-motion b h e f =
       let refs = laid-references (quadrantOf b) (omega arith) in
-      motion-is (laidOut type sub m) b (m b) (refs .0 ∙ e, refs .1 ∙ f) (laid-vectors b h)
+      motion-is (laidOut c) b (c .motion b) (refs .0 ∙ e, refs .1 ∙ f) (laid-vectors b h)
 
--- of four quadrants of four blocks, all with one motion
-pub laid-alike : (type : ℕ) (m : Motion) → laidOut type (λ q. getD (replicate 4 0) q 0) (motionAt (replicate 4 (replicate 4 m))) ≡ laidOut type (λ q. 0) (λ b. m)
+-- of four quadrants of four blocks, all with one motion, and no sub-types
+pub laid-alike : (kind : ℕ) (m : Motion)
+    → laidOut (record { kind = kind; sub = λ q. getD (replicate 4 0) q 0; motion = motionAt (replicate 4 (replicate 4 m)) }) ≡ laidOut (allOne kind m)
 unfolding laidOut upTo
-laid-alike type m = refl
+laid-alike kind m = refl

@@ -17,12 +17,12 @@ use Rattle.definitions.specs.declared.MacroblockReply.the-variants.{Refu
 use Rattle.definitions.specs.declared.PictureReply.the-variants.{Refused as NotMade}
 use Rattle.definitions.specs.Basics.{allOf, upTo, forEach}
 use Rattle.definitions.specs.Geometry.{axesOf, baseSize, macroblocks, inside, columnsRead}
-use Rattle.definitions.specs.Record.{recordAt, wellFormed}
-use Rattle.definitions.specs.BlockMap.{baseAddress}
-use Rattle.definitions.specs.Answer.{namedAt, columnsOf, rowsOf, addressesOf}
+use Rattle.definitions.specs.Record.{recordAt, wellFormed, narrow}
+use Rattle.definitions.specs.Answer.{originAt, columnsOf, rowsOf, addressesOf}
 use Rattle.definitions.specs.Refusals.{Test, verdictOf, geometryTests, geometryVerdict, baseTest, outputTest, positionTest, recordTest, recordTests, addressesRead, allAddresses, LowestMalformed, Rising, RecordsJudged}
-use Rattle.definitions.specs.Calls.{macroblockTests, macroblockCall, fullCount, pictureTests, pictureCall, LowestRefused}
+use Rattle.definitions.specs.Calls.{macroblockTests, macroblockCall, pictureTests, pictureCall, LowestRefused}
 use Rattle.definitions.specs.Log.{linesTest, programTests, LowestInProgram}
+use Rattle.definitions.specs.Raster.{baseAddress, fullCount}
 use Rattle.definitions.proofs.Choices.{yes, no, pick-cases}
 use Rattle.definitions.proofs.Verdicts.{refused-later, reply-refused}
 use Rattle.definitions.proofs.Accepted.{accepted-axes, across-inside, down-inside}
@@ -30,29 +30,29 @@ use Rattle.definitions.proofs.RecordLists.{all-formed, formed-all, memb
 use Rattle.definitions.proofs.Addresses.{member-for, columns-are, rows-are, column-below}
 
 -- ---- the first malformed record of a rising list is its lowest
-refused-lowest : (base : List ℤ) (addresses : List ℕ) → Rising addresses → (r : Refusal) → verdictOf (recordTests base addresses) ≡ Refused r → LowestMalformed base addresses r
+refused-lowest : (limit : ℕ) (base : List ℤ) (addresses : List ℕ) → Rising addresses → (r : Refusal) → verdictOf (recordTests limit base addresses) ≡ Refused r → LowestMalformed limit base addresses r
 unfolding recordTests
-refused-lowest base [] rise r e = absurd (let z : _≡_ {A = ℕ} 0 1 = cc in omega arith)
-refused-lowest base (a ∷ rest) rise r e = by (wellFormed (recordAt base a)) refl (refused-lowest base rest (rise .1) r)
+refused-lowest limit base [] rise r e = absurd (let z : _≡_ {A = ℕ} 0 1 = cc in omega arith)
+refused-lowest limit base (a ∷ rest) rise r e = by (wellFormed limit (recordAt base a)) refl (refused-lowest limit base rest (rise .1) r)
   where
-    by : (b : Bool) → wellFormed (recordAt base a) ≡ b → (verdictOf (recordTests base rest) ≡ Refused r → LowestMalformed base rest r) → LowestMalformed base (a ∷ rest) r
+    by : (b : Bool) → wellFormed limit (recordAt base a) ≡ b → (verdictOf (recordTests limit base rest) ≡ Refused r → LowestMalformed limit base rest r) → LowestMalformed limit base (a ∷ rest) r
     by true w later =
         let l = later (sym (no _ _ (ap not w)) ∙ e) in
         record {
           number = l .number;
           checked = List·Memᴰ·tail (l .checked);
           malformed = l .malformed;
-          lowest = λ c m f. ⊎-elim (λ p. absurd (false≢true (sym f ∙ (ap (λ (k : ℕ). wellFormed (recordAt base k)) p ∙ w)))) (λ t. l .lowest c t f) (List·Memᴰ·cases-cons m);
+          none-lower = λ c m f. ⊎-elim (λ p. absurd (false≢true (sym f ∙ (ap (λ (k : ℕ). wellFormed limit (recordAt base k)) p ∙ w)))) (λ t. l .none-lower c t f) (List·Memᴰ·cases-cons m);
           rule = l .rule;
         }
     by false w later =
-        let p : recordTest base a .gives ≡ r = cc (sym (yes _ _ (ap not w)) ∙ e) in
-        subst (λ (q : Refusal). LowestMalformed base (a ∷ rest) q) p
+        let p : recordTest limit base a .gives ≡ r = cc (sym (yes _ _ (ap not w)) ∙ e) in
+        subst (λ (q : Refusal). LowestMalformed limit base (a ∷ rest) q) p
         (record {
           number = refl;
           checked = List·Memᴰ·head refl;
           malformed = w;
-          lowest = λ c m f. ⊎-elim (λ q. omega arith) (λ t. omega (arith, rise .0 c t)) (List·Memᴰ·cases-cons m);
+          none-lower = λ c m f. ⊎-elim (λ q. omega arith) (λ t. omega (arith, rise .0 c t)) (List·Memᴰ·cases-cons m);
           rule = refl;
         })
 
@@ -106,7 +106,7 @@ rising-read : (n : Numbers) (column row : ℕ) → geometryVerdict n ≡ Accepte
 unfolding addressesRead addressesOf
 rising-read n column row accepted =
     let g = axesOf n in
-    let named = namedAt g column row in
+    let named = originAt g column row in
     let axes = accepted-axes n accepted in
     pick-cases Rising (inside g column row) (addressesOf g named) []
     (λ e. rising-raster g (rowsOf named) (columnsOf named)
@@ -115,43 +115,43 @@ rising-read n column row accepted =
     (λ c m. column-below g column row (across-inside g column row axes e) (down-inside g column row axes e) m))
     (λ e. tt)
 
-pub records-judged : RecordsJudged
-records-judged = record {
-  accepted = λ base addresses. (all-formed base addresses, formed-all base addresses);
-  refused = refused-lowest;
+pub records-judged : (limit : ℕ) → RecordsJudged limit
+records-judged limit = record {
+  accepted = λ base addresses. (all-formed limit base addresses, formed-all limit base addresses);
+  refused = refused-lowest limit;
   all-rise = λ g. rising-upTo _ _ (λ i j h k. omega arith);
   read-rise = rising-read;
 }
 
 -- ---- in the calls
-pub declined : (n : Numbers) (base : List ℤ) (column row : ℤ) (words : List ℤ) (r : Refusal) → macroblockCall n base column row words .reply ≡ Declined r
-    → verdictOf (macroblockTests n base column row words) ≡ Refused r
+pub declined : (limit : ℕ) (n : Numbers) (base : List ℤ) (column row : ℤ) (words : List ℤ) (r : Refusal) → macroblockCall limit n base column row words .reply ≡ Declined r
+    → verdictOf (macroblockTests limit n base column row words) ≡ Refused r
 unfolding macroblockCall
-declined n base column row words r e = reply-refused _ Declined words _ r (λ q p. cc) (λ p. let z : _≡_ {A = ℕ} 0 1 = cc in omega arith) e
+declined limit n base column row words r e = reply-refused _ Declined words _ r (λ q p. cc) (λ p. let z : _≡_ {A = ℕ} 0 1 = cc in omega arith) e
 
-not-made : (n : Numbers) (base words : List ℤ) (r : Refusal) → pictureCall n base words .reply ≡ NotMade r → verdictOf (pictureTests n base words) ≡ Refused r
+not-made : (limit : ℕ) (n : Numbers) (base words : List ℤ) (r : Refusal) → pictureCall limit n base words .reply ≡ NotMade r → verdictOf (pictureTests limit n base words) ≡ Refused r
 unfolding pictureCall
-not-made n base words r e = reply-refused _ NotMade words _ r (λ q p. cc) (λ p. let z : _≡_ {A = ℕ} 0 1 = cc in omega arith) e
+not-made limit n base words r e = reply-refused _ NotMade words _ r (λ q p. cc) (λ p. let z : _≡_ {A = ℕ} 0 1 = cc in omega arith) e
 
 -- the tests of the geometry, others that do not give 8, and those of records
-lowest-behind : (n : Numbers) (base : List ℤ) (xs : List Test) (addresses : List ℕ) (r : Refusal) → allOf (λ t. not (eqb (t .gives .number) 8)) xs ≡ true
-    → (geometryVerdict n ≡ Accepted → Rising addresses) → r .number ≡ 8 → verdictOf (geometryTests n ++ (xs ++ recordTests base addresses)) ≡ Refused r
-    → LowestMalformed base addresses r
+lowest-behind : (limit : ℕ) (n : Numbers) (base : List ℤ) (xs : List Test) (addresses : List ℕ) (r : Refusal) → allOf (λ t. not (eqb (t .gives .number) 8)) xs ≡ true
+    → (geometryVerdict n ≡ Accepted → Rising addresses) → r .number ≡ 8 → verdictOf (geometryTests n ++ (xs ++ recordTests limit base addresses)) ≡ Refused r
+    → LowestMalformed limit base addresses r
 unfolding geometryTests allOf
-lowest-behind n base xs addresses r others rise eight e =
-    let first = refused-later 8 (geometryTests n) (xs ++ recordTests base addresses) r refl eight e in
-    refused-lowest base addresses (rise (first .0)) r (refused-later 8 xs (recordTests base addresses) r others eight (first .1) .1)
+lowest-behind limit n base xs addresses r others rise eight e =
+    let first = refused-later 8 (geometryTests n) (xs ++ recordTests limit base addresses) r refl eight e in
+    refused-lowest limit base addresses (rise (first .0)) r (refused-later 8 xs (recordTests limit base addresses) r others eight (first .1) .1)
 
-pub lowest-refused : LowestRefused
+pub lowest-refused : (limit : ℕ) → LowestRefused limit
 unfolding macroblockTests pictureTests allOf
-lowest-refused = record {
+lowest-refused limit = record {
   singly = λ n base column row words r e eight.
       let g = axesOf n in
-      lowest-behind n base (baseTest g base ∷ outputTest 1 words ∷ positionTest g column row ∷ []) (addressesRead g (natAbs column) (natAbs row)) r refl
-      (rising-read n (natAbs column) (natAbs row)) eight (declined n base column row words r e);
+      lowest-behind limit n base (baseTest g base ∷ outputTest 1 words ∷ positionTest g column row ∷ []) (addressesRead g (natAbs column) (natAbs row)) r refl
+      (rising-read n (natAbs column) (natAbs row)) eight (declined limit n base column row words r e);
   picture = λ n base words r e eight.
       let g = axesOf n in
-      lowest-behind n base (baseTest g base ∷ outputTest (fullCount g) words ∷ []) (allAddresses g) r refl (λ v. records-judged .all-rise g) eight (not-made n base words r e);
+      lowest-behind limit n base (baseTest g base ∷ outputTest (fullCount g) words ∷ []) (allAddresses g) r refl (λ v. records-judged limit .all-rise g) eight (not-made limit n base words r e);
 }
 
 -- ---- and in the program
@@ -159,4 +159,4 @@ pub lowest-in-program : LowestInProgram
 unfolding programTests allOf
 lowest-in-program n lines base r e eight =
     let g = axesOf n in
-    lowest-behind n base (linesTest g lines ∷ []) (allAddresses g) r refl (λ v. records-judged .all-rise g) eight e
+    lowest-behind narrow n base (linesTest g lines ∷ []) (allAddresses g) r refl (λ v. records-judged narrow .all-rise g) eight e

@@ -12,7 +12,7 @@ use Rattle.definitions.specs.Geometry.{inside}
 use Rattle.definitions.specs.BlockMap.{addressRead, blockRead}
 use Rattle.definitions.specs.Record.{recordAt, isIntra, motionOf}
 use Rattle.definitions.specs.Inheriting.{setOf, intraSet, mostlyIntra, gathered, resolved, at, scaledMotion, inheritedMotions, chosen}
-use Rattle.definitions.specs.Answer.{namedAt, answerOf, writtenFor, madeOf}
+use Rattle.definitions.specs.Answer.{originAt, answerOf, writtenFor, madeOf}
 use Rattle.definitions.proofs.Choices.{four-same}
 
 -- sets of the same members
@@ -49,7 +49,7 @@ module _ (g : Axes) (base other : List ℤ) (column row : ℕ) (agree : (i : ℕ
   unfolding answerOf
   same-answer = λ i.
       pick (inside g column row)
-      (pick (mostlyIntra (same-set i)) (Intra (namedAt g column row)) (Inherited (namedAt g column row) (chosen (same-inherited i))))
+      (pick (mostlyIntra (same-set i)) (Intra (originAt g column row)) (Inherited (originAt g column row) (chosen (same-inherited i))))
       Outside
 
   pub same-made : madeOf g other column row ≡ madeOf g base column row

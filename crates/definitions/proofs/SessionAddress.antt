@@ -15,9 +15,11 @@ use Rattle.definitions.specs.declared.MacroblockReply.{MacroblockReply}
 use Rattle.definitions.specs.declared.MacroblockReply.the-variants.{Answered, Refused as Declined}
 use Rattle.definitions.specs.Basics.{pick, allOf}
 use Rattle.definitions.specs.Geometry.{axesOf}
+use Rattle.definitions.specs.Record.{narrow}
 use Rattle.definitions.specs.Refusals.{geometryVerdict}
-use Rattle.definitions.specs.Calls.{macroblockCall, fullCount, columnAt, rowAt, noCounts, countsOf, sumOf}
+use Rattle.definitions.specs.Calls.{macroblockCall, noCounts, countsOf, sumOf}
 use Rattle.definitions.specs.Session.{Call, begin, next, abandon, totals, State, fresh, begun, totalsOf, finished, unfinished, beginVerdict, abandonVerdict, nextCall, Exchange, beginGave, nextGave, abandonGave, totalsGave, exchange, ifAccepted, advanced, stateNext, exchanges, stateAfter, accepts, startsAnew, noneAnew, geometryIf, geometryBy, geometrySince, geometryAfter, madeSince, madeAfter, AddressRight, sound}
+use Rattle.definitions.specs.Raster.{fullCount, columnAt, rowAt}
 use Rattle.definitions.proofs.Choices.{yes, no, both-true}
 use Rattle.definitions.proofs.Sessions.{totals-right, next-going, next-over, sound-parts, only-sound}
 
@@ -117,10 +119,10 @@ module _ (calls : List Call) where
     unfinished-after k = ne-eqb (sumOf counts) (fullCount (axesOf n)) (λ p. omega (arith, totals-right .sum calls))
 
     next-at : madeAfter calls < fullCount (axesOf n) → (base words : List ℤ)
-        → nextCall (begun n counts) base words ≡ macroblockCall n base (pos (columnAt (axesOf n) (madeAfter calls))) (pos (rowAt (axesOf n) (madeAfter calls))) words
+        → nextCall (begun n counts) base words ≡ macroblockCall narrow n base (pos (columnAt (axesOf n) (madeAfter calls))) (pos (rowAt (axesOf n) (madeAfter calls))) words
     next-at k base words =
         next-going n counts base words (unfinished-after k)
-        ∙ ap (λ (a : ℕ). macroblockCall n base (pos (columnAt (axesOf n) a)) (pos (rowAt (axesOf n) a)) words) (totals-right .sum calls)
+        ∙ ap (λ (a : ℕ). macroblockCall narrow n base (pos (columnAt (axesOf n) a)) (pos (rowAt (axesOf n) a)) words) (totals-right .sum calls)
 
 -- where no picture is unfinished, begin is judged by its geometry alone
 free-begin : (s : State) (m : Numbers) → unfinished s ≡ false → beginVerdict s m ≡ geometryVerdict m

@@ -13,11 +13,12 @@ use Rattle.definitions.specs.declared.Verdict.the-variants.{Accepted}
 use Rattle.definitions.specs.declared.MacroblockReply.the-variants.{Answered}
 use Rattle.definitions.specs.Basics.{upTo, forEach}
 use Rattle.definitions.specs.Geometry.{axesOf}
-use Rattle.definitions.specs.Record.{recordWords}
+use Rattle.definitions.specs.Record.{recordWords, narrow}
 use Rattle.definitions.specs.Answer.{Made}
 use Rattle.definitions.specs.Refusals.{geometryVerdict}
-use Rattle.definitions.specs.Calls.{callAt, fullCount, madeAt, noCounts, countsOf, sumOf}
+use Rattle.definitions.specs.Calls.{callAt, madeAt, noCounts, countsOf, sumOf}
 use Rattle.definitions.specs.Session.{Call, begin, next, totals, State, begun, finished, unfinished, callAtNext, beginVerdict, Exchange, beginGave, nextGave, totalsGave, exchange, stateBy, stateNext, exchanges, stateAfter, nextMade, wordsAfter, PictureBySession}
+use Rattle.definitions.specs.Raster.{fullCount}
 use Rattle.definitions.proofs.Choices.{no}
 use Rattle.definitions.proofs.RecordLists.{each-same}
 use Rattle.definitions.proofs.Counting.{counts-more, counts-sum}
@@ -47,7 +48,7 @@ module _ (s : State) (n : Numbers) (free : unfinished s ≡ false) (accepted : g
   begins-state = ap (stateBy s) begins
 
 -- ---- next
-module _ (n : Numbers) (base words : List ℤ) (lent : ℕ → List ℤ) (p : Passed n words base) (l : (a : ℕ) → a < fullCount (axesOf n) → length (lent a) ≡ recordWords) where
+module _ (n : Numbers) (base words : List ℤ) (lent : ℕ → List ℤ) (p : Passed narrow n words base) (l : (a : ℕ) → a < fullCount (axesOf n) → length (lent a) ≡ recordWords) where
   abbrev g : Axes
   g = axesOf n
 
@@ -65,7 +66,7 @@ module _ (n : Numbers) (base words : List ℤ) (lent : ℕ → List ℤ) (p : Pa
   at k = begun n (countsOf (upTo k made))
 
   answers-at : (k : ℕ) → k < fullCount g → callAtNext (at k) base (lent k) ≡ record { reply = Answered (made k .answer); words = made k .written }
-  answers-at k h = ap (λ (a : ℕ). callAt n base a (lent k)) (counts-sum k made) ∙ call-gives n base words p k h (lent k) (l k h)
+  answers-at k h = ap (λ (a : ℕ). callAt narrow n base a (lent k)) (counts-sum k made) ∙ call-gives narrow n base words p k h (lent k) (l k h)
 
   going-on : (k : ℕ) → k < fullCount g → finished (at k) ≡ false
   going-on k h = ne-eqb (sumOf (countsOf (upTo k made))) (fullCount g) (λ e. omega (arith, counts-sum k made))
@@ -109,16 +110,16 @@ pub picture-by-session : PictureBySession
 unfolding exchange
 picture-by-session s n base words counts lent free e l =
     let g = axesOf n in
-    let v = counted-accepted n words base counts e in
-    let p = passed n words base v in
+    let v = counted-accepted narrow n words base counts e in
+    let p = passed narrow n words base v in
     let total = fullCount g in
     let made = madeAt g base in
     let gaveAfter = gives-from n base words lent p l s free total (omega arith) in
     let state = state-from n base words lent p l s free total (omega arith) in
-    let same : countsOf (upTo total made) ≡ counts = cc (sym (counted-made n words base v) ∙ e) in
+    let same : countsOf (upTo total made) ≡ counts = cc (sym (counted-made narrow n words base v) ∙ e) in
     record {
       accepted = gaveAfter;
-      words-same = ap (λ (x : List Exchange). forEach x wordsAfter) gaveAfter ∙ (each-same (given n base words lent p l) made wordsAfter (λ m. m .written) (λ k. refl) total ∙ sym (picture-words n words base v));
+      words-same = ap (λ (x : List Exchange). forEach x wordsAfter) gaveAfter ∙ (each-same (given n base words lent p l) made wordsAfter (λ m. m .written) (λ k. refl) total ∙ sym (picture-words narrow n words base v));
       totals-same = ap (λ (t : State). exchange t totals) state ∙ ap totalsGave same;
       finished-then = ap finished state ∙ eq-eqb (sumOf (countsOf (upTo total made))) total (counts-sum total made);
       unfinished-before = λ k h. ap unfinished (state-from n base words lent p l s free k (omega arith)) ∙ ap not (going-on n base words lent p l k h);

@@ -14,9 +14,11 @@ use Rattle.definitions.specs.declared.MacroblockReply.{MacroblockReply}
 use Rattle.definitions.specs.declared.MacroblockReply.the-variants.{Refused as Declined}
 use Rattle.definitions.specs.Basics.{pick}
 use Rattle.definitions.specs.Geometry.{axesOf, fullSize}
+use Rattle.definitions.specs.Record.{narrow}
 use Rattle.definitions.specs.Refusals.{refusal, verdictOf, geometryTests, geometryVerdict, baseTest, outputTest, positionTest, recordTests, addressesRead}
-use Rattle.definitions.specs.Calls.{Outcome, macroblockTests, macroblockCall, fullCount, columnAt, rowAt, sumOf}
+use Rattle.definitions.specs.Calls.{Outcome, macroblockTests, macroblockCall, sumOf}
 use Rattle.definitions.specs.Session.{State, fresh, begun, finished, nextCall, stateAfter, sound, refusesNext, NextRefusals}
+use Rattle.definitions.specs.Raster.{fullCount, columnAt, rowAt}
 use Rattle.definitions.proofs.Choices.{no, and-intro}
 use Rattle.definitions.proofs.Verdicts.{then-verdict, given-by}
 use Rattle.definitions.proofs.RecordLists.{records-give}
@@ -31,18 +33,18 @@ ByThese r = List·Memᴰ (r .number) refusesNext
 
 -- the one-macroblock call at an address of an accepted geometry
 call-these : (n : Numbers) (base words : List ℤ) (address : ℕ) → geometryVerdict n ≡ Accepted → address < fullCount (axesOf n)
-    → (r : Refusal) → verdictOf (macroblockTests n base (pos (columnAt (axesOf n) address)) (pos (rowAt (axesOf n) address)) words) ≡ Refused r → ByThese r
+    → (r : Refusal) → verdictOf (macroblockTests narrow n base (pos (columnAt (axesOf n) address)) (pos (rowAt (axesOf n) address)) words) ≡ Refused r → ByThese r
 unfolding macroblockTests
 call-these n base words address v h r e =
     let g = axesOf n in
     let column = columnAt g address in
     let row = rowAt g address in
-    let records = recordTests base (addressesRead g column row) in
-    let place = positionTest g (pos column) (pos row) in
-    let inside : place .applies ≡ false = ap not (and-intro (within (fullSize (g .horizontal)) column (column-within n v address)) (within (fullSize (g .vertical)) row (row-within n v address h))) in
+    let records = recordTests narrow base (addressesRead g column row) in
+    let position = positionTest g (pos column) (pos row) in
+    let inside : position .applies ≡ false = ap not (and-intro (within (fullSize (g .horizontal)) column (column-within n v address)) (within (fullSize (g .vertical)) row (row-within n v address h))) in
     let eight : ByThese (refusal 8) = List·Memᴰ·tail (List·Memᴰ·tail (List·Memᴰ·tail (List·Memᴰ·tail (List·Memᴰ·head refl)))) in
     given-by ByThese (baseTest g base ∷ outputTest 1 words ∷ records)
-    (List·Memᴰ·tail (List·Memᴰ·tail (List·Memᴰ·head refl)), (List·Memᴰ·tail (List·Memᴰ·tail (List·Memᴰ·tail (List·Memᴰ·head refl))), records-give ByThese base (addressesRead g column row) (λ a m. eight))) r
+    (List·Memᴰ·tail (List·Memᴰ·tail (List·Memᴰ·head refl)), (List·Memᴰ·tail (List·Memᴰ·tail (List·Memᴰ·tail (List·Memᴰ·head refl))), records-give narrow ByThese base (addressesRead g column row) (λ a m. eight))) r
     (ap (λ (u : Verdict). pick (baseTest g base .applies) (Refused (refusal 5)) (pick (outputTest 1 words .applies) (Refused (refusal 6)) u)) (sym (no _ _ inside)) ∙ (sym (then-verdict (geometryTests n) _ v) ∙ e))
 
 state-these : (s : State) → sound s ≡ true → (base words : List ℤ) (r : Refusal) → nextCall s base words .reply ≡ Declined r → ByThese r
@@ -59,7 +61,7 @@ state-these (begun n c) h base words r e = by (finished (begun n c)) refl
         let other = eqb-false (sumOf c) (fullCount (axesOf n)) f in
         let room : sumOf c < fullCount (axesOf n) = omega (arith, held .1) in
         call-these n base words (sumOf c) (held .0) room r
-        (declined n base _ _ words r (sym (ap (λ (o : Outcome MacroblockReply). o .reply) (next-going n c base words f)) ∙ e))
+        (declined narrow n base _ _ words r (sym (ap (λ (o : Outcome MacroblockReply). o .reply) (next-going n c base words f)) ∙ e))
 
 pub next-refusals : NextRefusals
 next-refusals calls base words r = state-these (stateAfter fresh calls) (only-sound calls) base words r

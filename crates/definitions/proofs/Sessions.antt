@@ -18,8 +18,9 @@ use Rattle.definitions.specs.Basics.{pick, allOf, forEach}
 use Rattle.definitions.specs.Geometry.{axesOf}
 use Rattle.definitions.specs.Answer.{Made}
 use Rattle.definitions.specs.Refusals.{refusal, verdictOf, geometryTests, geometryVerdict}
-use Rattle.definitions.specs.Calls.{Outcome, byVerdict, fullCount, counted, noCounts, countsOf, sumOf}
+use Rattle.definitions.specs.Calls.{Outcome, byVerdict, counted, noCounts, countsOf, sumOf}
 use Rattle.definitions.specs.Session.{Call, begin, next, abandon, totals, State, fresh, begun, totalsOf, finished, onwardTests, beginTests, beginVerdict, abandonVerdict, callAtNext, nextCall, Exchange, totalsGave, exchange, ifAccepted, advanced, stateNext, exchanges, stateAfter, accepts, startsAnew, noneAnew, since, answeredWith, madeIn, madeSince, TotalsRight, sound, OnlySound}
+use Rattle.definitions.specs.Raster.{fullCount}
 use Rattle.definitions.proofs.Choices.{yes, no, both-true, and-intro, and-no}
 use Rattle.definitions.proofs.Verdicts.{both-passed}
 use Rattle.definitions.proofs.Counting.{counted-last, counted-sum, counts-length}

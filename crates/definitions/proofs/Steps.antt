@@ -15,20 +15,20 @@ use borrow.Author.Tests.{eqb-true, ltb-true, not-true, not-false}
 use Rattle.definitions.specs.declared.Prediction.{Prediction}
 use Rattle.definitions.specs.declared.Motion.{Motion}
 use Rattle.definitions.specs.Basics.{minus, eqZ, four}
-use Rattle.definitions.specs.Splits.{rasterOf}
 use Rattle.definitions.specs.Record.{used}
-use Rattle.definitions.specs.Inheriting.{marked, zeroPrediction, zeroMotion, at, horizontal, vertical, diagonal, source, clearOf, filled, lower, referenceAt, lowest, having, withReference, unused, mergedList, merged, someOf, liveOf, copiedFrom, copied, resolved}
+use Rattle.definitions.specs.Inheriting.{marked, zeroPrediction, zeroMotion, at, source, clearOf, filled, lower, referenceAt, lowest, having, withReference, unused, mergedList, merged, someOf, liveOf, copiedFrom, copied, resolved}
+use Rattle.definitions.specs.Blocks.{rasterOf, horizontalNeighbour, verticalNeighbour, diagonalNeighbour}
 use Rattle.definitions.proofs.Choices.{yes, no, pick-cases, either-true, or-left, or-right, both-false, eqZ-true, eqZ-refl, each, four-at, four-same}
 
 -- ---- neighbours
-pub horizontal-below : (k : ℕ) → k < 4 → horizontal k < 4
-horizontal-below = each (λ k. horizontal k < 4) (omega arith) (omega arith) (omega arith) (omega arith)
+pub horizontal-below : (k : ℕ) → k < 4 → horizontalNeighbour k < 4
+horizontal-below = each (λ k. horizontalNeighbour k < 4) (omega arith) (omega arith) (omega arith) (omega arith)
 
-pub vertical-below : (k : ℕ) → k < 4 → vertical k < 4
-vertical-below = each (λ k. vertical k < 4) (omega arith) (omega arith) (omega arith) (omega arith)
+pub vertical-below : (k : ℕ) → k < 4 → verticalNeighbour k < 4
+vertical-below = each (λ k. verticalNeighbour k < 4) (omega arith) (omega arith) (omega arith) (omega arith)
 
-pub diagonal-below : (k : ℕ) → k < 4 → diagonal k < 4
-diagonal-below = each (λ k. diagonal k < 4) (omega arith) (omega arith) (omega arith) (omega arith)
+pub diagonal-below : (k : ℕ) → k < 4 → diagonalNeighbour k < 4
+diagonal-below = each (λ k. diagonalNeighbour k < 4) (omega arith) (omega arith) (omega arith) (omega arith)
 
 -- The source of a place is one of the four places, and it is good if any of the four is.
 source-below : (g : List Bool) (k : ℕ) → k < 4 → source g k < 4
@@ -44,10 +44,10 @@ none-good : (g : List Bool) → getD g 0 false ≡ false → getD g 1 false ≡ 
 unfolding someOf
 none-good g a b c d = rw (a, b, c, d)
 
-none-near : (g : List Bool) (k : ℕ) → k < 4 → getD g k false ≡ false → getD g (horizontal k) false ≡ false
-    → getD g (vertical k) false ≡ false → getD g (diagonal k) false ≡ false → someOf g ≡ false
+none-near : (g : List Bool) (k : ℕ) → k < 4 → getD g k false ≡ false → getD g (horizontalNeighbour k) false ≡ false
+    → getD g (verticalNeighbour k) false ≡ false → getD g (diagonalNeighbour k) false ≡ false → someOf g ≡ false
 none-near g =
-    each (λ k. getD g k false ≡ false → getD g (horizontal k) false ≡ false → getD g (vertical k) false ≡ false → getD g (diagonal k) false ≡ false → someOf g ≡ false)
+    each (λ k. getD g k false ≡ false → getD g (horizontalNeighbour k) false ≡ false → getD g (verticalNeighbour k) false ≡ false → getD g (diagonalNeighbour k) false ≡ false → someOf g ≡ false)
     (λ a b c d. none-good g a b c d) (λ a b c d. none-good g b a d c) (λ a b c d. none-good g c d a b) (λ a b c d. none-good g d c b a)
 
 source-good : (g : List Bool) → someOf g ≡ true → (k : ℕ) → k < 4 → getD g (source g k) false ≡ true
@@ -339,13 +339,13 @@ not-dead true n = refl
 not-dead false n = absurd (n refl)
 
 -- the quadrant that is copied is not all intra, unless q and both its neighbours are
-copied-live : (live : List Bool) (q : ℕ) → (getD live q false ≡ false → getD live (horizontal q) false ≡ false → getD live (vertical q) false ≡ false → ⊥)
+copied-live : (live : List Bool) (q : ℕ) → (getD live q false ≡ false → getD live (horizontalNeighbour q) false ≡ false → getD live (verticalNeighbour q) false ≡ false → ⊥)
     → getD live (copiedFrom live q) false ≡ true
 unfolding copiedFrom
 copied-live live q n =
     let Live : ℕ → Type 0 = λ j. getD live j false ≡ true in
     pick-cases Live _ _ _ (λ t. t)
-    (λ a. pick-cases Live _ _ _ (λ t. t) (λ b. not-dead (getD live (vertical q) false) (n a b)))
+    (λ a. pick-cases Live _ _ _ (λ t. t) (λ b. not-dead (getD live (verticalNeighbour q) false) (n a b)))
 
 -- steps 1 and 2 of quadrant q
 abbrev quadrant : ℕ → List (List Motion) → ℕ → List Motion
@@ -418,12 +418,12 @@ all-marked set q e =
 
 -- three quadrants all intra are twelve blocks
 module _ (set : ℕ) (fits : set < 65536) (few : ones set ≤ 8) where
-  live-near : (q : ℕ) → q < 4 → getD (liveOf set) q false ≡ false → getD (liveOf set) (horizontal q) false ≡ false → getD (liveOf set) (vertical q) false ≡ false → ⊥
+  live-near : (q : ℕ) → q < 4 → getD (liveOf set) q false ≡ false → getD (liveOf set) (horizontalNeighbour q) false ≡ false → getD (liveOf set) (verticalNeighbour q) false ≡ false → ⊥
   unfolding liveOf
   live-near =
       let sum = by-quadrants set fits in
       let all = all-marked set in
-      each (λ q. getD (liveOf set) q false ≡ false → getD (liveOf set) (horizontal q) false ≡ false → getD (liveOf set) (vertical q) false ≡ false → ⊥)
+      each (λ q. getD (liveOf set) q false ≡ false → getD (liveOf set) (horizontalNeighbour q) false ≡ false → getD (liveOf set) (verticalNeighbour q) false ≡ false → ⊥)
       (λ a b c. omega (arith, sum, all 0 a, all 1 b, all 2 c)) (λ a b c. omega (arith, sum, all 1 a, all 0 b, all 3 c))
       (λ a b c. omega (arith, sum, all 2 a, all 3 b, all 0 c)) (λ a b c. omega (arith, sum, all 3 a, all 2 b, all 1 c))
 

@@ -13,7 +13,7 @@ use Rattle.definitions.specs.declared.Motion.{Motion}
 use Rattle.definitions.specs.declared.Refusal.{Refusal}
 use Rattle.definitions.specs.declared.TextReply.{TextReply}
 use Rattle.definitions.specs.declared.TextReply.the-variants.{Read, Refused}
-use Rattle.definitions.specs.Record.{recordWords, typeOf, subTypeOf, motionOf}
+use Rattle.definitions.specs.Record.{recordWords, typeOf, subTypeOf, motionOf, allOne}
 use Rattle.definitions.specs.Answer.{unusedMotion}
 use Rattle.definitions.specs.Text.{Belongs, CanGoOn, BreaksAt, intra, whole, wordsFor, TextAnswer, wrongWords, refused, given}
 use Rattle.definitions.proofs.Records.{laid-length, laid-type, laid-sub-type, laid-motion}
@@ -63,10 +63,10 @@ record Uniform (words : List ℤ) (type : ℕ) (m : Motion) : Type 0 where
 intra-words : (v : List ℤ) → Uniform (wordsFor intra v) 0 unusedMotion
 intra-words v =
     record {
-      many = laid-length 0 (λ q. 0) (λ b. unusedMotion);
-      type-is = laid-type 0 (λ q. 0) (λ b. unusedMotion);
-      sub-types = laid-sub-type 0 (λ q. 0) (λ b. unusedMotion);
-      motions = λ b h. laid-motion 0 (λ q. 0) (λ b. unusedMotion) b h refl refl;
+      many = laid-length (allOne 0 unusedMotion);
+      type-is = laid-type (allOne 0 unusedMotion);
+      sub-types = laid-sub-type (allOne 0 unusedMotion);
+      motions = λ b h. laid-motion (allOne 0 unusedMotion) b h refl refl;
     }
 
 whole-words : (r0 r1 x0 y0 x1 y1 : ℤ) →
@@ -75,8 +75,8 @@ whole-words : (r0 r1 x0 y0 x1 y1 : ℤ) →
 whole-words r0 r1 x0 y0 x1 y1 =
     let m : Motion = record { list0 = record { reference = r0; x = x0; y = y0 }; list1 = record { reference = r1; x = x1; y = y1 } } in
     record {
-      many = laid-length 1 (λ q. 0) (λ b. m);
-      type-is = laid-type 1 (λ q. 0) (λ b. m);
-      sub-types = laid-sub-type 1 (λ q. 0) (λ b. m);
-      motions = λ b h. laid-motion 1 (λ q. 0) (λ b. m) b h refl refl;
+      many = laid-length (allOne 1 m);
+      type-is = laid-type (allOne 1 m);
+      sub-types = laid-sub-type (allOne 1 m);
+      motions = λ b h. laid-motion (allOne 1 m) b h refl refl;
     }

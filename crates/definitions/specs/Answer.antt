@@ -6,7 +6,7 @@ use lib.IntN.{ℤ}
 use Rattle.definitions.specs.declared.Axes.{Axes}
 use Rattle.definitions.specs.declared.Class.{Class}
 use Rattle.definitions.specs.declared.Class.the-variants.{Corner, Vert, Hori, Center}
-use Rattle.definitions.specs.declared.Named.{Named}
+use Rattle.definitions.specs.declared.Origin.{Origin}
 use Rattle.definitions.specs.declared.Motion.{Motion}
 use Rattle.definitions.specs.declared.Split.{Split}
 use Rattle.definitions.specs.declared.Split.the-variants.{S16x16, S16x8, S8x16, S8x8 as Quarters}
@@ -14,14 +14,15 @@ use Rattle.definitions.specs.declared.Answer.{Answer}
 use Rattle.definitions.specs.declared.Answer.the-variants.{Outside, Intra, Inherited}
 use Rattle.definitions.specs.Basics.{pick, forEach}
 use Rattle.definitions.specs.Geometry.{inside, classOf, columnsRead, sampleOf}
-use Rattle.definitions.specs.BlockMap.{stepOf, baseAddress}
-use Rattle.definitions.specs.Record.{typeNumber, subTypeNumber, laidOut}
+use Rattle.definitions.specs.BlockMap.{stepOf}
+use Rattle.definitions.specs.Record.{Contents, typeNumber, subTypeNumber, laidOut, allOne}
 use Rattle.definitions.specs.Inheriting.{intraSet, mostlyIntra, inheritedMotions, motionAt, chosen, unused}
+use Rattle.definitions.specs.Raster.{baseAddress}
 use lib.ListN.{getD}
 
 -- The answer names class and first base column and row.
-unfoldable pub namedAt : Axes → ℕ → ℕ → Named
-namedAt g column row =
+unfoldable pub originAt : Axes → ℕ → ℕ → Origin
+originAt g column row =
     let h = stepOf (g .horizontal) (sampleOf column) in
     let v = stepOf (g .vertical) (sampleOf row) in
     record { class = classOf (h .two) (v .two); column = h .first; row = v .first }
@@ -31,30 +32,23 @@ unfoldable pub answerOf : Axes → List ℤ → ℕ → ℕ → Answer
 answerOf g base column row =
     pick (inside g column row)
     (pick (mostlyIntra (intraSet g base column row))
-    (Intra (namedAt g column row))
-    (Inherited (namedAt g column row) (chosen (inheritedMotions g base column row))))
+    (Intra (originAt g column row))
+    (Inherited (originAt g column row) (chosen (inheritedMotions g base column row))))
     Outside
 
--- Document 01's values for each case of the answer: its type, class, first base column and row (0 outside, class Corner)
+-- Document 01's values for each case of the answer: its type; class, first base column and row (0 outside, class Corner)
 abbrev pub answerType : Answer → ℕ
 answerType Outside = 5
-answerType (Intra n) = 0
-answerType (Inherited n s) = typeNumber s
+answerType (Intra o) = 0
+answerType (Inherited o s) = typeNumber s
 
-abbrev pub answerClass : Answer → Class
-answerClass Outside = Corner
-answerClass (Intra n) = n .class
-answerClass (Inherited n s) = n .class
+abbrev pub outsideOrigin : Origin
+outsideOrigin = record { class = Corner; column = 0; row = 0 }
 
-abbrev pub answerColumn : Answer → ℕ
-answerColumn Outside = 0
-answerColumn (Intra n) = n .column
-answerColumn (Inherited n s) = n .column
-
-abbrev pub answerRow : Answer → ℕ
-answerRow Outside = 0
-answerRow (Intra n) = n .row
-answerRow (Inherited n s) = n .row
+abbrev pub answerOrigin : Answer → Origin
+answerOrigin Outside = outsideOrigin
+answerOrigin (Intra o) = o
+answerOrigin (Inherited o s) = o
 
 -- The base macroblocks that an answer names are those that its class reads, from its first column and row on; outside there are none.
 abbrev pub twoColumns : Class → Bool
@@ -70,30 +64,30 @@ twoRows Hori = true
 twoRows Center = true
 
 -- its columns, and its rows
-abbrev pub columnsOf : Named → List ℕ
-columnsOf n = columnsRead (n .column) (twoColumns (n .class))
+abbrev pub columnsOf : Origin → List ℕ
+columnsOf o = columnsRead (o .column) (twoColumns (o .class))
 
-abbrev pub rowsOf : Named → List ℕ
-rowsOf n = columnsRead (n .row) (twoRows (n .class))
+abbrev pub rowsOf : Origin → List ℕ
+rowsOf o = columnsRead (o .row) (twoRows (o .class))
 
 -- their addresses, in raster order and so in rising order
-unfoldable pub addressesOf : Axes → Named → List ℕ
-addressesOf g n = forEach (rowsOf n) (λ row. map (λ column. baseAddress g column row) (columnsOf n))
+unfoldable pub addressesOf : Axes → Origin → List ℕ
+addressesOf g o = forEach (rowsOf o) (λ row. map (λ column. baseAddress g column row) (columnsOf o))
 
 abbrev pub columnsNamed : Answer → List ℕ
 columnsNamed Outside = []
-columnsNamed (Intra n) = columnsOf n
-columnsNamed (Inherited n s) = columnsOf n
+columnsNamed (Intra o) = columnsOf o
+columnsNamed (Inherited o s) = columnsOf o
 
 abbrev pub rowsNamed : Answer → List ℕ
 rowsNamed Outside = []
-rowsNamed (Intra n) = rowsOf n
-rowsNamed (Inherited n s) = rowsOf n
+rowsNamed (Intra o) = rowsOf o
+rowsNamed (Inherited o s) = rowsOf o
 
 abbrev pub addressesNamed : Axes → Answer → List ℕ
 addressesNamed g Outside = []
-addressesNamed g (Intra n) = addressesOf g n
-addressesNamed g (Inherited n s) = addressesOf g n
+addressesNamed g (Intra o) = addressesOf g o
+addressesNamed g (Inherited o s) = addressesOf g o
 
 -- Inherited, the written record is laid out as above, sub-types 0 unless type 4.
 abbrev pub subTypes : Split → List ℕ
@@ -102,17 +96,20 @@ subTypes S16x8 = 0 ∷ 0 ∷ 0 ∷ 0 ∷ []
 subTypes S8x16 = 0 ∷ 0 ∷ 0 ∷ 0 ∷ []
 subTypes (Quarters t) = subTypeNumber (t .a) ∷ subTypeNumber (t .b) ∷ subTypeNumber (t .c) ∷ subTypeNumber (t .d) ∷ []
 
+abbrev pub dividedBy : Split → (ℕ → Motion) → Contents
+dividedBy s m = record { kind = typeNumber s; sub = λ q. getD (subTypes s) q 0; motion = m }
+
 -- Otherwise it has type 0 for intra or 5 for outside, sub-types 0, references −1, vectors 0.
 abbrev pub unusedMotion : Motion
 unusedMotion = record { list0 = unused; list1 = unused }
 
 abbrev pub withoutMotion : ℕ → List ℤ
-withoutMotion type = laidOut type (λ q. 0) (λ b. unusedMotion)
+withoutMotion type = laidOut (allOne type unusedMotion)
 
 unfoldable pub writtenFor : Answer → List (List Motion) → List ℤ
 writtenFor Outside m = withoutMotion 5
-writtenFor (Intra n) m = withoutMotion 0
-writtenFor (Inherited n s) m = laidOut (typeNumber s) (λ q. getD (subTypes s) q 0) (motionAt m)
+writtenFor (Intra o) m = withoutMotion 0
+writtenFor (Inherited o s) m = laidOut (dividedBy s (motionAt m))
 
 -- what is made of one macroblock: the answer and its written record
 pub record Made : Type 0 where

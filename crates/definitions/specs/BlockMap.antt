@@ -8,7 +8,8 @@ use Rattle.definitions.specs.declared.Axis.{Axis}
 use Rattle.definitions.specs.declared.Axes.{Axes}
 use Rattle.definitions.specs.declared.AxisStep.{AxisStep}
 use Rattle.definitions.specs.Basics.{pick, minus, eqZ, four}
-use Rattle.definitions.specs.Geometry.{baseSize, scaledSize, cOf, kOf, mOf, nOf, fOf, twoOf, even, sampleOf, macroblocks}
+use Rattle.definitions.specs.Geometry.{baseSize, scaledSize, cOf, kOf, mOf, nOf, fOf, twoOf, even, sampleOf}
+use Rattle.definitions.specs.Raster.{baseAddress}
 
 -- a row: M, N and the four m as digits
 pub record MapRow : Type 0 where
@@ -103,10 +104,6 @@ across g column i = getD (stepOf (g .horizontal) (sampleOf column) .reads) (i % 
 
 abbrev pub down : Axes → ℕ → ℕ → ℕ
 down g row i = getD (stepOf (g .vertical) (sampleOf row) .reads) (i / 4) 0
-
--- a base macroblock's address, in raster order
-abbrev pub baseAddress : Axes → ℕ → ℕ → ℕ
-baseAddress g column row = row * macroblocks (baseSize (g .horizontal)) + column
 
 -- the base macroblock that block i reads, and which of its blocks
 unfoldable pub addressRead : Axes → ℕ → ℕ → ℕ → ℕ

@@ -19,6 +19,7 @@ use Rattle.definitions.specs.declared.PictureReply.{PictureReply}
 use Rattle.definitions.specs.declared.PictureReply.the-variants.{Counted, Refused as NotMade}
 use Rattle.definitions.specs.Basics.{howMany, upTo, forEach}
 use Rattle.definitions.specs.Geometry.{axesOf, fullSize, macroblocks}
+use Rattle.definitions.specs.Raster.{fullCount, columnAt, rowAt}
 use Rattle.definitions.specs.Record.{recordWords, recordAt}
 use Rattle.definitions.specs.Answer.{Made, madeOf}
 use Rattle.definitions.specs.Refusals.{Test, verdictOf, geometryTests, baseTest, outputTest, positionTest, recordTests, addressesRead, allAddresses, LowestMalformed}
@@ -34,31 +35,21 @@ byVerdict Accepted refused words made = made
 byVerdict (Refused r) refused words made = record { reply = refused r; words = words }
 
 -- One macroblock: geometry, base, column, row, and 77 words to write. It checks only the records that it reads; outside it reads none.
-unfoldable pub macroblockTests : Numbers → List ℤ → ℤ → ℤ → List ℤ → List Test
-macroblockTests n base column row words =
+unfoldable pub macroblockTests : ℕ → Numbers → List ℤ → ℤ → ℤ → List ℤ → List Test
+macroblockTests limit n base column row words =
     let g = axesOf n in
-    geometryTests n ++ (baseTest g base ∷ outputTest 1 words ∷ positionTest g column row ∷ recordTests base (addressesRead g (natAbs column) (natAbs row)))
+    geometryTests n ++ (baseTest g base ∷ outputTest 1 words ∷ positionTest g column row ∷ recordTests limit base (addressesRead g (natAbs column) (natAbs row)))
 
-unfoldable pub macroblockCall : Numbers → List ℤ → ℤ → ℤ → List ℤ → Outcome MacroblockReply
-macroblockCall n base column row words =
+unfoldable pub macroblockCall : ℕ → Numbers → List ℤ → ℤ → ℤ → List ℤ → Outcome MacroblockReply
+macroblockCall limit n base column row words =
     let made = madeOf (axesOf n) base (natAbs column) (natAbs row) in
-    byVerdict (verdictOf (macroblockTests n base column row words)) Declined words (record { reply = Answered (made .answer); words = made .written })
+    byVerdict (verdictOf (macroblockTests limit n base column row words)) Declined words (record { reply = Answered (made .answer); words = made .written })
 
 -- Picture: checks all base records, then writes all answers in raster order and returns counts inherited, intra, outside.
-abbrev pub fullCount : Axes → ℕ
-fullCount g = macroblocks (fullSize (g .horizontal)) * macroblocks (fullSize (g .vertical))
-
-unfoldable pub pictureTests : Numbers → List ℤ → List ℤ → List Test
-pictureTests n base words =
+unfoldable pub pictureTests : ℕ → Numbers → List ℤ → List ℤ → List Test
+pictureTests limit n base words =
     let g = axesOf n in
-    geometryTests n ++ (baseTest g base ∷ outputTest (fullCount g) words ∷ recordTests base (allAddresses g))
-
--- the column and row of an address of the picture: raster order
-abbrev pub columnAt : Axes → ℕ → ℕ
-columnAt g address = address % macroblocks (fullSize (g .horizontal))
-
-abbrev pub rowAt : Axes → ℕ → ℕ
-rowAt g address = address / macroblocks (fullSize (g .horizontal))
+    geometryTests n ++ (baseTest g base ∷ outputTest (fullCount g) words ∷ recordTests limit base (allAddresses g))
 
 -- the macroblock at an address of the picture
 unfoldable pub madeAt : Axes → List ℤ → ℕ → Made
@@ -67,8 +58,8 @@ madeAt g base address = madeOf g base (columnAt g address) (rowAt g address)
 -- one more of an answer's sort
 abbrev pub counted : Answer → Counts → Counts
 counted Outside c = record { inherited = c .inherited; intra = c .intra; outside = c .outside + 1 }
-counted (Intra n) c = record { inherited = c .inherited; intra = c .intra + 1; outside = c .outside }
-counted (Inherited n s) c = record { inherited = c .inherited + 1; intra = c .intra; outside = c .outside }
+counted (Intra o) c = record { inherited = c .inherited; intra = c .intra + 1; outside = c .outside }
+counted (Inherited o s) c = record { inherited = c .inherited + 1; intra = c .intra; outside = c .outside }
 
 abbrev pub noCounts : Counts
 noCounts = record { inherited = 0; intra = 0; outside = 0 }
@@ -81,55 +72,55 @@ countsOf (m ∷ ms) = counted (m .answer) (countsOf ms)
 abbrev pub sumOf : Counts → ℕ
 sumOf c = c .inherited + c .intra + c .outside
 
-unfoldable pub pictureCall : Numbers → List ℤ → List ℤ → Outcome PictureReply
-pictureCall n base words =
+unfoldable pub pictureCall : ℕ → Numbers → List ℤ → List ℤ → Outcome PictureReply
+pictureCall limit n base words =
     let g = axesOf n in
     let made = upTo (fullCount g) (madeAt g base) in
-    byVerdict (verdictOf (pictureTests n base words)) NotMade words (record { reply = Counted (countsOf made); words = forEach made (λ m. m .written) })
+    byVerdict (verdictOf (pictureTests limit n base words)) NotMade words (record { reply = Counted (countsOf made); words = forEach made (λ m. m .written) })
 
 -- Refusal 8 of either call has the lowest malformed address among the records that it checks.
-pub record LowestRefused : Type 0 where
-  pub singly : (n : Numbers) (base : List ℤ) (column row : ℤ) (words : List ℤ) (r : Refusal) → macroblockCall n base column row words .reply ≡ Declined r → r .number ≡ 8
-      → LowestMalformed base (addressesRead (axesOf n) (natAbs column) (natAbs row)) r
-  pub picture : (n : Numbers) (base words : List ℤ) (r : Refusal) → pictureCall n base words .reply ≡ NotMade r → r .number ≡ 8
-      → LowestMalformed base (allAddresses (axesOf n)) r
+pub record LowestRefused (limit : ℕ) : Type 0 where
+  pub singly : (n : Numbers) (base : List ℤ) (column row : ℤ) (words : List ℤ) (r : Refusal) → macroblockCall limit n base column row words .reply ≡ Declined r → r .number ≡ 8
+      → LowestMalformed limit base (addressesRead (axesOf n) (natAbs column) (natAbs row)) r
+  pub picture : (n : Numbers) (base words : List ℤ) (r : Refusal) → pictureCall limit n base words .reply ≡ NotMade r → r .number ≡ 8
+      → LowestMalformed limit base (allAddresses (axesOf n)) r
 
 -- The picture by one-macroblock calls. The call at an address of the picture
-abbrev pub callAt : Numbers → List ℤ → ℕ → List ℤ → Outcome MacroblockReply
-callAt n base address words = macroblockCall n base (pos (columnAt (axesOf n) address)) (pos (rowAt (axesOf n) address)) words
+abbrev pub callAt : ℕ → Numbers → List ℤ → ℕ → List ℤ → Outcome MacroblockReply
+callAt limit n base address words = macroblockCall limit n base (pos (columnAt (axesOf n) address)) (pos (rowAt (axesOf n) address)) words
 
 -- a reply is an answer of a sort
 abbrev pub repliesInherited : MacroblockReply → Bool
 repliesInherited (Answered Outside) = false
-repliesInherited (Answered (Intra n)) = false
-repliesInherited (Answered (Inherited n s)) = true
+repliesInherited (Answered (Intra o)) = false
+repliesInherited (Answered (Inherited o s)) = true
 repliesInherited (Declined r) = false
 
 abbrev pub repliesIntra : MacroblockReply → Bool
 repliesIntra (Answered Outside) = false
-repliesIntra (Answered (Intra n)) = true
-repliesIntra (Answered (Inherited n s)) = false
+repliesIntra (Answered (Intra o)) = true
+repliesIntra (Answered (Inherited o s)) = false
 repliesIntra (Declined r) = false
 
 abbrev pub repliesOutside : MacroblockReply → Bool
 repliesOutside (Answered Outside) = true
-repliesOutside (Answered (Intra n)) = false
-repliesOutside (Answered (Inherited n s)) = false
+repliesOutside (Answered (Intra o)) = false
+repliesOutside (Answered (Inherited o s)) = false
 repliesOutside (Declined r) = false
 
 -- Each macroblock's words are those that the one-macroblock call writes for it, and each count is the number of macroblocks for which that call's answer
 -- is of its sort. (lent a: the 77 words lent to the call at address a, whatever they hold. Each macroblock is counted, so that each call answers.)
-pub record AsSingly (n : Numbers) (base words : List ℤ) (counts : Counts) (lent : ℕ → List ℤ) : Type 0 where
-  pub inherited : counts .inherited ≡ howMany (fullCount (axesOf n)) (λ a. repliesInherited (callAt n base a (lent a) .reply))
-  pub intra : counts .intra ≡ howMany (fullCount (axesOf n)) (λ a. repliesIntra (callAt n base a (lent a) .reply))
-  pub outside : counts .outside ≡ howMany (fullCount (axesOf n)) (λ a. repliesOutside (callAt n base a (lent a) .reply))
+pub record AsSingly (limit : ℕ) (n : Numbers) (base words : List ℤ) (counts : Counts) (lent : ℕ → List ℤ) : Type 0 where
+  pub inherited : counts .inherited ≡ howMany (fullCount (axesOf n)) (λ a. repliesInherited (callAt limit n base a (lent a) .reply))
+  pub intra : counts .intra ≡ howMany (fullCount (axesOf n)) (λ a. repliesIntra (callAt limit n base a (lent a) .reply))
+  pub outside : counts .outside ≡ howMany (fullCount (axesOf n)) (λ a. repliesOutside (callAt limit n base a (lent a) .reply))
   pub sum : sumOf counts ≡ fullCount (axesOf n)
-  pub words-length : length (pictureCall n base words .words) ≡ recordWords * fullCount (axesOf n)
-  pub words-same : (a : ℕ) → a < fullCount (axesOf n) → recordAt (pictureCall n base words .words) a ≡ callAt n base a (lent a) .words
+  pub words-length : length (pictureCall limit n base words .words) ≡ recordWords * fullCount (axesOf n)
+  pub words-same : (a : ℕ) → a < fullCount (axesOf n) → recordAt (pictureCall limit n base words .words) a ≡ callAt limit n base a (lent a) .words
 
-abbrev pub PictureBySingly : Type 0
-PictureBySingly =
+abbrev pub PictureBySingly : ℕ → Type 0
+PictureBySingly limit =
     (n : Numbers) (base words : List ℤ) (counts : Counts) (lent : ℕ → List ℤ)
-    → pictureCall n base words .reply ≡ Counted counts
+    → pictureCall limit n base words .reply ≡ Counted counts
     → ((a : ℕ) → a < fullCount (axesOf n) → length (lent a) ≡ recordWords)
-    → AsSingly n base words counts lent
+    → AsSingly limit n base words counts lent

@@ -8,18 +8,19 @@ use Rattle.definitions.specs.declared.Numbers.{Numbers}
 use Rattle.definitions.specs.declared.Counts.{Counts}
 use Rattle.definitions.specs.declared.Class.{Class}
 use Rattle.definitions.specs.declared.Class.the-variants.{Corner, Center}
-use Rattle.definitions.specs.declared.Named.{Named}
+use Rattle.definitions.specs.declared.Origin.{Origin}
 use Rattle.definitions.specs.declared.Split.the-variants.{S16x16}
 use Rattle.definitions.specs.declared.Answer.{Answer}
 use Rattle.definitions.specs.declared.Answer.the-variants.{Outside, Intra, Inherited}
 use Rattle.definitions.specs.Basics.{minus}
 use Rattle.definitions.specs.Geometry.{axesOf}
-use Rattle.definitions.specs.Record.{recordWords, laidOut}
+use Rattle.definitions.specs.Record.{recordWords, narrow, laidOut, allOne}
 use Rattle.definitions.specs.Inheriting.{unused}
 use Rattle.definitions.specs.Answer.{withoutMotion}
-use Rattle.definitions.specs.Calls.{fullCount, AsSingly}
+use Rattle.definitions.specs.Calls.{AsSingly}
 use Rattle.definitions.specs.Demand3.{SinglyGives, PictureGives, Case}
 use Rattle.definitions.specs.Examples.{centred, intraRecord, wholeRecord, onlyLast, allButLast, wholeCase}
+use Rattle.definitions.specs.Raster.{fullCount}
 
 -- the words of some records, to lend
 abbrev pub blank : ℕ → List ℤ
@@ -27,35 +28,35 @@ blank records = replicate (recordWords * records) (pos 0)
 
 -- A geometry, a macroblock and a base; the answer, the written record, and the picture's counts
 pub record Concrete (n : Numbers) (column row : ℕ) (base : List ℤ) (answer : Answer) (written : List ℤ) (counts : Counts) : Type 0 where
-  pub case : Case n column row base
-  pub singly : SinglyGives n column row (blank 1) base answer written
-  pub picture : PictureGives n column row (blank (fullCount (axesOf n))) (blank 1) base answer written
-  pub counted : picture .counts ≡ counts
+  pub case : Case narrow n column row base
+  pub singly : SinglyGives narrow n column row (blank 1) base answer written
+  pub picture : PictureGives narrow n column row (blank (fullCount (axesOf n))) (blank 1) base answer written
+  pub picture-counts : picture .counts ≡ counts
 
 -- a class, from column and row 0 on
-abbrev pub first : Class → Named
-first class = record { class = class; column = 0; row = 0 }
+abbrev pub fromZero : Class → Origin
+fromZero class = record { class = class; column = 0; row = 0 }
 
 -- the whole case's record with its vector doubled, and the record of an outside macroblock
 abbrev pub doubledRecord : List ℤ
-doubledRecord = laidOut 1 (λ q. 0) (λ b. record { list0 = record { reference = pos 0; x = pos 8; y = minus 16 }; list1 = unused })
+doubledRecord = laidOut (allOne 1 (record { list0 = record { reference = pos 0; x = pos 8; y = minus 16 }; list1 = unused }))
 
 abbrev pub outsideRecord : List ℤ
 outsideRecord = withoutMotion 5
 
-abbrev pub counts : ℕ → ℕ → ℕ → Counts
-counts inherited intra outside = record { inherited = inherited; intra = intra; outside = outside }
+abbrev pub threeCounts : ℕ → ℕ → ℕ → Counts
+threeCounts inherited intra outside = record { inherited = inherited; intra = intra; outside = outside }
 
 pub record Cases : Type 0 where
   -- document 01's whole case,
-  pub inherited : Concrete wholeCase 0 0 wholeRecord (Inherited (first Corner) S16x16) doubledRecord (counts 4 0 2)
+  pub inherited : Concrete wholeCase 0 0 wholeRecord (Inherited (fromZero Corner) S16x16) doubledRecord (threeCounts 4 0 2)
   -- and to the right of the window,
-  pub outside : Concrete wholeCase 2 0 wholeRecord Outside outsideRecord (counts 4 0 2)
+  pub outside : Concrete wholeCase 2 0 wholeRecord Outside outsideRecord (threeCounts 4 0 2)
   -- where every base record is another one;
-  pub others : (base : List ℤ) → length base ≡ recordWords → SinglyGives wholeCase 2 0 (blank 1) base Outside outsideRecord
+  pub others : (base : List ℤ) → length base ≡ recordWords → SinglyGives narrow wholeCase 2 0 (blank 1) base Outside outsideRecord
   -- the picture by one-macroblock calls;
-  pub by-calls : AsSingly wholeCase wholeRecord (blank 6) (counts 4 0 2) (λ a. blank 1)
+  pub by-calls : AsSingly narrow wholeCase wholeRecord (blank 6) (threeCounts 4 0 2) (λ a. blank 1)
   -- the starred macroblock at 16,16, with base 0, 1 and 2 intra, which is filled from base 3,
-  pub filled : Concrete centred 1 1 onlyLast (Inherited (first Center) S16x16) wholeRecord (counts 1 0 15)
+  pub filled-there : Concrete centred 1 1 onlyLast (Inherited (fromZero Center) S16x16) wholeRecord (threeCounts 1 0 15)
   -- and with only base 3 intra.
-  pub intra : Concrete centred 1 1 allButLast (Intra (first Center)) intraRecord (counts 0 1 15)
+  pub intra : Concrete centred 1 1 allButLast (Intra (fromZero Center)) intraRecord (threeCounts 0 1 15)

@@ -11,8 +11,7 @@ use Rattle.definitions.specs.declared.Axes.{Axes}
 use Rattle.definitions.specs.declared.Numbers.{Numbers}
 use Rattle.definitions.specs.declared.Counts.{Counts}
 use Rattle.definitions.specs.declared.Verdict.the-variants.{Accepted}
-use Rattle.definitions.specs.declared.Class.the-variants.{Corner}
-use Rattle.definitions.specs.declared.Named.{Named}
+use Rattle.definitions.specs.declared.Origin.{Origin}
 use Rattle.definitions.specs.declared.Split.{Split}
 use Rattle.definitions.specs.declared.Answer.{Answer}
 use Rattle.definitions.specs.declared.Answer.the-variants.{Outside, Intra, Inherited}
@@ -23,89 +22,87 @@ use Rattle.definitions.specs.Geometry.{axesOf, baseSize, fullSize, macro
 use Rattle.definitions.specs.Splits.{Covers, pieces, oneEach, count}
 use Rattle.definitions.specs.Record.{recordWords, recordAt, motionOf, typeNumber, wellFormed}
 use Rattle.definitions.specs.Inheriting.{intraSet, inheritedMotions, motionAt}
-use Rattle.definitions.specs.Answer.{namedAt, answerClass, answerColumn, answerRow, columnsNamed, rowsNamed, addressesNamed, subTypes, unusedMotion}
-use Rattle.definitions.specs.Refusals.{geometryVerdict, baseCount}
-use Rattle.definitions.specs.Calls.{macroblockCall, fullCount, pictureCall}
+use Rattle.definitions.specs.Answer.{originAt, outsideOrigin, answerOrigin, columnsNamed, rowsNamed, addressesNamed, subTypes, unusedMotion}
+use Rattle.definitions.specs.Refusals.{geometryVerdict, AllFormed}
+use Rattle.definitions.specs.Calls.{macroblockCall, pictureCall}
+use Rattle.definitions.specs.Raster.{baseCount, fullCount, fullAddress}
 
 -- what document 01 names for a macroblock: outside class Corner, column and row 0
-abbrev pub namedByPaper : Axes → ℕ → ℕ → Named
-namedByPaper g column row = pick (inside g column row) (namedAt g column row) (record { class = Corner; column = 0; row = 0 })
+abbrev pub originByPaper : Axes → ℕ → ℕ → Origin
+originByPaper g column row = pick (inside g column row) (originAt g column row) outsideOrigin
 
 -- The answer and the written record of the macroblock at a column and row, on a base. Other says which bases are compared with it, and Gives that on
 -- a base a call hands over an answer and a written record. Motions are those read back from the written words, and their first five say the split.
 pub record Demand3 (g : Axes) (column row : ℕ) (base : List ℤ) (answer : Answer) (written : List ℤ) (Other : List ℤ → Type 0) (Gives : List ℤ → Answer → List ℤ → Type 0) : Type 0 where
   -- The answer's class and first base column and row are document 01's,
-  pub class : answerClass answer ≡ namedByPaper g column row .class
-  pub first-column : answerColumn answer ≡ namedByPaper g column row .column
-  pub first-row : answerRow answer ≡ namedByPaper g column row .row
+  pub class : answerOrigin answer .class ≡ originByPaper g column row .class
+  pub first-column : answerOrigin answer .column ≡ originByPaper g column row .column
+  pub first-row : answerOrigin answer .row ≡ originByPaper g column row .row
   -- and it names only base macroblocks inside the base picture.
   pub columns-inside : (x : ℕ) → List·Memᴰ x (columnsNamed answer) → x < macroblocks (baseSize (g .horizontal))
   pub rows-inside : (y : ℕ) → List·Memᴰ y (rowsNamed answer) → y < macroblocks (baseSize (g .vertical))
   -- Whatever the other base records hold, the answer and its written record are the same.
   pub others : (other : List ℤ) → Other other → ((a : ℕ) → List·Memᴰ a (addressesNamed g answer) → recordAt other a ≡ recordAt base a) → Gives other answer written
   -- It is inherited exactly when the macroblock is inside the window and at most eight of its sixteen blocks read intra macroblocks,
-  pub inherited : ((n : Named) × (s : Split) × (answer ≡ Inherited n s)) ↔ ((inside g column row ≡ true) × (ones (intraSet g base column row) ≤ 8))
+  pub inherited : ((o : Origin) × (s : Split) × (answer ≡ Inherited o s)) ↔ ((inside g column row ≡ true) × (ones (intraSet g base column row) ≤ 8))
   -- and intra exactly when it is inside and nine or more do;
-  pub intra : ((n : Named) × (answer ≡ Intra n)) ↔ ((inside g column row ≡ true) × (9 ≤ ones (intraSet g base column row)))
+  pub intra : ((o : Origin) × (answer ≡ Intra o)) ↔ ((inside g column row ≡ true) × (9 ≤ ones (intraSet g base column row)))
   -- outside the window it inherits nothing.
   pub outside : (answer ≡ Outside) ↔ (inside g column row ≡ false)
   pub nothing : inside g column row ≡ false → (i : ℕ) → i < 16 → motionOf written i ≡ unusedMotion
   -- Inherited, its pieces cover the sixteen blocks once each,
-  pub cover : (n : Named) (s : Split) → answer ≡ Inherited n s → Covers (pieces s)
+  pub cover : (o : Origin) (s : Split) → answer ≡ Inherited o s → Covers (pieces s)
   -- with one motion in each;
-  pub one-motion : (n : Named) (s : Split) → answer ≡ Inherited n s → oneEach (motionOf written) s ≡ true
+  pub one-motion : (o : Origin) (s : Split) → answer ≡ Inherited o s → oneEach (motionOf written) s ≡ true
   -- each block has the motion that document 01's block map and steps fix;
-  pub motions : (n : Named) (s : Split) → answer ≡ Inherited n s → (i : ℕ) → i < 16 → motionOf written i ≡ motionAt (inheritedMotions g base column row) i
+  pub motions : (o : Origin) (s : Split) → answer ≡ Inherited o s → (i : ℕ) → i < 16 → motionOf written i ≡ motionAt (inheritedMotions g base column row) i
   -- and every other of the 259 splits whose pieces each carry one motion has more pieces. (The type has no split but those: proofs/Pieces, all-listed.)
-  pub rivals : (n : Named) (s : Split) → answer ≡ Inherited n s → (t : Split) → oneEach (motionOf written) t ≡ true → t ≢ s → count s < count t
+  pub rivals : (o : Origin) (s : Split) → answer ≡ Inherited o s → (t : Split) → oneEach (motionOf written) t ≡ true → t ≢ s → count s < count t
   -- Inherited, words 0 to 4 of the written record say the answer's split.
-  pub says-split : (n : Named) (s : Split) → answer ≡ Inherited n s → take 5 written ≡ pos (typeNumber s) ∷ map pos (subTypes s)
+  pub says-split : (o : Origin) (s : Split) → answer ≡ Inherited o s → take 5 written ≡ pos (typeNumber s) ∷ map pos (subTypes s)
 
 -- Made singly: the other records may hold any words.
 abbrev pub AnyWords : List ℤ → List ℤ → Type 0
 AnyWords base other = length other ≡ length base
 
-abbrev pub SinglyGives : Numbers → ℕ → ℕ → List ℤ → List ℤ → Answer → List ℤ → Type 0
-SinglyGives n column row words base answer written = macroblockCall n base (pos column) (pos row) words ≡ record { reply = Answered answer; words = written }
+abbrev pub SinglyGives : ℕ → Numbers → ℕ → ℕ → List ℤ → List ℤ → Answer → List ℤ → Type 0
+SinglyGives limit n column row words base answer written = macroblockCall limit n base (pos column) (pos row) words ≡ record { reply = Answered answer; words = written }
 
-abbrev pub Demand3Singly : Numbers → ℕ → ℕ → List ℤ → List ℤ → Answer → List ℤ → Type 0
-Demand3Singly n column row words base answer written =
-    Demand3 (axesOf n) column row base answer written (AnyWords base) (SinglyGives n column row words)
+abbrev pub Demand3Singly : ℕ → Numbers → ℕ → ℕ → List ℤ → List ℤ → Answer → List ℤ → Type 0
+Demand3Singly limit n column row words base answer written =
+    Demand3 (axesOf n) column row base answer written (AnyWords base) (SinglyGives limit n column row words)
 
 -- Made with the whole picture: the other records are any well-formed ones, the answer is the one-macroblock call's on the same base, and the written
 -- record is the one at the macroblock's address. (alone: 77 words lent to the one-macroblock call, whatever they hold.)
-abbrev pub AllFormed : Axes → List ℤ → Type 0
-AllFormed g base = (a : ℕ) → a < baseCount g → wellFormed (recordAt base a) ≡ true
+abbrev pub FormedWords : ℕ → Axes → List ℤ → List ℤ → Type 0
+FormedWords limit g base other = (length other ≡ length base) × AllFormed limit g other
 
-abbrev pub FormedWords : Axes → List ℤ → List ℤ → Type 0
-FormedWords g base other = (length other ≡ length base) × AllFormed g other
-
-pub record PictureGives (n : Numbers) (column row : ℕ) (words alone base : List ℤ) (answer : Answer) (written : List ℤ) : Type 0 where
+pub record PictureGives (limit : ℕ) (n : Numbers) (column row : ℕ) (words alone base : List ℤ) (answer : Answer) (written : List ℤ) : Type 0 where
   pub counts : Counts
-  pub accepted : pictureCall n base words .reply ≡ Counted counts
-  pub answered : macroblockCall n base (pos column) (pos row) alone .reply ≡ Answered answer
-  pub at-address : recordAt (pictureCall n base words .words) (row * macroblocks (fullSize (axesOf n .horizontal)) + column) ≡ written
+  pub accepted : pictureCall limit n base words .reply ≡ Counted counts
+  pub answered : macroblockCall limit n base (pos column) (pos row) alone .reply ≡ Answered answer
+  pub at-address : recordAt (pictureCall limit n base words .words) (fullAddress (axesOf n) column row) ≡ written
 
-abbrev pub Demand3Picture : Numbers → ℕ → ℕ → List ℤ → List ℤ → List ℤ → Answer → List ℤ → Type 0
-Demand3Picture n column row words alone base answer written =
-    Demand3 (axesOf n) column row base answer written (FormedWords (axesOf n) base) (PictureGives n column row words alone)
+abbrev pub Demand3Picture : ℕ → Numbers → ℕ → ℕ → List ℤ → List ℤ → List ℤ → Answer → List ℤ → Type 0
+Demand3Picture limit n column row words alone base answer written =
+    Demand3 (axesOf n) column row base answer written (FormedWords limit (axesOf n) base) (PictureGives limit n column row words alone)
 
 -- Every accepted geometry, every base picture of well-formed records, and every macroblock
-pub record Case (n : Numbers) (column row : ℕ) (base : List ℤ) : Type 0 where
+pub record Case (limit : ℕ) (n : Numbers) (column row : ℕ) (base : List ℤ) : Type 0 where
   pub geometry : geometryVerdict n ≡ Accepted
   pub base-length : length base ≡ recordWords * baseCount (axesOf n)
-  pub formed : AllFormed (axesOf n) base
+  pub formed : AllFormed limit (axesOf n) base
   pub column-within : column < macroblocks (fullSize (axesOf n .horizontal))
   pub row-within : row < macroblocks (fullSize (axesOf n .vertical))
 
 -- Demand 3, entire: in each such case, with the words that the calls ask for, both calls hand something over, and all that they hand over, there or
 -- anywhere, is as demanded. (Singly that is so wherever the call answers, whatever the records hold that it does not name.)
-pub record Demand3Entire : Type 0 where
+pub record Demand3Entire (limit : ℕ) : Type 0 where
   pub singly : (n : Numbers) (column row : ℕ) (words base : List ℤ) (answer : Answer) (written : List ℤ)
-      → SinglyGives n column row words base answer written → Demand3Singly n column row words base answer written
-  pub singly-given : (n : Numbers) (column row : ℕ) (base : List ℤ) → Case n column row base → (words : List ℤ) → length words ≡ recordWords
-      → (answer : Answer) × (written : List ℤ) × SinglyGives n column row words base answer written
+      → SinglyGives limit n column row words base answer written → Demand3Singly limit n column row words base answer written
+  pub singly-given : (n : Numbers) (column row : ℕ) (base : List ℤ) → Case limit n column row base → (words : List ℤ) → length words ≡ recordWords
+      → (answer : Answer) × (written : List ℤ) × SinglyGives limit n column row words base answer written
   pub picture : (n : Numbers) (column row : ℕ) (words alone base : List ℤ) (answer : Answer) (written : List ℤ)
-      → PictureGives n column row words alone base answer written → Demand3Picture n column row words alone base answer written
-  pub picture-given : (n : Numbers) (column row : ℕ) (base : List ℤ) → Case n column row base → (words : List ℤ) → length words ≡ recordWords * fullCount (axesOf n)
-      → (alone : List ℤ) → length alone ≡ recordWords → (answer : Answer) × (written : List ℤ) × PictureGives n column row words alone base answer written
+      → PictureGives limit n column row words alone base answer written → Demand3Picture limit n column row words alone base answer written
+  pub picture-given : (n : Numbers) (column row : ℕ) (base : List ℤ) → Case limit n column row base → (words : List ℤ) → length words ≡ recordWords * fullCount (axesOf n)
+      → (alone : List ℤ) → length alone ≡ recordWords → (answer : Answer) × (written : List ℤ) × PictureGives limit n column row words alone base answer written

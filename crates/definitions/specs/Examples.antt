@@ -17,15 +17,16 @@ use Rattle.definitions.specs.declared.MacroblockReply.the-variants.{Answ
 use Rattle.definitions.specs.Basics.{pick, minus, eqZ, allBelow, allOf, upTo}
 use Rattle.definitions.specs.Geometry.{axesOf, axisOf, insideAxis, cOf, mOf, nOf, fOf, twoOf, baseSize, scaledSize}
 use Rattle.definitions.specs.BlockMap.{digitsOf, coordinateOf, stepOf, addressRead, blockRead}
-use Rattle.definitions.specs.Splits.{quadrantOf, inQuadrant, sameMotion, samePrediction, alike, oneEach, fewestIn}
-use Rattle.definitions.specs.Record.{recordWords, recordAt, motionOf, splitSaid, rule1, rule2, rule3, rule4, rule5, rule6, firstBroken, laidOut}
+use Rattle.definitions.specs.Splits.{sameMotion, samePrediction, alike, oneEach, fewestIn}
+use Rattle.definitions.specs.Record.{recordWords, recordAt, motionOf, splitSaid, rule1, rule2, rule3, rule4, rule5, rule6, firstBroken, narrow, laidOut, allOne}
 use Rattle.definitions.specs.Inheriting.{setOf, intraSet, gathered, source, clearOf, filled, lower, lowest, having, unused, zeroPrediction, mergedList, merged, someOf, liveOf, copiedFrom, copied, resolved, scaledWord, scaledPrediction, scaledMotion, inheritedMotions}
-use Rattle.definitions.specs.Answer.{namedAt, answerOf, answerType, addressesOf, withoutMotion, writtenFor, madeOf}
+use Rattle.definitions.specs.Answer.{originAt, answerOf, answerType, addressesOf, withoutMotion, writtenFor, madeOf}
 use Rattle.definitions.specs.Refusals.{geometryTests, recordTests, addressesRead}
 use Rattle.definitions.specs.Calls.{macroblockTests, macroblockCall, madeAt, countsOf}
 use Rattle.definitions.specs.Text.{Entry, whole, BreaksAt, baseOf}
 use Rattle.definitions.specs.Log.{digitsIn, decimal, lineOf, macroblockLine, syncLine, pictureLines, programTests, judged, makes}
 use Rattle.definitions.specs.Geometry.{columnsRead}
+use Rattle.definitions.specs.Blocks.{quadrantOf, inQuadrant}
 
 -- what an axis gives for a macroblock: outside, or M, N, F and whether two columns are read
 pub data Seen : Type 0 where
@@ -39,7 +40,7 @@ pub data Example : Type 0 where
   word : ℕ → ℕ → ℤ → ℤ → Example
   -- B and S 32, o 4 on both axes, the macroblock at 16,16 on this base: how many blocks read intra macroblocks, and the answer's type
   macroblock : List ℤ → ℕ → ℕ → Example
-  -- there, step 1 gives a block the motion of this place of its quadrant
+  -- there, step 1 gives a block the motion of this block of its quadrant
   fill : List ℤ → ℕ → ℕ → Example
   -- in a quadrant with these predictions of a list, step 2 gives all four the reference and vector of this block
   merge : List Prediction → ℕ → Example
@@ -73,7 +74,7 @@ abbrev pub holds : Example → Bool
 holds (axis b s o p e) = seen (axisOf (axisFor b s o)) p e
 holds (word b s v w) = eqZ (scaledWord b s v) w
 holds (macroblock base members type) =
-    eqb (ones (setFor base)) members && replyType (macroblockCall centred base (pos 1) (pos 1) (replicate recordWords (pos 0)) .reply) type
+    eqb (ones (setFor base)) members && replyType (macroblockCall narrow centred base (pos 1) (pos 1) (replicate recordWords (pos 0)) .reply) type
 holds (fill base i k) = eqb (source (clearOf (setFor base) (quadrantOf i)) (inQuadrant i)) k
 holds (merge p k) = allBelow 4 (λ j. samePrediction (getD (mergedList p) j zeroPrediction) (getD p k zeroPrediction))
 
@@ -82,7 +83,7 @@ abbrev pub intraRecord : List ℤ
 intraRecord = withoutMotion 0
 
 abbrev pub wholeRecord : List ℤ
-wholeRecord = laidOut 1 (λ q. 0) (λ b. record { list0 = record { reference = pos 0; x = pos 4; y = minus 8 }; list1 = unused })
+wholeRecord = laidOut (allOne 1 (record { list0 = record { reference = pos 0; x = pos 4; y = minus 8 }; list1 = unused }))
 
 abbrev pub onlyLast : List ℤ
 onlyLast = intraRecord ++ (intraRecord ++ (intraRecord ++ wholeRecord))
@@ -114,7 +115,7 @@ starred =
 
 -- The starred examples hold.
 pub starred-hold : T (allOf holds starred)
-unfolding allOf allBelow pick upTo insideAxis mOf nOf fOf twoOf columnsRead digitsOf coordinateOf stepOf addressRead blockRead sameMotion samePrediction alike oneEach fewestIn recordAt motionOf splitSaid rule1 rule2 rule3 rule4 rule5 rule6 firstBroken laidOut setOf intraSet gathered source clearOf filled lower lowest having mergedList merged someOf liveOf copiedFrom copied resolved scaledPrediction scaledMotion inheritedMotions namedAt answerOf addressesOf writtenFor madeOf geometryTests recordTests addressesRead macroblockTests macroblockCall ones onesIn
+unfolding allOf allBelow pick upTo insideAxis mOf nOf fOf twoOf columnsRead digitsOf coordinateOf stepOf addressRead blockRead sameMotion samePrediction alike oneEach fewestIn recordAt motionOf splitSaid rule1 rule2 rule3 rule4 rule5 rule6 firstBroken laidOut setOf intraSet gathered source clearOf filled lower lowest having mergedList merged someOf liveOf copiedFrom copied resolved scaledPrediction scaledMotion inheritedMotions originAt answerOf addressesOf writtenFor madeOf geometryTests recordTests addressesRead macroblockTests macroblockCall ones onesIn
 starred-hold = tt
 
 -- Whole case ("Sync text and log"): base 16 16, scaled 32 32, at 0 0, full 48 32, one record (whole (0 -1) (4 -8 0 0))
@@ -146,7 +147,7 @@ wholeLog =
     ++ (40 ∷ 115 ∷ 121 ∷ 110 ∷ 99 ∷ 32 ∷ 54 ∷ 32 ∷ 52 ∷ 32 ∷ 48 ∷ 32 ∷ 50 ∷ 41 ∷ 10 ∷ []))))))
 
 pub whole-holds : judged wholeCase 1 (baseOf wholeEntries) ≡ makes wholeLog
-unfolding allOf allBelow pick upTo insideAxis mOf nOf fOf twoOf columnsRead digitsOf coordinateOf stepOf addressRead blockRead sameMotion samePrediction alike oneEach fewestIn recordAt motionOf splitSaid rule1 rule2 rule3 rule4 rule5 rule6 firstBroken laidOut setOf intraSet gathered source clearOf filled lower lowest having mergedList merged someOf liveOf copiedFrom copied resolved scaledPrediction scaledMotion inheritedMotions namedAt answerOf addressesOf writtenFor madeOf geometryTests recordTests ones onesIn madeAt countsOf digitsIn decimal lineOf macroblockLine syncLine pictureLines programTests
+unfolding allOf allBelow pick upTo insideAxis mOf nOf fOf twoOf columnsRead digitsOf coordinateOf stepOf addressRead blockRead sameMotion samePrediction alike oneEach fewestIn recordAt motionOf splitSaid rule1 rule2 rule3 rule4 rule5 rule6 firstBroken laidOut setOf intraSet gathered source clearOf filled lower lowest having mergedList merged someOf liveOf copiedFrom copied resolved scaledPrediction scaledMotion inheritedMotions originAt answerOf addressesOf writtenFor madeOf geometryTests recordTests ones onesIn madeAt countsOf digitsIn decimal lineOf macroblockLine syncLine pictureLines programTests
 whole-holds = refl
 
 -- Refusal 9: a text, and its place

@@ -15,7 +15,8 @@ use Rattle.definitions.specs.Basics.{pick, minus, eqZ, signed, four}
 use Rattle.definitions.specs.Geometry.{baseSize, scaledSize}
 use Rattle.definitions.specs.BlockMap.{addressRead, blockRead}
 use Rattle.definitions.specs.Record.{recordAt, isIntra, motionOf, used}
-use Rattle.definitions.specs.Splits.{quadrantOf, inQuadrant, rasterOf, splits, fewestIn}
+use Rattle.definitions.specs.Blocks.{quadrantOf, inQuadrant, rasterOf, horizontalNeighbour, verticalNeighbour, diagonalNeighbour}
+use Rattle.definitions.specs.Splits.{splits, fewestIn}
 
 -- A sixteen-bit set marks the blocks that read intra macroblocks: bit i stands for block i.
 unfoldable pub setOf : ℕ → (ℕ → Bool) → ℕ
@@ -32,7 +33,7 @@ intraSet g base column row = setOf 16 (λ i. isIntra (recordAt base (addressRead
 abbrev pub mostlyIntra : ℕ → Bool
 mostlyIntra set = leb 9 (ones set)
 
--- The motion that each block reads, as four quadrants of four blocks. What stands at a place that is none of the four is read by no step.
+-- The motion that each block reads, as four quadrants of four blocks. What stands beyond the four is read by no step.
 abbrev pub zeroPrediction : Prediction
 zeroPrediction = record { reference = pos 0; x = pos 0; y = pos 0 }
 
@@ -49,23 +50,13 @@ unfoldable pub gathered : Axes → List ℤ → ℕ → ℕ → List (List Motio
 gathered g base column row =
     four (λ q. four (λ k. motionOf (recordAt base (addressRead g column row (rasterOf q k))) (blockRead g column row (rasterOf q k))))
 
--- Neighbours in a square of four in raster order, 0 1 above 2 3. Blocks of a quadrant, and quadrants of a macroblock, stand so.
-abbrev pub horizontal : ℕ → ℕ
-horizontal k = getD (1 ∷ 0 ∷ 3 ∷ 2 ∷ []) k 0
-
-abbrev pub vertical : ℕ → ℕ
-vertical k = getD (2 ∷ 3 ∷ 0 ∷ 1 ∷ []) k 0
-
-abbrev pub diagonal : ℕ → ℕ
-diagonal k = getD (3 ∷ 2 ∷ 1 ∷ 0 ∷ []) k 0
-
--- place k itself if it is good, else the first good one of its horizontal, its vertical and its diagonal neighbour
+-- block k itself if it is good, else the first good one of its horizontal, its vertical and its diagonal neighbour
 unfoldable pub source : List Bool → ℕ → ℕ
 source good k =
     pick (getD good k false) k
-    (pick (getD good (horizontal k) false) (horizontal k)
-    (pick (getD good (vertical k) false) (vertical k)
-    (pick (getD good (diagonal k) false) (diagonal k)
+    (pick (getD good (horizontalNeighbour k) false) (horizontalNeighbour k)
+    (pick (getD good (verticalNeighbour k) false) (verticalNeighbour k)
+    (pick (getD good (diagonalNeighbour k) false) (diagonalNeighbour k)
     k)))
 
 -- Step 1. In a quadrant with some intra blocks, each takes all motion of its horizontal neighbour in the quadrant, else the vertical one, else the
@@ -116,7 +107,7 @@ unfoldable pub liveOf : ℕ → List Bool
 liveOf set = four (λ q. someOf (clearOf set q))
 
 unfoldable pub copiedFrom : List Bool → ℕ → ℕ
-copiedFrom live q = pick (getD live q false) q (pick (getD live (horizontal q) false) (horizontal q) (vertical q))
+copiedFrom live q = pick (getD live q false) q (pick (getD live (horizontalNeighbour q) false) (horizontalNeighbour q) (verticalNeighbour q))
 
 unfoldable pub copied : List Bool → List (List Motion) → List (List Motion)
 copied live m = four (λ q. getD m (copiedFrom live q) [])

@@ -1,8 +1,10 @@
 -- Document 01 as definitions, in its order: read these files from the top with the paper beside them.
 pub mod Basics
 pub mod Geometry
+pub mod Raster
 pub mod Accepted
 pub mod BlockMap
+pub mod Blocks
 pub mod Splits
 pub mod Record
 pub mod Inheriting

@@ -18,10 +18,12 @@ use Rattle.definitions.specs.declared.LogReply.the-variants.{Written, Re
 use Rattle.definitions.specs.Basics.{pick, upTo, forEach}
 use Rattle.definitions.specs.Geometry.{axesOf}
 use Rattle.definitions.specs.Splits.{count}
+use Rattle.definitions.specs.Record.{narrow}
 use Rattle.definitions.specs.Answer.{answerType}
-use Rattle.definitions.specs.Refusals.{refusal, Test, test, verdictOf, geometryTests, baseCount, recordTests, allAddresses, LowestMalformed}
-use Rattle.definitions.specs.Calls.{fullCount, columnAt, rowAt, madeAt, countsOf}
+use Rattle.definitions.specs.Refusals.{refusal, Test, test, verdictOf, geometryTests, recordTests, allAddresses, LowestMalformed}
+use Rattle.definitions.specs.Calls.{madeAt, countsOf}
 use Rattle.definitions.specs.Text.{Entry, Text, baseOf, textRecords, textBytes, Reading, notRead, readAs, Reads, Demand2Text}
+use Rattle.definitions.specs.Raster.{baseCount, fullCount, columnAt, rowAt}
 
 -- ---- Lines
 -- the decimal digits of n, no leading zero, if there are at most m
@@ -33,7 +35,7 @@ digitsIn (suc m) n = pick (ltb n 10) ((48 + n) ∷ []) (digitsIn m (n / 10) ++ (
 unfoldable pub decimal : ℕ → List ℕ
 decimal n = digitsIn (suc n) n
 
--- One bracket form a line, line feed after each, items parted by one space: a word and numbers
+-- One bracket form a line, line feed after each, items separated by one space: a word and numbers
 unfoldable pub lineOf : List ℕ → List ℕ → List ℕ
 lineOf word numbers = 40 ∷ (word ++ (forEach numbers (λ n. 32 ∷ decimal n) ++ (41 ∷ 10 ∷ [])))
 
@@ -50,8 +52,8 @@ refusedWord = 114 ∷ 101 ∷ 102 ∷ 117 ∷ 115 ∷ 101 ∷ 100 ∷ []
 -- pieces: those of the answer's split, 0 for types 0 and 5
 abbrev pub answerPieces : Answer → ℕ
 answerPieces Outside = 0
-answerPieces (Intra n) = 0
-answerPieces (Inherited n s) = count s
+answerPieces (Intra o) = 0
+answerPieces (Inherited o s) = count s
 
 -- (mb column row type pieces), of the macroblock at an address
 unfoldable pub macroblockLine : Axes → List ℤ → ℕ → List ℕ
@@ -82,13 +84,13 @@ linesTest g lines = test (not (eqb lines (baseCount g))) (refusal 5)
 unfoldable pub programTests : Numbers → ℕ → List ℤ → List Test
 programTests n lines base =
     let g = axesOf n in
-    geometryTests n ++ (linesTest g lines ∷ recordTests base (allAddresses g))
+    geometryTests n ++ (linesTest g lines ∷ recordTests narrow base (allAddresses g))
 
 -- 8 of these has the lowest malformed address of all records.
 abbrev pub LowestInProgram : Type 0
 LowestInProgram =
     (n : Numbers) (lines : ℕ) (base : List ℤ) (r : Refusal) → verdictOf (programTests n lines base) ≡ Refused r → r .number ≡ 8
-    → LowestMalformed base (allAddresses (axesOf n)) r
+    → LowestMalformed narrow base (allAddresses (axesOf n)) r
 
 -- a refusal, or the lines of the picture
 pub data Finding : Type 0 where

@@ -12,15 +12,16 @@ use Rattle.definitions.specs.declared.SubSplit.the-variants.{S8x8, S8x4,
 use Rattle.definitions.specs.declared.Split.{Split}
 use Rattle.definitions.specs.declared.Split.the-variants.{S16x16, S16x8, S8x16, S8x8 as Quarters}
 use Rattle.definitions.specs.Basics.{pick, minus, eqZ, between, allBelow, upTo, forEach}
-use Rattle.definitions.specs.Splits.{quadrantOf, rasterOf, oneEach}
+use Rattle.definitions.specs.Splits.{oneEach}
+use Rattle.definitions.specs.Blocks.{quadrantOf, rasterOf}
 
 -- 77 signed 16-bit words
 abbrev pub recordWords : ℕ
 recordWords = 77
 
--- vector words are −L..L−1; this is L
-abbrev pub vectorLimit : ℕ
-vectorLimit = 8192
+-- Vector words are −L..L − 1. L is a parameter of rule 5 and of all that cites it; its value for these records, the narrow one:
+abbrev pub narrow : ℕ
+narrow = 8192
 
 -- the record at an address of a list of records
 unfoldable pub recordAt : List ℤ → ℕ → List ℤ
@@ -104,34 +105,47 @@ rule4 r =
     pick (isIntra r) (allBelow 4 (λ q. allBelow 2 (λ l. not (used (referenceOf r q l)))))
     (allBelow 4 (λ q. used (referenceOf r q 0) || used (referenceOf r q 1)))
 
--- (5) vector words −8,192..8,191, and 0 where the reference is −1
-abbrev pub vectorWord : Bool → ℤ → Bool
-vectorWord isUsed v = between (minus vectorLimit) (pos (vectorLimit - 1)) v && (isUsed || eqZ v (pos 0))
+-- (5) vector words −8,192..8,191 (−L..L − 1), and 0 where the reference is −1
+abbrev pub vectorWord : ℕ → Bool → ℤ → Bool
+vectorWord limit isUsed v = between (minus limit) (pos (limit - 1)) v && (isUsed || eqZ v (pos 0))
 
-unfoldable pub rule5 : List ℤ → Bool
-rule5 r =
+unfoldable pub rule5 : ℕ → List ℤ → Bool
+rule5 limit r =
     allBelow 16 (λ b. allBelow 2 (λ l.
-    vectorWord (used (referenceOf r (quadrantOf b) l)) (vectorXOf r b l) && vectorWord (used (referenceOf r (quadrantOf b) l)) (vectorYOf r b l)))
+    vectorWord limit (used (referenceOf r (quadrantOf b) l)) (vectorXOf r b l) && vectorWord limit (used (referenceOf r (quadrantOf b) l)) (vectorYOf r b l)))
 
 -- (6) one partition or sub-partition has one motion. (An intra record has none.)
 unfoldable pub rule6 : List ℤ → Bool
 rule6 r = isIntra r || oneEach (motionOf r) (splitSaid r)
 
 -- the first broken rule, or 0
-unfoldable pub firstBroken : List ℤ → ℕ
-firstBroken r =
-    pick (not (rule1 r)) 1 (pick (not (rule2 r)) 2 (pick (not (rule3 r)) 3 (pick (not (rule4 r)) 4 (pick (not (rule5 r)) 5 (pick (not (rule6 r)) 6 0)))))
+unfoldable pub firstBroken : ℕ → List ℤ → ℕ
+firstBroken limit r =
+    pick (not (rule1 r)) 1 (pick (not (rule2 r)) 2 (pick (not (rule3 r)) 3 (pick (not (rule4 r)) 4 (pick (not (rule5 limit r)) 5 (pick (not (rule6 r)) 6 0)))))
 
-abbrev pub wellFormed : List ℤ → Bool
-wellFormed r = eqb (firstBroken r) 0
+abbrev pub wellFormed : ℕ → List ℤ → Bool
+wellFormed limit r = eqb (firstBroken limit r) 0
 
--- Writing a record: type, sub-types, the references of the quadrants (those of a quadrant's first block), the vectors of the blocks.
+-- Writing a record. What it says: its type, the sub-types of its quadrants, and the motions of its blocks.
+pub record Contents : Type 0 where
+  pub kind : ℕ
+  pub sub : ℕ → ℕ
+  pub motion : ℕ → Motion
+
 abbrev pub referencesOf : Motion → List ℤ
 referencesOf m = m .list0 .reference ∷ m .list1 .reference ∷ []
 
 abbrev pub vectorsOf : Motion → List ℤ
 vectorsOf m = m .list0 .x ∷ m .list0 .y ∷ m .list1 .x ∷ m .list1 .y ∷ []
 
-unfoldable pub laidOut : ℕ → (ℕ → ℕ) → (ℕ → Motion) → List ℤ
-laidOut type sub m =
-    pos type ∷ (upTo 4 (λ q. pos (sub q)) ++ (forEach (upTo 4 (λ q. q)) (λ q. referencesOf (m (rasterOf q 0))) ++ forEach (upTo 16 (λ b. b)) (λ b. vectorsOf (m b))))
+-- Its words: type, sub-types, the references of the quadrants (those of a quadrant's first block), the vectors of the blocks
+unfoldable pub laidOut : Contents → List ℤ
+laidOut c =
+    pos (c .kind)
+    ∷ (upTo 4 (λ q. pos (c .sub q))
+    ++ (forEach (upTo 4 (λ q. q)) (λ q. referencesOf (c .motion (rasterOf q 0)))
+    ++ forEach (upTo 16 (λ b. b)) (λ b. vectorsOf (c .motion b))))
+
+-- one motion in all blocks, and no sub-types
+abbrev pub allOne : ℕ → Motion → Contents
+allOne kind m = record { kind = kind; sub = λ q. 0; motion = λ b. m }

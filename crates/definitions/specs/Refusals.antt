@@ -15,8 +15,9 @@ use Rattle.definitions.specs.declared.Verdict.{Verdict}
 use Rattle.definitions.specs.declared.Verdict.the-variants.{Accepted, Refused}
 use Rattle.definitions.specs.Basics.{pick, minus, between, upTo}
 use Rattle.definitions.specs.Geometry.{axesOf, baseSize, fullSize, macroblocks, inside}
+use Rattle.definitions.specs.Raster.{baseCount}
 use Rattle.definitions.specs.Record.{recordWords, recordAt, wellFormed, firstBroken}
-use Rattle.definitions.specs.Answer.{namedAt, addressesOf}
+use Rattle.definitions.specs.Answer.{originAt, addressesOf}
 
 -- A refusal has a number and a place; the place is 0 unless given.
 abbrev pub refusal : ℕ → Refusal
@@ -63,9 +64,6 @@ abbrev pub geometryVerdict : Numbers → Verdict
 geometryVerdict n = verdictOf (geometryTests n)
 
 -- 5: base length is not 77 times its macroblocks
-abbrev pub baseCount : Axes → ℕ
-baseCount g = macroblocks (baseSize (g .horizontal)) * macroblocks (baseSize (g .vertical))
-
 abbrev pub baseTest : Axes → List ℤ → Test
 baseTest g base = test (not (eqb (length base) (recordWords * baseCount g))) (refusal 5)
 
@@ -82,27 +80,31 @@ positionTest g column row = test (not (withinAxis (fullSize (g .horizontal)) col
 
 -- 8: a malformed record; the place is, among the records checked, the lowest malformed address, and in it the first broken rule as a further number.
 -- (The addresses are in rising order: RecordsJudged below.)
-abbrev pub recordTest : List ℤ → ℕ → Test
-recordTest base a = test (not (wellFormed (recordAt base a))) (record { number = 8; place = a; rule = firstBroken (recordAt base a) })
+abbrev pub recordTest : ℕ → List ℤ → ℕ → Test
+recordTest limit base a = test (not (wellFormed limit (recordAt base a))) (record { number = 8; place = a; rule = firstBroken limit (recordAt base a) })
 
-unfoldable pub recordTests : List ℤ → List ℕ → List Test
-recordTests base addresses = map (recordTest base) addresses
+unfoldable pub recordTests : ℕ → List ℤ → List ℕ → List Test
+recordTests limit base addresses = map (recordTest limit base) addresses
 
 -- the addresses that a macroblock's call checks: those that its class reads; outside none
 unfoldable pub addressesRead : Axes → ℕ → ℕ → List ℕ
-addressesRead g column row = pick (inside g column row) (addressesOf g (namedAt g column row)) []
+addressesRead g column row = pick (inside g column row) (addressesOf g (originAt g column row)) []
 
 -- all addresses of the base
 abbrev pub allAddresses : Axes → List ℕ
 allAddresses g = upTo (baseCount g) (λ a. a)
 
+-- every record of the base is well formed
+abbrev pub AllFormed : ℕ → Axes → List ℤ → Type 0
+AllFormed limit g base = (a : ℕ) → a < baseCount g → wellFormed limit (recordAt base a) ≡ true
+
 -- What 8 says of the records checked, whichever they are: its place is one of their addresses, malformed, and none of them that is malformed is lower.
-pub record LowestMalformed (base : List ℤ) (addresses : List ℕ) (r : Refusal) : Type 0 where
+pub record LowestMalformed (limit : ℕ) (base : List ℤ) (addresses : List ℕ) (r : Refusal) : Type 0 where
   pub number : r .number ≡ 8
   pub checked : List·Memᴰ (r .place) addresses
-  pub malformed : wellFormed (recordAt base (r .place)) ≡ false
-  pub lowest : (a : ℕ) → List·Memᴰ a addresses → wellFormed (recordAt base a) ≡ false → r .place ≤ a
-  pub rule : r .rule ≡ firstBroken (recordAt base (r .place))
+  pub malformed : wellFormed limit (recordAt base (r .place)) ≡ false
+  pub none-lower : (a : ℕ) → List·Memᴰ a addresses → wellFormed limit (recordAt base a) ≡ false → r .place ≤ a
+  pub rule : r .rule ≡ firstBroken limit (recordAt base (r .place))
 
 -- addresses rise: each is below all that follow
 abbrev pub Rising : List ℕ → Type 0
@@ -110,10 +112,10 @@ Rising [] = Unit
 Rising (a ∷ rest) = ((b : ℕ) → List·Memᴰ b rest → a < b) × Rising rest
 
 -- The tests of records, one after the other, say just that, for the addresses that the calls check rise.
-pub record RecordsJudged : Type 0 where
+pub record RecordsJudged (limit : ℕ) : Type 0 where
   pub accepted : (base : List ℤ) (addresses : List ℕ)
-      → (verdictOf (recordTests base addresses) ≡ Accepted) ↔ ((a : ℕ) → List·Memᴰ a addresses → wellFormed (recordAt base a) ≡ true)
-  pub refused : (base : List ℤ) (addresses : List ℕ) → Rising addresses → (r : Refusal) → verdictOf (recordTests base addresses) ≡ Refused r
-      → LowestMalformed base addresses r
+      → (verdictOf (recordTests limit base addresses) ≡ Accepted) ↔ ((a : ℕ) → List·Memᴰ a addresses → wellFormed limit (recordAt base a) ≡ true)
+  pub refused : (base : List ℤ) (addresses : List ℕ) → Rising addresses → (r : Refusal) → verdictOf (recordTests limit base addresses) ≡ Refused r
+      → LowestMalformed limit base addresses r
   pub all-rise : (g : Axes) → Rising (allAddresses g)
   pub read-rise : (n : Numbers) (column row : ℕ) → geometryVerdict n ≡ Accepted → Rising (addressesRead (axesOf n) column row)

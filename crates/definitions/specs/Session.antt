@@ -17,10 +17,11 @@ use Rattle.definitions.specs.declared.MacroblockReply.the-variants.{Answ
 use Rattle.definitions.specs.declared.PictureReply.the-variants.{Counted}
 use Rattle.definitions.specs.Basics.{pick, allOf, upTo, forEach}
 use Rattle.definitions.specs.Geometry.{axesOf}
-use Rattle.definitions.specs.Record.{recordWords}
+use Rattle.definitions.specs.Record.{recordWords, narrow}
 use Rattle.definitions.specs.Answer.{Made}
 use Rattle.definitions.specs.Refusals.{Test, test, refusal, verdictOf, geometryTests, geometryVerdict}
-use Rattle.definitions.specs.Calls.{Outcome, byVerdict, callAt, fullCount, madeAt, counted, noCounts, countsOf, sumOf, pictureCall}
+use Rattle.definitions.specs.Calls.{Outcome, byVerdict, callAt, madeAt, counted, noCounts, countsOf, sumOf, pictureCall}
+use Rattle.definitions.specs.Raster.{fullCount}
 
 -- ---- Session, handed over and back by value
 -- The calls: begin(geometry); next(base, 77 words); abandon; totals.
@@ -72,7 +73,7 @@ abandonVerdict s = verdictOf (onwardTests s)
 -- the one-macroblock call for the next address, which is the number of macroblocks made. (With nothing begun it is never read: 20 comes first.)
 abbrev pub callAtNext : State → List ℤ → List ℤ → Outcome MacroblockReply
 callAtNext fresh base words = record { reply = Declined (refusal 20); words = words }
-callAtNext (begun n c) base words = callAt n base (sumOf c) words
+callAtNext (begun n c) base words = callAt narrow n base (sumOf c) words
 
 -- Next answers as the one-macroblock call does for the next address in raster order, refusals 5, 6 and 8 included.
 unfoldable pub nextCall : State → List ℤ → List ℤ → Outcome MacroblockReply
@@ -206,7 +207,7 @@ pub record AddressRight : Type 0 where
   pub next-unfinished : (calls : List Call) (n : Numbers) → geometryAfter calls ≡ some n → madeAfter calls < fullCount (axesOf n)
       → (base words : List ℤ)
       → gaveAfter calls (next base words)
-      ≡ nextGave base words (callAt n base (madeAfter calls) words)
+      ≡ nextGave base words (callAt narrow n base (madeAfter calls) words)
   pub abandon-unfinished : (calls : List Call) (n : Numbers) → geometryAfter calls ≡ some n → madeAfter calls < fullCount (axesOf n)
       → gaveAfter calls abandon ≡ abandonGave Accepted
   pub begin-unfinished : (calls : List Call) (n : Numbers) → geometryAfter calls ≡ some n → madeAfter calls < fullCount (axesOf n)
@@ -234,7 +235,7 @@ wordsAfter (totalsGave c) = []
 -- finished after the last of them and not before.
 pub record AsPicture (s : State) (n : Numbers) (base words : List ℤ) (counts : Counts) (lent : ℕ → List ℤ) : Type 0 where
   pub accepted : exchanges s (pictureCalls n base lent) ≡ beginGave n Accepted ∷ upTo (fullCount (axesOf n)) (λ a. nextMade base (lent a) (madeAt (axesOf n) base a))
-  pub words-same : forEach (exchanges s (pictureCalls n base lent)) wordsAfter ≡ pictureCall n base words .words
+  pub words-same : forEach (exchanges s (pictureCalls n base lent)) wordsAfter ≡ pictureCall narrow n base words .words
   pub totals-same : exchange (stateAfter s (pictureCalls n base lent)) totals ≡ totalsGave counts
   pub finished-then : finished (stateAfter s (pictureCalls n base lent)) ≡ true
   pub unfinished-before : (k : ℕ) → k < fullCount (axesOf n) → unfinished (stateAfter s (begin n ∷ upTo k (λ a. next base (lent a)))) ≡ true
@@ -243,7 +244,7 @@ abbrev pub PictureBySession : Type 0
 PictureBySession =
     (s : State) (n : Numbers) (base words : List ℤ) (counts : Counts) (lent : ℕ → List ℤ)
     → unfinished s ≡ false
-    → pictureCall n base words .reply ≡ Counted counts
+    → pictureCall narrow n base words .reply ≡ Counted counts
     → ((a : ℕ) → a < fullCount (axesOf n) → length (lent a) ≡ recordWords)
     → AsPicture s n base words counts lent
 

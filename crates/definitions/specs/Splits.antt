@@ -21,16 +21,6 @@ samePrediction p q = eqZ (p .reference) (q .reference) && (eqZ (p .x) (q .x) && 
 unfoldable pub sameMotion : Motion → Motion → Bool
 sameMotion m n = samePrediction (m .list0) (n .list0) && samePrediction (m .list1) (n .list1)
 
--- The sixteen blocks as four quadrants of four: block i stands in quadrant quadrantOf i at place inQuadrant i, and rasterOf leads back.
-abbrev pub quadrantOf : ℕ → ℕ
-quadrantOf i = 2 * (i / 8) + i % 4 / 2
-
-abbrev pub inQuadrant : ℕ → ℕ
-inQuadrant i = 2 * (i / 4 % 2) + i % 2
-
-abbrev pub rasterOf : ℕ → ℕ → ℕ
-rasterOf q k = getD (0 ∷ 2 ∷ 8 ∷ 10 ∷ []) q 0 + getD (0 ∷ 1 ∷ 4 ∷ 5 ∷ []) k 0
-
 -- A piece is a partition, or in an 8×8 split a sub-partition. The sub-partitions of the quadrant whose first block is i
 abbrev pub subPieces : ℕ → SubSplit → List (List ℕ)
 subPieces i S8x8 = (i ∷ (i + 1) ∷ (i + 4) ∷ (i + 5) ∷ []) ∷ []

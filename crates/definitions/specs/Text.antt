@@ -14,7 +14,7 @@ use Rattle.definitions.specs.declared.TextRead.{TextRead}
 use Rattle.definitions.specs.declared.TextReply.{TextReply}
 use Rattle.definitions.specs.declared.TextReply.the-variants.{Read, Refused}
 use Rattle.definitions.specs.Basics.{forEach}
-use Rattle.definitions.specs.Record.{recordWords, wordOf, laidOut}
+use Rattle.definitions.specs.Record.{recordWords, wordOf, laidOut, allOne}
 use Rattle.definitions.specs.Answer.{withoutMotion}
 use Rattle.definitions.specs.Refusals.{refusal}
 
@@ -95,7 +95,7 @@ abbrev pub bytes : List ℕ → List Part → List Part
 bytes [] ps = ps
 bytes (c ∷ w) ps = byte c ∷ bytes w ps
 
--- n + 1 numbers parted by one space, a closing bracket, and then ps
+-- n + 1 numbers separated by one space, a closing bracket, and then ps
 abbrev pub numbers : ℕ → List Part → List Part
 numbers zero ps = ended ∷ ps
 numbers (suc n) ps = spaced ∷ numbers n ps
@@ -201,7 +201,7 @@ wholeMotion v =
 -- (intra) is type 0; (whole ..) is type 1, with its motion in all blocks; the numbers of (mb ..) are the words, in order
 abbrev pub wordsFor : RecordKind → List ℤ → List ℤ
 wordsFor intra v = withoutMotion 0
-wordsFor whole v = laidOut 1 (λ q. 0) (λ b. wholeMotion v)
+wordsFor whole v = laidOut (allOne 1 (wholeMotion v))
 wordsFor mb v = v
 
 abbrev pub wordsOf : Entry → List ℤ

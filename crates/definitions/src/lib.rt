@@ -93,8 +93,8 @@ pub enum Split {
 }
 
 // ---- The answer
-// What an answer names: the class, and the first base column and row.
-pub struct Named {
+// What an answer says of a macroblock inside the window, besides its split: the class, and the first base column and row.
+pub struct Origin {
     pub class: Class,
     pub column: u32,
     pub row: u32,
@@ -102,8 +102,8 @@ pub struct Named {
 
 pub enum Answer {
     Outside,
-    Intra(Named),
-    Inherited(Named, Split),
+    Intra(Origin),
+    Inherited(Origin, Split),
 }
 
 // ---- Refusals

@@ -8,9 +8,9 @@ use lib.ListN.{length, getD}
 use Rattle.definitions.specs.declared.Motion.{Motion}
 use Rattle.definitions.specs.Basics.{four, pick}
 use Rattle.definitions.specs.BlockMap.{columnOf, blockIn}
-use Rattle.definitions.specs.Splits.{rasterOf}
 use Rattle.definitions.specs.Record.{recordWords, recordAt, isIntra, motionOf, wellFormed}
 use Rattle.definitions.specs.Inheriting.{setOf}
+use Rattle.definitions.specs.Blocks.{rasterOf}
 
 -- the record that a block with coordinates x and y reads, which of its blocks, and the motion
 abbrev pub addressAt : ℕ → ℕ → ℕ → ℕ

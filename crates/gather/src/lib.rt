@@ -1,9 +1,9 @@
 // Gathering by the block map: the motions that the blocks of a macroblock read, and the set of those that read intra macroblocks.
 ghost use Prim.Native.Nat.{_*_, _+_, _≤_};
 ghost use Rattle.definitions.specs.Record.{isIntra, subTypeOf, typeOf};
-ghost use Rattle.definitions.specs.Splits.{quadrantOf};
 ghost use Rattle.gather.specs.Reads.{Readable, ReadableAt, addressAt, bitOf, blockAt, motionRead, recordRead, rowSet, setBy};
 ghost use Rattle.definitions.specs.Basics.{eqZ};
+ghost use Rattle.definitions.specs.Blocks.{quadrantOf};
 ghost use lib.IntN.{pos};
 ghost use lib.ListN.{getD};
 ghost use mathlib.Core.List.{[], _∷_};

@@ -22,7 +22,7 @@ use Rattle.definitions.specs.declared.LogReply.the-variants.{Written, Refused a
 use Rattle.definitions.specs.Basics.{allOf}
 use Rattle.definitions.specs.Geometry.{axesOf}
 use Rattle.definitions.specs.Record.{recordWords}
-use Rattle.definitions.specs.Refusals.{refusal, verdictOf, geometryTests, geometryVerdict, baseCount, recordTests, allAddresses}
+use Rattle.definitions.specs.Refusals.{refusal, verdictOf, geometryTests, geometryVerdict, recordTests, allAddresses}
 use Rattle.definitions.specs.Text.{Entry, baseOf, textRecords, Reading, notRead, readAs, Reads, tooLong, broken, tooMany, read, TextAnswer, wrongWords, refused, given}
 use Rattle.definitions.specs.Log.{Finding, refuses, makes, findingBy, programTests, judged, findingOf, pictureLines, LogOf, logFor, lineOf, refusedWord, refusedLine, logBytes, LogAnswer, tooFew, logged, RefusedOnly}
 use Rattle.definitions.proofs.Choices.{of-true}
@@ -33,6 +33,7 @@ use Rattle.definitions.proofs.Findings.{numbers-wrong, count-wrong, count-right
 use Rattle.grammar.proofs.Words.{text-words}
 use Rattle.grammar.proofs.OneLog.{demand2}
 use Rattle.definitions.specs.Accepted.{AcceptedAxes}
+use Rattle.definitions.specs.Raster.{baseCount}
 use Rattle.log_lines.specs.Put.{Fits, Put}
 use Rattle.log_picture.proofs.Growing.{picture-short}
 use Rattle.log.specs.Given.{Given, kept, lines}

@@ -12,12 +12,13 @@ use Rattle.definitions.specs.declared.Counts.{Counts}
 use Rattle.definitions.specs.Basics.{upTo}
 use Rattle.definitions.specs.Geometry.{fullSize, macroblocks}
 use Rattle.definitions.specs.Answer.{answerType}
-use Rattle.definitions.specs.Calls.{fullCount, madeAt, countsOf}
+use Rattle.definitions.specs.Calls.{madeAt, countsOf}
 use Rattle.definitions.specs.Log.{lineOf, mbWord, syncWord, answerPieces, macroblockLine, syncLine, pictureLines, logBytes}
 use Rattle.definitions.proofs.Counting.{counts-sum}
 use Rattle.definitions.proofs.Lines.{mb-short, sync-short, type-low, pieces-low}
 use Rattle.definitions.proofs.Parts.{parts, parts-more}
 use Rattle.definitions.specs.Accepted.{AcceptedAxes}
+use Rattle.definitions.specs.Raster.{fullCount}
 use Rattle.upsample.proofs.Sizes.{full-small}
 use Rattle.picture.proofs.Filling.{located}
 use Rattle.log_lines.specs.Put.{Fits, Put}

@@ -1,9 +1,10 @@
 // The lines of a picture's log, on a geometry and records that were checked.
 ghost use Prim.Native.Nat.{_+_, _≤_, _<_};
 ghost use Rattle.definitions.specs.Answer.{answerType};
-ghost use Rattle.definitions.specs.Calls.{fullCount, madeAt};
+ghost use Rattle.definitions.specs.Calls.{madeAt};
 ghost use Rattle.definitions.specs.Log.{answerPieces, lineOf, logBytes, mbWord, pictureLines, syncWord};
 ghost use Rattle.definitions.specs.Splits.{count, subCount};
+ghost use Rattle.definitions.specs.Raster.{fullCount};
 ghost use Rattle.log_lines.specs.Put.{Put};
 ghost use Rattle.upsample.specs.Staged.{Formed};
 ghost use lib.ListN.{length};

@@ -12,10 +12,10 @@ use Rattle.definitions.specs.declared.Motion.{Motion}
 use Rattle.definitions.specs.declared.Split.{Split}
 use Rattle.definitions.specs.Basics.{minus, between, eqZ, four}
 use Rattle.definitions.specs.Geometry.{baseSize, macroblocks}
-use Rattle.definitions.specs.Splits.{rasterOf}
 use Rattle.definitions.specs.Record.{vectorLimit, used, motionOf, vectorWord, typeNumber, laidOut}
 use Rattle.definitions.specs.Inheriting.{zeroMotion, at, clearOf, filled, merged, liveOf, copied, resolved, scaledMotion, motionAt, chosen}
 use Rattle.definitions.specs.Answer.{subTypes}
+use Rattle.definitions.specs.Blocks.{rasterOf}
 use Rattle.definitions.proofs.Choices.{both-true, eqZ-true, each, four-at, four-same}
 use Rattle.definitions.proofs.Formed.{Vectors, vectors-of}
 use Rattle.definitions.proofs.Records.{raster-below}

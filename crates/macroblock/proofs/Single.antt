@@ -14,10 +14,10 @@ use Rattle.definitions.specs.declared.Motion.{Motion}
 use Rattle.definitions.specs.declared.Split.the-variants.{S16x16}
 use Rattle.definitions.specs.Basics.{pick, eqZ, four}
 use Rattle.definitions.specs.Geometry.{baseSize, macroblocks}
-use Rattle.definitions.specs.Splits.{quadrantOf}
 use Rattle.definitions.specs.Record.{recordAt, isIntra, typeOf, subTypeOf, motionOf, typeNumber, laidOut}
 use Rattle.definitions.specs.Inheriting.{zeroMotion, setOf, mostlyIntra, clearOf, filled, merged, copied, copiedFrom, liveOf, someOf, resolved, scaledMotion, motionAt, chosen}
 use Rattle.definitions.specs.Answer.{subTypes}
+use Rattle.definitions.specs.Blocks.{quadrantOf}
 use Rattle.definitions.proofs.Choices.{both-true, either-true, each, four-same, yes, no}
 use Rattle.definitions.proofs.Fewest.{chosen-is}
 use Rattle.definitions.proofs.Motions.{motion-same}

@@ -8,7 +8,7 @@ use Rattle.definitions.specs.declared.SubSplit.the-variants.{S8x8, S8x4, S4x8}
 use Rattle.definitions.specs.declared.Split.the-variants.{S16x16, S16x8, S8x16}
 use Rattle.definitions.specs.Basics.{four}
 use Rattle.definitions.specs.Inheriting.{at, zeroMotion, chosen, motionAt}
-use Rattle.definitions.specs.Splits.{inQuadrant}
+use Rattle.definitions.specs.Blocks.{inQuadrant}
 use Rattle.definitions.proofs.Shapes.{quadrantShape}
 use Rattle.definitions.proofs.Fewest.{OneEach, One, chosen-one, shape-one}
 

@@ -16,7 +16,7 @@ use Rattle.definitions.specs.declared.Counts.{Counts}
 use Rattle.definitions.specs.Basics.{upTo, forEach}
 use Rattle.definitions.specs.Geometry.{fullSize, macroblocks}
 use Rattle.definitions.specs.Answer.{Made, madeOf}
-use Rattle.definitions.specs.Calls.{counted, countsOf, sumOf, fullCount, madeAt}
+use Rattle.definitions.specs.Calls.{counted, countsOf, sumOf, madeAt}
 use Rattle.definitions.proofs.Counting.{counts-more, counts-sum}
 use Rattle.definitions.proofs.Parts.{parts}
 use Rattle.definitions.proofs.RecordLists.{each-same}
@@ -24,6 +24,7 @@ use Rattle.macroblock.specs.declared.AxisRead.{AxisRead}
 use Rattle.macroblock.specs.Made.{readOf, madeBy, Makeable}
 use Rattle.macroblock.proofs.Paper.{placed-by}
 use Rattle.definitions.specs.Accepted.{AcceptedAxes}
+use Rattle.definitions.specs.Raster.{fullCount}
 use Rattle.upsample.specs.Staged.{Formed}
 use Rattle.upsample.proofs.Readiness.{Known, known-of}
 use Rattle.picture.specs.Reads.{noRead, AxisReads}

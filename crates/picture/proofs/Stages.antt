@@ -18,8 +18,9 @@ use Rattle.definitions.specs.Basics.{upTo, forEach}
 use Rattle.definitions.specs.Geometry.{axesOf}
 use Rattle.definitions.specs.Record.{recordWords}
 use Rattle.definitions.specs.Answer.{Made}
-use Rattle.definitions.specs.Refusals.{refusal, verdictOf, geometryTests, geometryVerdict, baseCount, baseTest, outputTest, recordTests, allAddresses}
-use Rattle.definitions.specs.Calls.{Outcome, byVerdict, fullCount, madeAt, countsOf, pictureTests, pictureCall}
+use Rattle.definitions.specs.Refusals.{refusal, verdictOf, geometryTests, geometryVerdict, baseTest, outputTest, recordTests, allAddresses}
+use Rattle.definitions.specs.Calls.{Outcome, byVerdict, madeAt, countsOf, pictureTests, pictureCall}
+use Rattle.definitions.specs.Raster.{baseCount, fullCount}
 use Rattle.definitions.proofs.Choices.{yes, no}
 use Rattle.definitions.proofs.Verdicts.{then-verdict, refused-first}
 use Rattle.records.specs.Checking.{addresses}

@@ -1,10 +1,11 @@
 // The picture call of document 01: all base records are checked, then every macroblock is made in raster order.
 ghost use Prim.Native.Nat.{_*_, _+_, _<_, _≤_};
 ghost use Rattle.definitions.specs.Accepted.{AcceptedAxes, AcceptedAxis};
-ghost use Rattle.definitions.specs.Calls.{counted, countsOf, fullCount, madeAt, pictureCall, sumOf};
+ghost use Rattle.definitions.specs.Calls.{counted, countsOf, madeAt, pictureCall, sumOf};
 ghost use Rattle.definitions.specs.Record.{recordWords};
 ghost use Rattle.definitions.specs.Basics.{forEach, upTo};
 ghost use Rattle.definitions.specs.Geometry.{fullSize, macroblocks};
+ghost use Rattle.definitions.specs.Raster.{fullCount};
 ghost use Rattle.macroblock.specs.Made.{readOf};
 ghost use Rattle.picture.specs.Reads.{AxisReads};
 ghost use Rattle.upsample.specs.Promised.{PicturePromised};

@@ -19,8 +19,9 @@ use Rattle.definitions.specs.declared.SubSplits.{SubSplits}
 use Rattle.definitions.specs.declared.Split.{Split}
 use Rattle.definitions.specs.declared.Split.the-variants.{S16x16, S16x8, S8x16, S8x8 as Quarters}
 use Rattle.definitions.specs.Basics.{pick, eqZ, allBelow, allOf}
-use Rattle.definitions.specs.Splits.{samePrediction, sameMotion, quadrantOf, rasterOf, subPieces, alike, oneEach}
+use Rattle.definitions.specs.Splits.{samePrediction, sameMotion, subPieces, alike, oneEach}
 use Rattle.definitions.specs.Record.{wordOf, typeOf, subTypeOf, isIntra, motionOf, subSplitOf, splitSaid, rule6}
+use Rattle.definitions.specs.Blocks.{quadrantOf, rasterOf}
 use Rattle.definitions.proofs.Choices.{yes, no, each, below-true, below-intro, below-same}
 use Rattle.definitions.proofs.Motions.{motion-same}
 use Rattle.definitions.proofs.Records.{raster-quadrant, raster-place, raster-below}

@@ -5,7 +5,7 @@ use mathlib.Core.Bool.{Bool, true, false, _&&_, and-false}
 use native.Mathlib.Numerals.{add-one}
 use native.Mathlib.Omega.{arith}
 use Rattle.definitions.specs.Basics.{allBelow}
-use Rattle.definitions.specs.Splits.{quadrantOf, inQuadrant, rasterOf}
+use Rattle.definitions.specs.Blocks.{quadrantOf, inQuadrant, rasterOf}
 use Rattle.definitions.proofs.Choices.{both-ways, below-true, below-intro}
 use Rattle.definitions.proofs.Records.{raster-below, raster-is}
 

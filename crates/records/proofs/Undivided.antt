@@ -12,8 +12,9 @@ use Rattle.definitions.specs.declared.SubSplits.{SubSplits}
 use Rattle.definitions.specs.declared.Split.{Split}
 use Rattle.definitions.specs.declared.Split.the-variants.{S16x16, S16x8, S8x16, S8x8 as Quarters}
 use Rattle.definitions.specs.Basics.{pick, eqZ}
-use Rattle.definitions.specs.Splits.{quadrantOf, rasterOf, sameMotion, oneEach}
+use Rattle.definitions.specs.Splits.{sameMotion, oneEach}
 use Rattle.definitions.specs.Record.{typeOf, subTypeOf, isIntra, motionOf, subSplitOf, splitSaid, rule6, wellFormed}
+use Rattle.definitions.specs.Blocks.{quadrantOf, rasterOf}
 use Rattle.definitions.proofs.Choices.{yes, each, below-true}
 use Rattle.definitions.proofs.Formed.{rules-of}
 use Rattle.definitions.proofs.Motions.{motion-true}

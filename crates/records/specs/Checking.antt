@@ -13,8 +13,9 @@ use Rattle.definitions.specs.declared.Split.the-variants.{S16x16, S16x8, S8x16,
 use Rattle.definitions.specs.declared.Verdict.{Verdict}
 use Rattle.definitions.specs.declared.Verdict.the-variants.{Accepted, Refused}
 use Rattle.definitions.specs.Basics.{pick, eqZ, between, allBelow, upTo}
-use Rattle.definitions.specs.Splits.{sameMotion, quadrantOf, inQuadrant, rasterOf}
+use Rattle.definitions.specs.Splits.{sameMotion}
 use Rattle.definitions.specs.Record.{wordOf, referenceOf, vectorXOf, vectorYOf, motionOf, isIntra, used, splitSaid, vectorWord, rule1, rule2, rule3, rule4}
+use Rattle.definitions.specs.Blocks.{quadrantOf, inQuadrant, rasterOf}
 use Rattle.records.specs.declared.Range.{Range}
 
 -- a word is in the range; count words from the first on are

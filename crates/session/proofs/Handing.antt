@@ -17,8 +17,9 @@ use Rattle.definitions.specs.declared.MacroblockReply.the-variants.{Answered, R
 use Rattle.definitions.specs.Basics.{pick}
 use Rattle.definitions.specs.Geometry.{axesOf, fullSize, macroblocks}
 use Rattle.definitions.specs.Refusals.{refusal, geometryVerdict}
-use Rattle.definitions.specs.Calls.{Outcome, macroblockCall, fullCount, noCounts, sumOf}
+use Rattle.definitions.specs.Calls.{Outcome, macroblockCall, noCounts, sumOf}
 use Rattle.definitions.specs.Session.{begin, next, abandon, totals, State, begun, totalsOf, unfinished, beginVerdict, abandonVerdict, nextCall, beginGave, nextGave, abandonGave, exchange, advanced, sound}
+use Rattle.definitions.specs.Raster.{fullCount}
 use Rattle.definitions.proofs.Choices.{yes, no}
 use Rattle.definitions.proofs.Accepted.{accepted-axes}
 use Rattle.definitions.proofs.Sessions.{next-going, next-over, sound-parts}

@@ -12,8 +12,9 @@ use Rattle.definitions.specs.declared.Verdict.the-variants.{Accepted, Refused}
 use Rattle.definitions.specs.Basics.{pick}
 use Rattle.definitions.specs.Geometry.{axesOf}
 use Rattle.definitions.specs.Refusals.{geometryVerdict}
-use Rattle.definitions.specs.Calls.{fullCount, columnAt, rowAt, sumOf}
+use Rattle.definitions.specs.Calls.{sumOf}
 use Rattle.definitions.specs.Session.{State, fresh, begun, finished, accepts, sound}
+use Rattle.definitions.specs.Raster.{fullCount, columnAt, rowAt}
 use Rattle.definitions.proofs.Choices.{yes, no, and-intro, and-no}
 use Rattle.session.specs.declared.Session.{Session}
 use Rattle.session.specs.declared.Stage.the-variants.{Nothing, Unfinished, Finished}

@@ -4,8 +4,9 @@ use lib.Dec.{eqb, ltb}
 use Rattle.definitions.specs.declared.Axes.{Axes}
 use Rattle.definitions.specs.Basics.{pick}
 use Rattle.definitions.specs.Geometry.{axesOf}
-use Rattle.definitions.specs.Calls.{fullCount, columnAt, rowAt, sumOf}
+use Rattle.definitions.specs.Calls.{sumOf}
 use Rattle.definitions.specs.Session.{State, fresh, begun, finished}
+use Rattle.definitions.specs.Raster.{fullCount, columnAt, rowAt}
 use Rattle.session.specs.declared.Stage.{Stage}
 use Rattle.session.specs.declared.Stage.the-variants.{Nothing, Unfinished, Finished}
 

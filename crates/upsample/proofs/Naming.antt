@@ -14,10 +14,10 @@ use Rattle.definitions.specs.declared.Verdict.{Verdict}
 use Rattle.definitions.specs.declared.Verdict.the-variants.{Accepted, Refused}
 use Rattle.definitions.specs.Basics.{forEach}
 use Rattle.definitions.specs.Geometry.{columnsRead}
-use Rattle.definitions.specs.BlockMap.{baseAddress}
 use Rattle.definitions.specs.Record.{recordWords}
 use Rattle.definitions.specs.Answer.{addressesOf}
 use Rattle.definitions.specs.Refusals.{Test, verdictOf, recordTest, recordTests}
+use Rattle.definitions.specs.Raster.{baseAddress}
 use Rattle.definitions.proofs.Choices.{yes, no}
 use Rattle.definitions.proofs.Map.{class-columns, class-rows}
 use Rattle.definitions.proofs.Verdicts.{then-verdict, refused-first}

@@ -13,7 +13,8 @@ use Rattle.definitions.specs.Geometry.{baseSize, scaledSize, cOf, insideAxis, i
 use Rattle.definitions.specs.BlockMap.{stepOf, addressRead}
 use Rattle.definitions.specs.Record.{recordWords, recordAt, wellFormed}
 use Rattle.definitions.specs.Answer.{namedAt, addressesOf}
-use Rattle.definitions.specs.Refusals.{baseCount, addressesRead}
+use Rattle.definitions.specs.Refusals.{addressesRead}
+use Rattle.definitions.specs.Raster.{baseCount}
 use Rattle.definitions.proofs.Choices.{yes, no, both-true}
 use Rattle.definitions.proofs.Accepted.{across-inside, down-inside}
 use Rattle.definitions.proofs.Addresses.{address-named, address-below}

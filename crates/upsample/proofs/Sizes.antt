@@ -4,9 +4,8 @@ use native.Mathlib.Nat.{mul-le-mul}
 use native.Mathlib.Omega.{arith}
 use Rattle.definitions.specs.declared.Axes.{Axes}
 use Rattle.definitions.specs.Geometry.{baseSize, fullSize, macroblocks}
-use Rattle.definitions.specs.Refusals.{baseCount}
-use Rattle.definitions.specs.Calls.{fullCount}
 use Rattle.definitions.specs.Accepted.{AcceptedAxes}
+use Rattle.definitions.specs.Raster.{baseCount, fullCount}
 
 product : (a b : ℕ) → a ≤ 4096 → b ≤ 4096 → macroblocks a * macroblocks b ≤ 65536
 product a b h k =

@@ -13,12 +13,11 @@ use Rattle.definitions.specs.declared.PictureReply.the-variants.{Counted, Refus
 use Rattle.definitions.specs.Basics.{upTo, forEach}
 use Rattle.definitions.specs.Accepted.{AcceptedAxes}
 use Rattle.definitions.specs.Geometry.{columnsRead}
-use Rattle.definitions.specs.BlockMap.{baseAddress}
 use Rattle.definitions.specs.Record.{recordWords}
 use Rattle.definitions.specs.Answer.{madeOf}
-use Rattle.definitions.specs.Refusals.{Test, verdictOf, baseCount, baseTest, outputTest, positionTest, recordTests, addressesRead, allAddresses}
-use Rattle.definitions.specs.Calls.{Outcome, byVerdict, fullCount, madeAt, countsOf}
-use Rattle.definitions.specs.Demand3.{AllFormed}
+use Rattle.definitions.specs.Refusals.{Test, verdictOf, baseTest, outputTest, positionTest, recordTests, addressesRead, allAddresses, AllFormed}
+use Rattle.definitions.specs.Calls.{Outcome, byVerdict, madeAt, countsOf}
+use Rattle.definitions.specs.Raster.{baseAddress, baseCount, fullCount}
 
 -- one macroblock, once its geometry is accepted: refusals 5 to 8
 unfoldable pub axesTests : Axes → List ℤ → ℤ → ℤ → List ℤ → List Test

@@ -8,8 +8,8 @@ use lib.ListN.{length, take, drop, drop-of-length-le}
 use lib.Seq.{take-at, drop-at, drop-drop}
 use Rattle.definitions.specs.declared.Motion.{Motion}
 use Rattle.definitions.specs.Basics.{upTo, forEach}
-use Rattle.definitions.specs.Splits.{rasterOf}
 use Rattle.definitions.specs.Record.{recordWords, referencesOf, vectorsOf, laidOut}
+use Rattle.definitions.specs.Blocks.{rasterOf}
 
 -- a part of the length n, put where m words stand before it
 abbrev put : ℕ → ℕ → List ℤ → List ℤ → List ℤ

@@ -4,9 +4,9 @@ ghost use mathlib.Core.List.{_∷_};
 ghost use lib.IntN.{pos};
 ghost use lib.ListN.{length, getD};
 ghost use Rattle.definitions.specs.Basics.{upTo, forEach};
-ghost use Rattle.definitions.specs.Splits.{rasterOf};
 ghost use Rattle.definitions.specs.Record.{recordWords, referencesOf, vectorsOf, laidOut};
 ghost use Rattle.definitions.specs.Inheriting.{motionAt};
+ghost use Rattle.definitions.specs.Blocks.{rasterOf};
 use definitions::Motion;
 use definitions::RECORD_WORDS;
 

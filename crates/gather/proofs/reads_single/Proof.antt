@@ -5,8 +5,8 @@ use native.Mathlib.Omega.{arith}
 use lib.IntN.{pos}
 use Rattle.definitions.specs.Basics.{eqZ}
 use Rattle.definitions.specs.BlockMap.{blockIn}
-use Rattle.definitions.specs.Splits.{quadrantOf}
 use Rattle.definitions.specs.Record.{recordAt, subTypeOf}
+use Rattle.definitions.specs.Blocks.{quadrantOf}
 use borrow.Author.Needs.{needs}
 use Rattle.gather.proofs.reads_single.Statement.{statement}
 use Rattle.gather.proofs.reads_single.Tie as tie

@@ -4,10 +4,11 @@ use mathlib.Core.Path.{_≡_, sym, ap, subst, _∙_}
 use Rattle.definitions.specs.declared.Verdict.the-variants.{Accepted}
 use Rattle.definitions.specs.Geometry.{axesOf}
 use Rattle.definitions.specs.Record.{recordWords}
-use Rattle.definitions.specs.Refusals.{geometryVerdict, verdictOf, baseCount, recordTests, allAddresses}
+use Rattle.definitions.specs.Refusals.{geometryVerdict, verdictOf, recordTests, allAddresses}
 use Rattle.definitions.proofs.RecordLists.{all-formed, index-member}
 use Rattle.geometry.proofs.Verdicts.{checked-accepted, checked-refused, checked-valid}
 use Rattle.definitions.specs.Accepted.{AcceptedAxes}
+use Rattle.definitions.specs.Raster.{baseCount}
 use Rattle.picture.proofs.Stages.{all-checked}
 use Rattle.log.proofs.Stages.{wrong-numbers, wrong-count, wrong-record, right-records}
 use borrow.Author.Needs.{needs}

@@ -4,7 +4,7 @@ use native.Mathlib.Omega.{arith}
 use lib.IntN.{pos}
 use lib.ListN.{length-replicate}
 use Rattle.definitions.specs.Answer.{Made}
-use Rattle.definitions.specs.Calls.{fullCount}
+use Rattle.definitions.specs.Raster.{fullCount}
 use Rattle.picture.proofs.Filling.{Located, located, placeable, made-there}
 use borrow.Author.Needs.{needs}
 use Rattle.log_picture.proofs.answer_at.Statement.{statement}
@@ -35,8 +35,8 @@ cast-axis-read-2 c = omega (arith, there (c .before .before))
 axis-read-requires-2 : tie.Need-axis-read-requires-2
 axis-read-requires-2 c κs = (c .before .before .pre .0 .placed .axes .vertical, there (c .before .before) .row)
 
-slice-aggregate-place : tie.Need-slice-aggregate-place
-slice-aggregate-place c = search needs
+slice-aggregate-make : tie.Need-slice-aggregate-place
+slice-aggregate-make c = search needs
 
 make-requires : tie.Need-make-requires
 make-requires c κs =
@@ -59,6 +59,6 @@ answer-at-spec =
     div-axis-read
     cast-axis-read-2
     axis-read-requires-2
-    slice-aggregate-place
+    slice-aggregate-make
     make-requires
     returns)

@@ -3,8 +3,8 @@ use mathlib.Core.Bool.{_&&_}
 use mathlib.Core.Path.{sym, _∙_}
 use Rattle.macroblock.proofs.Making.{placed-in, placed-out}
 use borrow.Author.Needs.{needs}
-use Rattle.macroblock.proofs.place.Statement.{statement}
-use Rattle.macroblock.proofs.place.Tie as tie
+use Rattle.macroblock.proofs.make.Statement.{statement}
+use Rattle.macroblock.proofs.make.Tie as tie
 
 is-one-requires : tie.Need-is-one-requires
 is-one-requires c κs = search needs

@@ -1,9 +1,9 @@
 -- `picture::accepted_picture` meets its contract. Assumes nothing.
 use Rattle.picture.proofs.Stages.{wrong-base, wrong-output, wrong-record, all-right, all-checked}
 use Rattle.definitions.proofs.RecordLists.{all-formed, index-member}
-use Rattle.definitions.specs.Calls.{fullCount}
-use Rattle.definitions.specs.Refusals.{verdictOf, baseCount, recordTests, allAddresses}
+use Rattle.definitions.specs.Refusals.{verdictOf, recordTests, allAddresses}
 use Rattle.definitions.specs.Record.{recordWords}
+use Rattle.definitions.specs.Raster.{fullCount, baseCount}
 use Rattle.definitions.specs.declared.PictureReply.the-variants.{Refused as NotMade}
 use lib.ListN.{length}
 use mathlib.Core.Path.{_≡_, sym, ap, _∙_}

@@ -7,7 +7,8 @@ use lib.ListN.{length, getD, drop, length-take, length-drop}
 use Rattle.definitions.specs.Basics.{upTo}
 use Rattle.definitions.specs.Record.{recordWords}
 use Rattle.definitions.specs.Answer.{Made}
-use Rattle.definitions.specs.Calls.{madeAt, countsOf, fullCount}
+use Rattle.definitions.specs.Calls.{madeAt, countsOf}
+use Rattle.definitions.specs.Raster.{fullCount}
 use Rattle.definitions.proofs.Demand.{made-length}
 use Rattle.definitions.proofs.Parts.{parts, parts-none, parts-all, part-back}
 use Rattle.macroblock.specs.Made.{readOf}
@@ -70,11 +71,11 @@ array-copy-out-h c =
 row-read-requires : tie.Need-row-read-requires Inv-loop μ-loop
 row-read-requires c κs = (c .before .before .before .before .before .before .before .before .pre .0 .placed .axes .vertical, row-low (c .before .before), c .before .before .before .loop .inv .6)
 
-mul-place : tie.Need-mul-place Inv-loop μ-loop
-mul-place c = search needs
+mul-make : tie.Need-mul-place Inv-loop μ-loop
+mul-make c = search needs
 
-sub-place : tie.Need-sub-place Inv-loop μ-loop
-sub-place c = search needs
+sub-make : tie.Need-sub-place Inv-loop μ-loop
+sub-make c = search needs
 
 part-make-start : tie.Need-part-make-start Inv-loop μ-loop
 part-make-start c = search needs
@@ -110,7 +111,7 @@ loop-again c =
     let f = madeAt (s .args .g) (s .args .base .now) in
     let n = l .loop .a in
     let m = made-there (s .args .g) n (l .loop .at .column) (l .loop .at .row) (l .loop .inv .5) (l .loop .inv .4) (s .args .base .now) (s .pre .0) _ _ (column-there (c .before .before .before .before .before .before .before .before)) (c .before .before .before .before .before .row-read .ensures) in
-    let p = c .before .before .before .place in (
+    let p = c .before .before .before .make in (
       omega (arith, c .before .before .before .before .before .before .before .before .loop-test),
       c .before .before .out .given .1 ∙ l .loop .inv .1,
       part-back (λ k. f k .written) recordWords (made-length (s .args .g) (s .args .base .now)) (s .args .out .now) (l .loop .out) (p .last .1 .1 .1 .1 .0) n (77 * n + 77 - 77 * n) (omega arith) (l .loop .inv .2) (p .ensures .1 ∙ ap (λ (k : Made). k .written) m),
@@ -150,8 +151,8 @@ fill-spec =
     mul-h
     array-copy-out-h
     row-read-requires
-    mul-place
-    sub-place
+    mul-make
+    sub-make
     part-make-start
     part-make-end
     make-requires

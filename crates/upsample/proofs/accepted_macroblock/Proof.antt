@@ -5,9 +5,10 @@ use Rattle.upsample.proofs.Within.{within-natural}
 use Rattle.upsample.specs.Staged.{sizedCall}
 use Rattle.definitions.proofs.Choices.{both-true}
 use Rattle.definitions.specs.Calls.{Outcome}
-use Rattle.definitions.specs.Refusals.{baseCount, withinAxis}
+use Rattle.definitions.specs.Refusals.{withinAxis}
 use Rattle.definitions.specs.Record.{recordWords}
 use Rattle.definitions.specs.Geometry.{fullSize}
+use Rattle.definitions.specs.Raster.{baseCount}
 use Rattle.definitions.specs.declared.MacroblockReply.the-variants.{Refused as Declined}
 use Rattle.definitions.specs.declared.MacroblockReply.{MacroblockReply}
 use lib.ListN.{length}

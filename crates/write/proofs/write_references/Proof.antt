@@ -6,9 +6,9 @@ use native.Mathlib.Omega.{arith}
 use lib.ListN.{length, drop, length-take, length-drop}
 use borrow.Author.Needs.{needs}
 use Rattle.definitions.specs.declared.Motion.{Motion}
-use Rattle.definitions.specs.Splits.{rasterOf}
 use Rattle.definitions.specs.Record.{referencesOf}
 use Rattle.definitions.specs.Inheriting.{motionAt}
+use Rattle.definitions.specs.Blocks.{rasterOf}
 use Rattle.definitions.proofs.Records.{raster-motion}
 use Rattle.definitions.proofs.Parts.{parts, parts-none, parts-all, part-back}
 use Rattle.write.proofs.write_references.Statement.{statement}
