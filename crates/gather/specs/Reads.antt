@@ -8,7 +8,7 @@ use lib.ListN.{length, getD}
 use Rattle.definitions.specs.declared.Motion.{Motion}
 use Rattle.definitions.specs.Basics.{four, pick}
 use Rattle.definitions.specs.BlockMap.{columnOf, blockIn}
-use Rattle.definitions.specs.Record.{recordWords, recordAt, isIntra, motionOf, wellFormed}
+use Rattle.definitions.specs.Record.{recordWords, recordAt, isIntra, motionOf, wellFormed, narrow}
 use Rattle.definitions.specs.Inheriting.{setOf}
 use Rattle.definitions.specs.Blocks.{rasterOf}
 
@@ -29,7 +29,7 @@ motionRead width base x y = motionOf (recordRead width base x y) (blockAt x y)
 pub record ReadableAt (width : ℕ) (base : List ℤ) (x y : ℕ) : Type 0 where
   pub low : addressAt width x y < 65536
   pub fits : (addressAt width x y + 1) * recordWords ≤ length base
-  pub formed : wellFormed (recordRead width base x y) ≡ true
+  pub formed : wellFormed narrow (recordRead width base x y) ≡ true
 
 -- block i of the sixteen: the record and the motion that it reads; of all sixteen the intra set and the motions
 abbrev pub readBy : ℕ → List ℕ → List ℕ → List ℤ → ℕ → List ℤ

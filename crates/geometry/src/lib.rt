@@ -11,6 +11,8 @@ ghost use Rattle.definitions.specs.Basics.{between as inRange};
 ghost use Rattle.geometry.specs.Checked.{NoneNegative, checkedOf};
 ghost use mathlib.Core.Bool.{_&&_, true};
 ghost use mathlib.Core.Path.{_≡_};
+use common::refusals;
+use common::refusals::refused;
 use definitions::Axes;
 use definitions::Axis;
 use definitions::AxisNumbers;
@@ -65,16 +67,16 @@ fn verdict_on(n: Numbers) -> Verdict
     ensures { λ r. ⌜ r ≡ geometryVerdict n ⌝ }
 {
     if !bases_right(n) {
-        return refused_by(1);
+        return refused_by(refusals::BASE_SIZE);
     }
     if !fulls_right(n) {
-        return refused_by(2);
+        return refused_by(refusals::FULL_SIZE);
     }
     if !scaleds_right(n) {
-        return refused_by(3);
+        return refused_by(refusals::SCALED_SIZE);
     }
     if !offsets_right(n) {
-        return refused_by(4);
+        return refused_by(refusals::OFFSET);
     }
     Verdict::Accepted
 }
@@ -82,11 +84,7 @@ fn verdict_on(n: Numbers) -> Verdict
 fn refused_by(number: u32) -> Verdict
     ensures { λ r. ⌜ r ≡ Verdict.Refused (refusal number) ⌝ }
 {
-    Verdict::Refused(Refusal {
-        number,
-        place: 0,
-        rule: 0,
-    })
+    Verdict::Refused(refused(number))
 }
 
 fn bases_right(n: Numbers) -> bool

@@ -21,7 +21,7 @@ use Rattle.definitions.specs.declared.LogReply.{LogReply}
 use Rattle.definitions.specs.declared.LogReply.the-variants.{Written, Refused as NotWritten}
 use Rattle.definitions.specs.Basics.{allOf}
 use Rattle.definitions.specs.Geometry.{axesOf}
-use Rattle.definitions.specs.Record.{recordWords}
+use Rattle.definitions.specs.Record.{recordWords, narrow}
 use Rattle.definitions.specs.Refusals.{refusal, verdictOf, geometryTests, geometryVerdict, recordTests, allAddresses}
 use Rattle.definitions.specs.Text.{Entry, baseOf, textRecords, Reading, notRead, readAs, Reads, tooLong, broken, tooMany, read, TextAnswer, wrongWords, refused, given}
 use Rattle.definitions.specs.Log.{Finding, refuses, makes, findingBy, programTests, judged, findingOf, pictureLines, LogOf, logFor, lineOf, refusedWord, refusedLine, logBytes, LogAnswer, tooFew, logged, RefusedOnly}
@@ -73,13 +73,13 @@ module _ (n : Numbers) (count : ℕ) (base : List ℤ) (out : List ℕ) where
     wrong-count d r e = given-refusal out _ all r (count-wrong n count base accepted (λ s. d (s ∙ ap baseCount (sym is))) ∙ ap Refused (sym e))
 
     module _ (right : count ≡ baseCount axes) where
-      of-records : all ≡ verdictOf (recordTests base (allAddresses axes))
-      of-records = count-right n count base accepted (right ∙ ap baseCount is) ∙ ap (λ (g : Axes). verdictOf (recordTests base (allAddresses g))) (sym is)
+      of-records : all ≡ verdictOf (recordTests narrow base (allAddresses axes))
+      of-records = count-right n count base accepted (right ∙ ap baseCount is) ∙ ap (λ (g : Axes). verdictOf (recordTests narrow base (allAddresses g))) (sym is)
 
-      pub wrong-record : (r : Refusal) → verdictOf (recordTests base (allAddresses axes)) ≡ Refused r → Given out (judged n count base) (NotWritten r) out
+      pub wrong-record : (r : Refusal) → verdictOf (recordTests narrow base (allAddresses axes)) ≡ Refused r → Given out (judged n count base) (NotWritten r) out
       wrong-record r e = given-refusal out _ all r (of-records ∙ e)
 
-      pub right-records : verdictOf (recordTests base (allAddresses axes)) ≡ Accepted → AcceptedAxes axes → logBytes ≤ length out
+      pub right-records : verdictOf (recordTests narrow base (allAddresses axes)) ≡ Accepted → AcceptedAxes axes → logBytes ≤ length out
           → (k : ℕ) (new : List ℕ) → Put out 0 (pictureLines axes base) new k → Given out (judged n count base) (Written k) new
       right-records e a room k new p =
           let l = picture-short (axesOf n) base (subst AcceptedAxes is a) in

@@ -13,7 +13,7 @@ use Rattle.definitions.specs.Answer.{Made, withoutMotion, writtenFor}
 use Rattle.definitions.proofs.Choices.{yes, no}
 use Rattle.gather.specs.Reads.{setBy}
 use Rattle.macroblock.specs.declared.AxisRead.{AxisRead}
-use Rattle.macroblock.specs.Made.{namedBy, motionsBy, answerBy, madeInside, inheritedBy, madeBy}
+use Rattle.macroblock.specs.Made.{originBy, motionsBy, answerBy, madeInside, inheritedBy, madeBy}
 
 -- what a function hands back and leaves in its words is the answer and the record of what is made
 pub record Gives (answer : Answer) (words : List ℤ) (m : Made) : Type 0 where
@@ -29,11 +29,11 @@ module _ (g : Axes) (h v : AxisRead) (base : List ℤ) where
   by-answer e = ap (λ (a : Answer). record { answer = a; written = writtenFor a (motionsBy g h v base) }) e
 
   module _ {set : ℕ} (is : set ≡ setBy (macroblocks (baseSize (g .horizontal))) (h .reads) (v .reads) base) where
-    pub made-intra : {answer : Answer} {words : List ℤ} → mostlyIntra set ≡ true → answer ≡ Intra (namedBy h v) → words ≡ withoutMotion 0 → Gives answer words (madeInside g h v base)
+    pub made-intra : {answer : Answer} {words : List ℤ} → mostlyIntra set ≡ true → answer ≡ Intra (originBy h v) → words ≡ withoutMotion 0 → Gives answer words (madeInside g h v base)
     unfolding answerBy writtenFor
     made-intra t a w = gives (by-answer (yes _ _ (ap mostlyIntra (sym is) ∙ t)) ∙ (λ i. record { answer = sym a i; written = sym w i }))
 
-    pub made-inherited : {answer : Answer} {words : List ℤ} → mostlyIntra set ≡ false → answer ≡ Inherited (namedBy h v) (chosen (motionsBy g h v base)) → words ≡ inheritedBy g h v base
+    pub made-inherited : {answer : Answer} {words : List ℤ} → mostlyIntra set ≡ false → answer ≡ Inherited (originBy h v) (chosen (motionsBy g h v base)) → words ≡ inheritedBy g h v base
         → Gives answer words (madeInside g h v base)
     unfolding answerBy writtenFor inheritedBy
     made-inherited t a w = gives (by-answer (no _ _ (ap mostlyIntra (sym is) ∙ t)) ∙ (λ i. record { answer = sym a i; written = sym w i }))

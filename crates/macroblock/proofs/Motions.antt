@@ -12,7 +12,7 @@ use Rattle.definitions.specs.declared.Motion.{Motion}
 use Rattle.definitions.specs.declared.Split.{Split}
 use Rattle.definitions.specs.Basics.{minus, between, eqZ, four}
 use Rattle.definitions.specs.Geometry.{baseSize, macroblocks}
-use Rattle.definitions.specs.Record.{vectorLimit, used, motionOf, vectorWord, typeNumber, laidOut}
+use Rattle.definitions.specs.Record.{narrow, used, motionOf, vectorWord, typeNumber, laidOut}
 use Rattle.definitions.specs.Inheriting.{zeroMotion, at, clearOf, filled, merged, liveOf, copied, resolved, scaledMotion, motionAt, chosen}
 use Rattle.definitions.specs.Answer.{subTypes}
 use Rattle.definitions.specs.Blocks.{rasterOf}
@@ -32,10 +32,10 @@ zero-word : (t : Bool) (z : ℤ) → t ≡ false → (t || eqZ z (pos 0)) ≡ tr
 zero-word true z f e = cc
 zero-word false z f e = eqZ-true z (pos 0) e
 
-empty : (p : Prediction) → vectorWord (used (p .reference)) (p .x) ≡ true → vectorWord (used (p .reference)) (p .y) ≡ true → Empty p
+empty : (p : Prediction) → vectorWord narrow (used (p .reference)) (p .x) ≡ true → vectorWord narrow (used (p .reference)) (p .y) ≡ true → Empty p
 empty p a b u =
-    let word : (z : ℤ) → vectorWord (used (p .reference)) z ≡ true → z ≡ pos 0 =
-    λ z e. zero-word (used (p .reference)) z u (both-true (between (minus vectorLimit) (pos (vectorLimit - 1)) z) (used (p .reference) || eqZ z (pos 0)) e .1) in
+    let word : (z : ℤ) → vectorWord narrow (used (p .reference)) z ≡ true → z ≡ pos 0 =
+    λ z e. zero-word (used (p .reference)) z u (both-true (between (minus narrow) (pos (narrow - 1)) z) (used (p .reference) || eqZ z (pos 0)) e .1) in
     let r = not-used (p .reference) u in
     let x = word (p .x) a in
     let y = word (p .y) b in
@@ -46,7 +46,7 @@ module _ (width : ℕ) (base : List ℤ) (x y : ℕ) (r : ReadableAt width base 
   block = blockAt x y
 
   vectors : (l : ℕ) → l < 2 → Vectors (recordRead width base x y) block l
-  vectors l h = vectors-of (recordRead width base x y) (r .formed) block l (omega arith) h
+  vectors l h = vectors-of narrow (recordRead width base x y) (r .formed) block l (omega arith) h
 
   pub read-range : Both InRange (motionRead width base x y)
   unfolding motionRead motionOf

@@ -9,7 +9,7 @@ use Rattle.macroblock.specs.declared.AxisRead.{AxisRead}
 use Rattle.definitions.specs.Geometry.{insideAxis, inside, sampleOf}
 use Rattle.definitions.specs.BlockMap.{stepOf, addressRead, blockRead}
 use Rattle.definitions.specs.Inheriting.{intraSet, gathered, inheritedMotions}
-use Rattle.definitions.specs.Answer.{namedAt, answerOf, writtenFor, madeOf}
+use Rattle.definitions.specs.Answer.{originAt, answerOf, writtenFor, madeOf}
 use Rattle.definitions.proofs.Choices.{yes, no, and-intro}
 use Rattle.definitions.proofs.Answers.{made-outside}
 use Rattle.macroblock.specs.Made.{motionsBy, resolvedBy, answerBy, madeInside, readIn, nowhere, readOf, madeBy}
@@ -27,7 +27,7 @@ module _ (g : Axes) (column row : ℕ) (base : List ℤ) where
   motions-same = refl
 
   answer-same : inside g column row ≡ true → answerOf g base column row ≡ answerBy g hor ver base
-  unfolding answerOf answerBy namedAt intraSet inheritedMotions gathered addressRead blockRead motionsBy resolvedBy setBy gatheredBy motionRead
+  unfolding answerOf answerBy originAt intraSet inheritedMotions gathered addressRead blockRead motionsBy resolvedBy setBy gatheredBy motionRead
   answer-same e = yes _ _ e
 
   pub made-by : inside g column row ≡ true → madeOf g base column row ≡ madeInside g hor ver base

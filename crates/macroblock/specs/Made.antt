@@ -10,7 +10,7 @@ use Rattle.definitions.specs.declared.Axis.{Axis}
 use Rattle.definitions.specs.declared.Axes.{Axes}
 use Rattle.definitions.specs.declared.AxisStep.{AxisStep}
 use Rattle.definitions.specs.declared.Motion.{Motion}
-use Rattle.definitions.specs.declared.Named.{Named}
+use Rattle.definitions.specs.declared.Origin.{Origin}
 use Rattle.definitions.specs.declared.Answer.{Answer}
 use Rattle.definitions.specs.declared.Answer.the-variants.{Outside, Intra, Inherited}
 use Rattle.macroblock.specs.declared.AxisRead.{AxisRead}
@@ -44,8 +44,8 @@ unfoldable pub onePart : ℕ → List ℕ → Bool
 onePart d reads = (eqb (getD reads 1 0 / d) (getD reads 0 0 / d) && eqb (getD reads 2 0 / d) (getD reads 0 0 / d)) && eqb (getD reads 3 0 / d) (getD reads 0 0 / d)
 
 -- ---- What is made inside
-abbrev pub namedBy : AxisRead → AxisRead → Named
-namedBy h v = record { class = classOf (h .two) (v .two); column = h .first; row = v .first }
+abbrev pub originBy : AxisRead → AxisRead → Origin
+originBy h v = record { class = classOf (h .two) (v .two); column = h .first; row = v .first }
 
 -- after steps 1 to 3, and after step 4
 unfoldable pub resolvedBy : Axes → AxisRead → AxisRead → List ℤ → List (List Motion)
@@ -58,7 +58,7 @@ motionsBy g h v base = four (λ q. four (λ k. scaledMotion g (at (resolvedBy g 
 
 unfoldable pub answerBy : Axes → AxisRead → AxisRead → List ℤ → Answer
 answerBy g h v base =
-    pick (mostlyIntra (setBy (macroblocks (baseSize (g .horizontal))) (h .reads) (v .reads) base)) (Intra (namedBy h v)) (Inherited (namedBy h v) (chosen (motionsBy g h v base)))
+    pick (mostlyIntra (setBy (macroblocks (baseSize (g .horizontal))) (h .reads) (v .reads) base)) (Intra (originBy h v)) (Inherited (originBy h v) (chosen (motionsBy g h v base)))
 
 unfoldable pub madeInside : Axes → AxisRead → AxisRead → List ℤ → Made
 madeInside g h v base = record { answer = answerBy g h v base; written = writtenFor (answerBy g h v base) (motionsBy g h v base) }

@@ -6,7 +6,7 @@ ghost use Rattle.definitions.specs.Geometry.{baseSize, macroblocks};
 ghost use Rattle.definitions.specs.Inheriting.{chosen, clearOf, filled, merged, motionAt};
 ghost use Rattle.definitions.specs.Record.{laidOut, recordWords, subTypeNumber, typeNumber};
 ghost use Rattle.gather.specs.Reads.{ReadableAt, motionRead, setBy};
-ghost use Rattle.macroblock.specs.Made.{Makeable, Ready, Small, inheritedBy, madeInside, motionsBy, namedBy, nowhere, onePart, madeBy, readIn, readOf, resolvedBy};
+ghost use Rattle.macroblock.specs.Made.{Makeable, Ready, Small, inheritedBy, madeInside, motionsBy, originBy, nowhere, onePart, madeBy, readIn, readOf, resolvedBy};
 ghost use lib.ListN.{getD, length};
 ghost use mathlib.Core.Bool.{_&&_, true};
 ghost use mathlib.Core.List.{[], _∷_};
@@ -17,7 +17,7 @@ use definitions::Axis;
 use definitions::AxisStep;
 use definitions::EnhancementSample;
 use definitions::Motion;
-use definitions::Named;
+use definitions::Origin;
 use definitions::Prediction;
 use definitions::Split;
 use definitions::SubSplit;
@@ -156,10 +156,10 @@ fn write_unused(out: &mut [i16], kind: u8)
 }
 
 // ---- Inside
-fn named_of(h: AxisRead, v: AxisRead) -> Named
-    ensures { λ r. ⌜ r ≡ namedBy h v ⌝ }
+fn named_of(h: AxisRead, v: AxisRead) -> Origin
+    ensures { λ r. ⌜ r ≡ originBy h v ⌝ }
 {
-    Named {
+    Origin {
         class: class_of(h.two, v.two),
         column: h.first as u32,
         row: v.first as u32,

@@ -4,7 +4,7 @@ use mathlib.Core.Path.{_≡_}
 use native.Mathlib.Nat.{div-mul-le-self, lt-div-mul-add, div-eq-of-lt-le, div-le-of-le-mul, mul-le-mul, mul-le-mul-left, mul-le-mul-right, lt-of-mul-lt-mul-right}
 use native.Mathlib.Omega.{arith}
 use Rattle.definitions.specs.Accepted.{Sized}
-use Rattle.definitions.specs.Record.{vectorLimit}
+use Rattle.definitions.specs.Record.{narrow}
 use Rattle.motion.specs.Scales.{inverseOf}
 
 -- b · (p / b + 1) is above p, by at most b: x times that is less than p, so the quotient is not raised.
@@ -17,7 +17,7 @@ inverse-is p b x hb few =
     div-eq-of-lt-le p low (lt-of-mul-lt-mul-right b high)
 
 -- the numbers fit
-pub times-high : (b s n : ℕ) → n ≤ vectorLimit → Sized b s → n * s ≤ 2 ^ 26
+pub times-high : (b s n : ℕ) → n ≤ narrow → Sized b s → n * s ≤ 2 ^ 26
 times-high b s n h z =
     let k : s ≤ 2 ^ 13 = omega arith in
     omega (arith, mul-le-mul h k)

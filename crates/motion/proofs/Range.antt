@@ -7,9 +7,9 @@ use lib.IntN.{ℤ, pos, negsuc, natAbs}
 use lib.Signed.{leZ}
 use borrow.Author.Tests.{leb-true}
 use Rattle.definitions.specs.Basics.{minus, between}
-use Rattle.definitions.specs.Record.{vectorLimit}
+use Rattle.definitions.specs.Record.{narrow}
 use Rattle.definitions.proofs.Choices.{both-true}
 
-pub size-of : (v : ℤ) → between (minus vectorLimit) (pos (vectorLimit - 1)) v ≡ true → natAbs v ≤ vectorLimit
-size-of (pos n) e = let l = leb-true n (vectorLimit - 1) (both-true (leZ (minus vectorLimit) (pos n)) (leZ (pos n) (pos (vectorLimit - 1))) e .1) in omega arith
-size-of (negsuc n) e = let l = leb-true n (vectorLimit - 1) (both-true (leZ (minus vectorLimit) (negsuc n)) (leZ (negsuc n) (pos (vectorLimit - 1))) e .0) in omega arith
+pub size-of : (v : ℤ) → between (minus narrow) (pos (narrow - 1)) v ≡ true → natAbs v ≤ narrow
+size-of (pos n) e = let l = leb-true n (narrow - 1) (both-true (leZ (minus narrow) (pos n)) (leZ (pos n) (pos (narrow - 1))) e .1) in omega arith
+size-of (negsuc n) e = let l = leb-true n (narrow - 1) (both-true (leZ (minus narrow) (negsuc n)) (leZ (negsuc n) (pos (narrow - 1))) e .0) in omega arith

@@ -5,8 +5,8 @@ use mathlib.Core.Bool.{true}
 use lib.IntN.{pos}
 use Rattle.definitions.specs.declared.Prediction.{Prediction}
 use Rattle.definitions.specs.Basics.{minus, between}
-use Rattle.definitions.specs.Record.{vectorLimit}
+use Rattle.definitions.specs.Record.{narrow}
 
 pub record InRange (p : Prediction) : Type 0 where
-  pub x : between (minus vectorLimit) (pos (vectorLimit - 1)) (p .x) ≡ true
-  pub y : between (minus vectorLimit) (pos (vectorLimit - 1)) (p .y) ≡ true
+  pub x : between (minus narrow) (pos (narrow - 1)) (p .x) ≡ true
+  pub y : between (minus narrow) (pos (narrow - 1)) (p .y) ≡ true

@@ -3,7 +3,7 @@ ghost use Prim.Native.Nat.{ℕ, _*_, _+_, _/_, _<_, _≤_};
 ghost use Rattle.definitions.proofs.Shapes.{quadrantShape};
 ghost use Rattle.definitions.specs.Accepted.{AcceptedAxis};
 ghost use Rattle.definitions.specs.Inheriting.{at, chosen, scaledMotion, scaledWord, zeroMotion};
-ghost use Rattle.definitions.specs.Record.{vectorLimit};
+ghost use Rattle.definitions.specs.Record.{narrow};
 ghost use Rattle.definitions.specs.Splits.{sameMotion, samePrediction};
 ghost use Rattle.definitions.specs.Basics.{eqZ, four, signed};
 ghost use Rattle.motion.specs.Range.{InRange};
@@ -73,7 +73,7 @@ fn scale_of(a: Axis) -> Scale
 
 // (|v|·S + B/2) / B
 fn scale_size(s: Scale, n: u32) -> u32
-    requires { ⌜ (n ≤ vectorLimit) × AcceptedScale s ⌝ }
+    requires { ⌜ (n ≤ narrow) × AcceptedScale s ⌝ }
     ensures { λ r. ⌜ (r ≡ (n * s .scaled + s .base / 2) / s .base) × (r ≤ 2 * n) ⌝ }
 {
     let sum = n * s.scaled + s.base / 2;
@@ -82,7 +82,7 @@ fn scale_size(s: Scale, n: u32) -> u32
 
 // The sign is taken off and put back by itself: no branch stands round the product.
 fn magnitude(v: i16) -> u32
-    requires { ⌜ natAbs v ≤ vectorLimit ⌝ }
+    requires { ⌜ natAbs v ≤ narrow ⌝ }
     ensures { λ r. ⌜ r ≡ natAbs v ⌝ }
 {
     if v < 0 { (0 - v) as u32 } else { v as u32 }
@@ -96,7 +96,7 @@ fn with_sign_of(v: i16, n: i16) -> i16
 }
 
 fn scale_word(s: Scale, v: i16) -> i16
-    requires { ⌜ (natAbs v ≤ vectorLimit) × AcceptedScale s ⌝ }
+    requires { ⌜ (natAbs v ≤ narrow) × AcceptedScale s ⌝ }
     ensures { λ r. ⌜ r ≡ scaledWord (s .base) (s .scaled) v ⌝ }
 {
     with_sign_of(v, scale_size(s, magnitude(v)) as i16)

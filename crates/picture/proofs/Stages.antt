@@ -16,7 +16,7 @@ use Rattle.definitions.specs.declared.PictureReply.{PictureReply}
 use Rattle.definitions.specs.declared.PictureReply.the-variants.{Counted, Refused as NotMade}
 use Rattle.definitions.specs.Basics.{upTo, forEach}
 use Rattle.definitions.specs.Geometry.{axesOf}
-use Rattle.definitions.specs.Record.{recordWords}
+use Rattle.definitions.specs.Record.{recordWords, narrow}
 use Rattle.definitions.specs.Answer.{Made}
 use Rattle.definitions.specs.Refusals.{refusal, verdictOf, geometryTests, geometryVerdict, baseTest, outputTest, recordTests, allAddresses}
 use Rattle.definitions.specs.Calls.{Outcome, byVerdict, madeAt, countsOf, pictureTests, pictureCall}
@@ -38,7 +38,7 @@ module _ (g : Axes) (base words : List ℤ) where
   abbrev call : Outcome PictureReply
   call = axesPicture g base words
 
-  by-tests : (v : Verdict) → verdictOf (baseTest g base ∷ outputTest (fullCount g) words ∷ recordTests base (allAddresses g)) ≡ v → call ≡ byVerdict v NotMade words makes
+  by-tests : (v : Verdict) → verdictOf (baseTest g base ∷ outputTest (fullCount g) words ∷ recordTests narrow base (allAddresses g)) ≡ v → call ≡ byVerdict v NotMade words makes
   unfolding axesPicture
   by-tests v e = ap (λ (u : Verdict). byVerdict u NotMade words makes) e
 
@@ -53,25 +53,25 @@ module _ (g : Axes) (base words : List ℤ) where
     wrong-output n = handed _ _ _ (by-tests _ (no _ _ base-passed ∙ yes _ _ (ap not (ne-eqb _ _ n))))
 
     module _ (output-right : length words ≡ recordWords * fullCount g) where
-      by-records : (v : Verdict) → verdictOf (recordTests base (allAddresses g)) ≡ v → call ≡ byVerdict v NotMade words makes
+      by-records : (v : Verdict) → verdictOf (recordTests narrow base (allAddresses g)) ≡ v → call ≡ byVerdict v NotMade words makes
       by-records v e = by-tests v (no _ _ base-passed ∙ (no _ _ (ap not (eq-eqb _ _ output-right)) ∙ e))
 
-      pub wrong-record : (r : Refusal) → verdictOf (recordTests base (allAddresses g)) ≡ Refused r → Handed (NotMade r) words call
+      pub wrong-record : (r : Refusal) → verdictOf (recordTests narrow base (allAddresses g)) ≡ Refused r → Handed (NotMade r) words call
       wrong-record r e = handed _ _ _ (by-records (Refused r) e)
 
-      pub all-right : verdictOf (recordTests base (allAddresses g)) ≡ Accepted → (counts : Counts) (out : List ℤ) → counts ≡ countsOf made → out ≡ forEach made (λ m. m .written) → Handed (Counted counts) out call
+      pub all-right : verdictOf (recordTests narrow base (allAddresses g)) ≡ Accepted → (counts : Counts) (out : List ℤ) → counts ≡ countsOf made → out ≡ forEach made (λ m. m .written) → Handed (Counted counts) out call
       all-right e counts out c w = handed _ _ _ (by-records Accepted e ∙ (λ i. record { reply = Counted (sym c i); words = sym w i }))
 
 -- the check of records 0 .. n−1 is that of all
-pub all-checked : (g : Axes) (base : List ℤ) (n : ℕ) → n ≡ baseCount g → verdictOf (recordTests base (allAddresses g)) ≡ verdictOf (recordTests base (addresses 0 n))
-all-checked g base n e = ap (λ (l : List ℕ). verdictOf (recordTests base l)) (sym (addresses-all n ∙ ap (λ (k : ℕ). upTo k (λ a. a)) e))
+pub all-checked : (g : Axes) (base : List ℤ) (n : ℕ) → n ≡ baseCount g → verdictOf (recordTests narrow base (allAddresses g)) ≡ verdictOf (recordTests narrow base (addresses 0 n))
+all-checked g base n e = ap (λ (l : List ℕ). verdictOf (recordTests narrow base l)) (sym (addresses-all n ∙ ap (λ (k : ℕ). upTo k (λ a. a)) e))
 
 -- ---- refusals 1 to 4
 module _ (n : Numbers) (base words : List ℤ) where
-  pub wrong-geometry : (r : Refusal) → geometryVerdict n ≡ Refused r → Handed (NotMade r) words (pictureCall n base words)
+  pub wrong-geometry : (r : Refusal) → geometryVerdict n ≡ Refused r → Handed (NotMade r) words (pictureCall narrow n base words)
   unfolding pictureCall pictureTests
   wrong-geometry r e = handed _ _ _ (ap (λ (u : Verdict). byVerdict u NotMade words (makes (axesOf n) base words)) (refused-first (geometryTests n) _ r e))
 
-  pub right-geometry : geometryVerdict n ≡ Accepted → pictureCall n base words ≡ axesPicture (axesOf n) base words
+  pub right-geometry : geometryVerdict n ≡ Accepted → pictureCall narrow n base words ≡ axesPicture (axesOf n) base words
   unfolding pictureCall pictureTests axesPicture
   right-geometry e = ap (λ (u : Verdict). byVerdict u NotMade words (makes (axesOf n) base words)) (then-verdict (geometryTests n) _ e)

@@ -2,7 +2,7 @@
 ghost use Prim.Native.Nat.{_*_, _+_, _<_, _≤_};
 ghost use Rattle.definitions.specs.Accepted.{AcceptedAxes, AcceptedAxis};
 ghost use Rattle.definitions.specs.Calls.{counted, countsOf, madeAt, pictureCall, sumOf};
-ghost use Rattle.definitions.specs.Record.{recordWords};
+ghost use Rattle.definitions.specs.Record.{recordWords, narrow};
 ghost use Rattle.definitions.specs.Basics.{forEach, upTo};
 ghost use Rattle.definitions.specs.Geometry.{fullSize, macroblocks};
 ghost use Rattle.definitions.specs.Raster.{fullCount};
@@ -162,8 +162,8 @@ fn accepted_picture(g: Axes, base: &[i16], out: &mut [i16]) -> PictureReply
 
 // The picture call: geometry, base, and the words of the whole picture to write.
 pub fn upsample_picture(n: Numbers, base: &[i16], out: &mut [i16]) -> PictureReply
-    ensures reply { λ r. ⌜ r ≡ pictureCall n (now (base .entry)) (now (out .entry)) .reply ⌝ }
-    ensures words { λ r. ⌜ now (out .exit) ≡ pictureCall n (now (base .entry)) (now (out .entry)) .words ⌝ }
+    ensures reply { λ r. ⌜ r ≡ pictureCall narrow n (now (base .entry)) (now (out .entry)) .reply ⌝ }
+    ensures words { λ r. ⌜ now (out .exit) ≡ pictureCall narrow n (now (base .entry)) (now (out .entry)) .words ⌝ }
     ensures demand3 { λ r. ⌜ PicturePromised n (now (base .entry)) (now (out .entry)) r (now (out .exit)) ⌝ }
 {
     match Geometry::new(n) {

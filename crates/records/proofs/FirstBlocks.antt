@@ -24,7 +24,7 @@ use Rattle.definitions.specs.Record.{wordOf, typeOf, subTypeOf, isIntra, motion
 use Rattle.definitions.specs.Blocks.{quadrantOf, rasterOf}
 use Rattle.definitions.proofs.Choices.{yes, no, each, below-true, below-intro, below-same}
 use Rattle.definitions.proofs.Motions.{motion-same}
-use Rattle.definitions.proofs.Records.{raster-quadrant, raster-place, raster-below}
+use Rattle.definitions.proofs.Records.{raster-quadrant, raster-within, raster-below}
 use Rattle.records.specs.Checking.{subFirstBlock, subSplitAt, firstBlockIn, firstBlockOf, sameReferences, sameVectors, sameAsFirst}
 use Rattle.records.proofs.Words.{word-is, word-is-not}
 use Rattle.records.proofs.Searches.{and-swap, below-both, by-quadrants}
@@ -71,8 +71,8 @@ module _ (m : ℕ → Motion) where
 
   sub-first-is : (q k : ℕ) → q < 4 → k < 4 → (s : SubSplit) → subFirstBlock s (rasterOf q k) ≡ rasterOf q (firstPlace s k)
   sub-first-is q k hq hk S8x8 = rw (raster-quadrant q k hq hk)
-  sub-first-is q k hq hk S8x4 = rw (raster-quadrant q k hq hk, raster-place q k hq hk)
-  sub-first-is q k hq hk S4x8 = rw (raster-quadrant q k hq hk, raster-place q k hq hk)
+  sub-first-is q k hq hk S8x4 = rw (raster-quadrant q k hq hk, raster-within q k hq hk)
+  sub-first-is q k hq hk S4x8 = rw (raster-quadrant q k hq hk, raster-within q k hq hk)
   sub-first-is q k hq hk S4x4 = refl
 
   quadrant-as :

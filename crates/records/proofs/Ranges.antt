@@ -9,9 +9,9 @@ use lib.Dec.{leb, eqb}
 use lib.IntN.{ℤ, pos, negsuc}
 use borrow.Author.Tests.{leb-true, leb-false, eq-eqb, ne-eqb}
 use Rattle.definitions.specs.Basics.{minus, eqZ, between, allBelow}
-use Rattle.definitions.specs.Record.{vectorLimit, wordOf, typeOf, isIntra, referenceOf, used, vectorWord, rule1, rule2, rule3, rule4, rule5}
+use Rattle.definitions.specs.Record.{narrow, wordOf, typeOf, isIntra, referenceOf, used, vectorWord, rule1, rule2, rule3, rule4, rule5}
 use Rattle.definitions.proofs.Choices.{eqZ-true, yes, no, below-same, each}
-use Rattle.records.specs.declared.Range.{Range}
+use Rattle.records.specs.declared.check.Range.{Range}
 use Rattle.records.specs.Checking.{within, allWithin, quadrantUsed, listRight, blockWithin, vectorsRight}
 use Rattle.records.proofs.Searches.{below-both, by-quadrants}
 
@@ -87,19 +87,19 @@ module _ (r : List ℤ) where
 
 -- ---- Rule 5
 abbrev vectorRange : Range
-vectorRange = from-to (minus vectorLimit) (pos (vectorLimit - 1))
+vectorRange = from-to (minus narrow) (pos (narrow - 1))
 
-word-zero : (t : Bool) (v : ℤ) → t ≡ false → vectorWord t v ≡ within (only (pos 0)) v
-word-zero t v e = rw e (narrowed (minus vectorLimit) (pos (vectorLimit - 1)) v refl)
+word-zero : (t : Bool) (v : ℤ) → t ≡ false → vectorWord narrow t v ≡ within (only (pos 0)) v
+word-zero t v e = rw e (narrowed (minus narrow) (pos (narrow - 1)) v refl)
 
-word-any : (t : Bool) (v : ℤ) → t ≡ true → vectorWord t v ≡ within vectorRange v
+word-any : (t : Bool) (v : ℤ) → t ≡ true → vectorWord narrow t v ≡ within vectorRange v
 word-any t v e = rw e (and-true (within vectorRange v))
 
 module _ (reference : ℤ) where
-  pub range-zero : eqZ reference (minus 1) ≡ true → (v : ℤ) → within (only (pos 0)) v ≡ vectorWord (used reference) v
+  pub range-zero : eqZ reference (minus 1) ≡ true → (v : ℤ) → within (only (pos 0)) v ≡ vectorWord narrow (used reference) v
   range-zero e v = sym (word-zero (used reference) v (ap not e))
 
-  pub range-any : eqZ reference (minus 1) ≡ false → (v : ℤ) → within vectorRange v ≡ vectorWord (used reference) v
+  pub range-any : eqZ reference (minus 1) ≡ false → (v : ℤ) → within vectorRange v ≡ vectorWord narrow (used reference) v
   range-any e v = sym (word-any (used reference) v (ap not e))
 
 -- the words of a block, and of a quadrant's four blocks
@@ -114,24 +114,24 @@ module _ (r : List ℤ) where
   by-words :
       (q : ℕ) →
       q < 4 →
-      quadrantWithin (vectorWord (used (referenceOf r q 0))) (vectorWord (used (referenceOf r q 1))) (13 + 32 * (q / 2) + 8 * (q % 2)) ≡ vectorsRight r q
+      quadrantWithin (vectorWord narrow (used (referenceOf r q 0))) (vectorWord narrow (used (referenceOf r q 1))) (13 + 32 * (q / 2) + 8 * (q % 2)) ≡ vectorsRight r q
   unfolding vectorsRight allBelow
   by-words =
       each
-      (λ q. quadrantWithin (vectorWord (used (referenceOf r q 0))) (vectorWord (used (referenceOf r q 1))) (13 + 32 * (q / 2) + 8 * (q % 2)) ≡ vectorsRight r q)
+      (λ q. quadrantWithin (vectorWord narrow (used (referenceOf r q 0))) (vectorWord narrow (used (referenceOf r q 1))) (13 + 32 * (q / 2) + 8 * (q % 2)) ≡ vectorsRight r q)
       refl refl refl refl
 
   pub quadrant-right :
       (q : ℕ) →
       q < 4 →
       (f g : ℤ → Bool) →
-      ((v : ℤ) → f v ≡ vectorWord (used (wordOf r (5 + 2 * q))) v) →
-      ((v : ℤ) → g v ≡ vectorWord (used (wordOf r (5 + 2 * q + 1))) v) →
+      ((v : ℤ) → f v ≡ vectorWord narrow (used (wordOf r (5 + 2 * q))) v) →
+      ((v : ℤ) → g v ≡ vectorWord narrow (used (wordOf r (5 + 2 * q + 1))) v) →
       quadrantWithin f g (13 + 32 * (q / 2) + 8 * (q % 2)) ≡ vectorsRight r q
   quadrant-right q h f g e0 e1 =
-      (λ i. quadrantWithin (λ v. (e0 v ∙ ap (λ (w : ℕ). vectorWord (used (wordOf r w)) v) (sym (add-zero (5 + 2 * q)))) i) (λ v. e1 v i) (13 + 32 * (q / 2) + 8 * (q % 2)))
+      (λ i. quadrantWithin (λ v. (e0 v ∙ ap (λ (w : ℕ). vectorWord narrow (used (wordOf r w)) v) (sym (add-zero (5 + 2 * q)))) i) (λ v. e1 v i) (13 + 32 * (q / 2) + 8 * (q % 2)))
       ∙ by-words q h
 
-pub vectors-all : (r : List ℤ) → rule5 r ≡ allBelow 4 (vectorsRight r)
+pub vectors-all : (r : List ℤ) → rule5 narrow r ≡ allBelow 4 (vectorsRight r)
 unfolding rule5 vectorsRight
 vectors-all r = by-quadrants (λ b. allBelow 2 (listRight r b))

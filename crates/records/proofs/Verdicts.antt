@@ -10,7 +10,7 @@ use borrow.Author.Tests.{eq-eqb, ne-eqb}
 use Rattle.definitions.specs.declared.Verdict.{Verdict}
 use Rattle.definitions.specs.declared.Verdict.the-variants.{Refused}
 use Rattle.definitions.specs.Basics.{pick, allBelow}
-use Rattle.definitions.specs.Record.{recordAt, rule1, rule2, rule3, rule4, rule5, rule6, firstBroken}
+use Rattle.definitions.specs.Record.{recordAt, rule1, rule2, rule3, rule4, rule5, rule6, firstBroken, narrow}
 use Rattle.definitions.specs.Refusals.{verdictOf, recordTests}
 use Rattle.definitions.proofs.Choices.{yes, no}
 use Rattle.records.specs.Checking.{headBroken, vectorsRight, sameAsFirst, foundAt, addresses}
@@ -32,43 +32,43 @@ head-first false false false false rest = refl
 
 module _ (r : List ℤ) where
   abbrev tailBroken : ℕ
-  tailBroken = pick (not (rule5 r)) 5 (pick (not (rule6 r)) 6 0)
+  tailBroken = pick (not (rule5 narrow r)) 5 (pick (not (rule6 r)) 6 0)
 
-  by-head : firstBroken r ≡ pick (eqb (headBroken r) 0) tailBroken (headBroken r)
+  by-head : firstBroken narrow r ≡ pick (eqb (headBroken r) 0) tailBroken (headBroken r)
   unfolding firstBroken headBroken
   by-head = head-first (not (rule1 r)) (not (rule2 r)) (not (rule3 r)) (not (rule4 r)) tailBroken
 
-  broken-head : (n : ℕ) → headBroken r ≡ n → (n ≡ 0 → ⊥) → firstBroken r ≡ n
+  broken-head : (n : ℕ) → headBroken r ≡ n → (n ≡ 0 → ⊥) → firstBroken narrow r ≡ n
   broken-head n e broken = by-head ∙ (no _ _ (ne-eqb (headBroken r) 0 (λ h. broken (sym e ∙ h))) ∙ e)
 
   module _ (head : headBroken r ≡ 0) where
-    by-tail : firstBroken r ≡ tailBroken
+    by-tail : firstBroken narrow r ≡ tailBroken
     by-tail = by-head ∙ yes _ _ (eq-eqb (headBroken r) 0 head)
 
-    broken-5 : rule5 r ≡ false → firstBroken r ≡ 5
+    broken-5 : rule5 narrow r ≡ false → firstBroken narrow r ≡ 5
     broken-5 e = by-tail ∙ yes _ _ (ap not e)
 
-    broken-6 : rule5 r ≡ true → rule6 r ≡ false → firstBroken r ≡ 6
+    broken-6 : rule5 narrow r ≡ true → rule6 r ≡ false → firstBroken narrow r ≡ 6
     broken-6 e5 e6 = by-tail ∙ (no _ _ (ap not e5) ∙ yes _ _ (ap not e6))
 
-    broken-none : rule5 r ≡ true → rule6 r ≡ true → firstBroken r ≡ 0
+    broken-none : rule5 narrow r ≡ true → rule6 r ≡ true → firstBroken narrow r ≡ 0
     broken-none e5 e6 = by-tail ∙ (no _ _ (ap not e5) ∙ no _ _ (ap not e6))
 
 -- ---- The verdict on the records from an address on
 module _ (base : List ℤ) (a to : ℕ) where
   abbrev pub verdict : Verdict
-  verdict = verdictOf (recordTests base (addresses a to))
+  verdict = verdictOf (recordTests narrow base (addresses a to))
 
   pub verdict-end : to ≤ a → foundAt a 0 ≡ verdict
   unfolding recordTests foundAt
   verdict-end h = yes _ _ refl ∙ sym (rw (addresses-end a to h))
 
   module _ (h : a < to) (r : List ℤ) (here : r ≡ recordAt base a) where
-    verdict-more : firstBroken r ≡ 0 → verdict ≡ verdictOf (recordTests base (addresses (a + 1) to))
+    verdict-more : firstBroken narrow r ≡ 0 → verdict ≡ verdictOf (recordTests narrow base (addresses (a + 1) to))
     unfolding recordTests
     verdict-more e = rw (addresses-more a to h, ← here) (no _ _ (ap (λ (n : ℕ). not (eqb n 0)) e))
 
-    verdict-here : (n : ℕ) → firstBroken r ≡ n → (n ≡ 0 → ⊥) → foundAt a n ≡ verdict
+    verdict-here : (n : ℕ) → firstBroken narrow r ≡ n → (n ≡ 0 → ⊥) → foundAt a n ≡ verdict
     unfolding recordTests foundAt
     verdict-here n e broken =
         no _ _ (ne-eqb n 0 broken)
@@ -84,13 +84,13 @@ module _ (base : List ℤ) (a to : ℕ) where
       verdict-5 q h e = verdict-here 5 (broken-5 r head (vectors-all r ∙ search-fault (vectorsRight r) 4 q h e)) (λ z. omega arith)
 
       module _ (q5 : ℕ) (le5 : q5 ≤ 4) (ge5 : 4 ≤ q5) (passed5 : allBelow q5 (vectorsRight r) ≡ true) where
-        right5 : rule5 r ≡ true
+        right5 : rule5 narrow r ≡ true
         right5 = vectors-all r ∙ search-end (vectorsRight r) 4 q5 le5 ge5 passed5
 
         pub verdict-6 : (q : ℕ) → q < 4 → sameAsFirst r q ≡ false → foundAt a 6 ≡ verdict
         verdict-6 q h e = verdict-here 6 (broken-6 r head right5 (same-all r ∙ search-fault (sameAsFirst r) 4 q h e)) (λ z. omega arith)
 
         pub verdict-next :
-            (q6 : ℕ) → q6 ≤ 4 → 4 ≤ q6 → allBelow q6 (sameAsFirst r) ≡ true → verdict ≡ verdictOf (recordTests base (addresses (a + 1) to))
+            (q6 : ℕ) → q6 ≤ 4 → 4 ≤ q6 → allBelow q6 (sameAsFirst r) ≡ true → verdict ≡ verdictOf (recordTests narrow base (addresses (a + 1) to))
         verdict-next q6 le6 ge6 passed6 =
             verdict-more (broken-none r head right5 (same-all r ∙ search-end (sameAsFirst r) 4 q6 le6 ge6 passed6))

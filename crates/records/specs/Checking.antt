@@ -14,9 +14,9 @@ use Rattle.definitions.specs.declared.Verdict.{Verdict}
 use Rattle.definitions.specs.declared.Verdict.the-variants.{Accepted, Refused}
 use Rattle.definitions.specs.Basics.{pick, eqZ, between, allBelow, upTo}
 use Rattle.definitions.specs.Splits.{sameMotion}
-use Rattle.definitions.specs.Record.{wordOf, referenceOf, vectorXOf, vectorYOf, motionOf, isIntra, used, splitSaid, vectorWord, rule1, rule2, rule3, rule4}
+use Rattle.definitions.specs.Record.{wordOf, referenceOf, vectorXOf, vectorYOf, motionOf, isIntra, used, splitSaid, vectorWord, rule1, rule2, rule3, rule4, narrow}
 use Rattle.definitions.specs.Blocks.{quadrantOf, inQuadrant, rasterOf}
-use Rattle.records.specs.declared.Range.{Range}
+use Rattle.records.specs.declared.check.Range.{Range}
 
 -- a word is in the range; count words from the first on are
 abbrev pub within : Range → ℤ → Bool
@@ -36,7 +36,7 @@ quadrantUsed r q = used (referenceOf r q 0) || used (referenceOf r q 1)
 -- rule 5 of a block in one list, and of the blocks of a quadrant
 abbrev pub listRight : List ℤ → ℕ → ℕ → Bool
 listRight r b l =
-    vectorWord (used (referenceOf r (quadrantOf b) l)) (vectorXOf r b l) && vectorWord (used (referenceOf r (quadrantOf b) l)) (vectorYOf r b l)
+    vectorWord narrow (used (referenceOf r (quadrantOf b) l)) (vectorXOf r b l) && vectorWord narrow (used (referenceOf r (quadrantOf b) l)) (vectorYOf r b l)
 
 unfoldable pub vectorsRight : List ℤ → ℕ → Bool
 vectorsRight r q = allBelow 4 (λ k. allBelow 2 (listRight r (rasterOf q k)))

@@ -1,2 +1,3 @@
 -- The definitions that only this crate's contracts cite.
 pub mod Checking
+pub mod Writing

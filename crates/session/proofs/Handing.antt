@@ -14,6 +14,7 @@ use Rattle.definitions.specs.declared.Verdict.{Verdict}
 use Rattle.definitions.specs.declared.Verdict.the-variants.{Accepted, Refused}
 use Rattle.definitions.specs.declared.MacroblockReply.{MacroblockReply}
 use Rattle.definitions.specs.declared.MacroblockReply.the-variants.{Answered, Refused as Declined}
+use Rattle.definitions.specs.Record.{narrow}
 use Rattle.definitions.specs.Basics.{pick}
 use Rattle.definitions.specs.Geometry.{axesOf, fullSize, macroblocks}
 use Rattle.definitions.specs.Refusals.{refusal, geometryVerdict}
@@ -125,10 +126,10 @@ module _ (v : Session) where
         next-refused r (ap (λ (t : State). nextCall t base words) (o .state) ∙ (next-over (v .numbers) (v .counts) base words (o .over) ∙ (λ i. record { reply = Declined (sym e i); words = words })))
 
     module _ {x y : ℕ} (g : Going v x y) where
-      at-next : nextCall (stateOf v) base words ≡ macroblockCall (v .numbers) base (pos x) (pos y) words
+      at-next : nextCall (stateOf v) base words ≡ macroblockCall narrow (v .numbers) base (pos x) (pos y) words
       at-next =
           ap (λ (t : State). nextCall t base words) (g .state)
-          ∙ (next-going (v .numbers) (v .counts) base words (g .on) ∙ (λ i. macroblockCall (v .numbers) base (pos (sym (g .column-is) i)) (pos (sym (g .row-is) i)) words))
+          ∙ (next-going (v .numbers) (v .counts) base words (g .on) ∙ (λ i. macroblockCall narrow (v .numbers) base (pos (sym (g .column-is) i)) (pos (sym (g .row-is) i)) words))
 
       handed-next : (o : Outcome MacroblockReply) (reply : MacroblockReply) → o .reply ≡ reply → advancedBy reply v ≡ handedBy v (nextGave base words o)
       unfolding handedBy pick
@@ -138,8 +139,8 @@ module _ (v : Session) where
           by (Answered a) = ap (λ (t : State). valueOf (advanced (Answered a) t)) (sym (g .state))
           by (Declined r) = refl
 
-      pub next-done : (reply : MacroblockReply) (after : List ℤ) (w : Session) → reply ≡ macroblockCall (v .numbers) base (pos x) (pos y) words .reply
-          → after ≡ macroblockCall (v .numbers) base (pos x) (pos y) words .words → w ≡ advancedBy reply v → Gone reply after w
+      pub next-done : (reply : MacroblockReply) (after : List ℤ) (w : Session) → reply ≡ macroblockCall narrow (v .numbers) base (pos x) (pos y) words .reply
+          → after ≡ macroblockCall narrow (v .numbers) base (pos x) (pos y) words .words → w ≡ advancedBy reply v → Gone reply after w
       unfolding exchange
       next-done reply after w a b e =
           let p : reply ≡ nextCall (stateOf v) base words .reply = a ∙ sym (ap (λ (o : Outcome MacroblockReply). o .reply) at-next) in

@@ -1,4 +1,5 @@
 // The C interface: the calls on numbers and slices, with results by value. include/spiewomir.h declares it.
+ghost use Rattle.definitions.specs.Record.{narrow};
 ghost use Rattle.definitions.specs.Calls.{macroblockCall, pictureCall};
 ghost use Rattle.definitions.specs.Session.{abandon, abandonVerdict, begin, beginVerdict, next, nextCall, totalsOf};
 ghost use Rattle.spiewomir.specs.Results.{answerResult, answered, classNumber, macroblockResult, numbersOf, pictureResult};
@@ -12,8 +13,8 @@ use definitions::Class;
 use definitions::Counts;
 use definitions::LogReply;
 use definitions::MacroblockReply;
-use definitions::Named;
 use definitions::Numbers;
+use definitions::Origin;
 use definitions::PictureReply;
 use definitions::TextReply;
 use definitions::Verdict;
@@ -150,7 +151,7 @@ fn wide(n: u8) -> u32
     n as u32
 }
 
-fn named_result(kind: u8, sub: [u8; 4], n: Named) -> MacroblockResult
+fn named_result(kind: u8, sub: [u8; 4], n: Origin) -> MacroblockResult
     ensures { λ r. ⌜ r ≡ answered kind sub (n .class) (n .column) (n .row) ⌝ }
 {
     let class = n.class;
@@ -176,7 +177,7 @@ fn answer_result(a: Answer) -> MacroblockResult
         Answer::Outside => named_result(
             5,
             [0; 4],
-            Named {
+            Origin {
                 class: Class::Corner,
                 column: 0,
                 row: 0,
@@ -216,8 +217,8 @@ pub extern "C" fn spiewomir_macroblock(
     row: i32,
     out: &mut [i16],
 ) -> MacroblockResult
-    ensures result { λ r. ⌜ r ≡ macroblockResult (macroblockCall (numbersOf g) (now (base .entry)) column row (now (out .entry)) .reply) ⌝ }
-    ensures words { λ r. ⌜ now (out .exit) ≡ macroblockCall (numbersOf g) (now (base .entry)) column row (now (out .entry)) .words ⌝ }
+    ensures result { λ r. ⌜ r ≡ macroblockResult (macroblockCall narrow (numbersOf g) (now (base .entry)) column row (now (out .entry)) .reply) ⌝ }
+    ensures words { λ r. ⌜ now (out .exit) ≡ macroblockCall narrow (numbersOf g) (now (base .entry)) column row (now (out .entry)) .words ⌝ }
 {
     reply_result(upsample_macroblock(numbers_of(g), base, column, row, out))
 }
@@ -228,8 +229,8 @@ pub extern "C" fn spiewomir_picture(
     base: &[i16],
     out: &mut [i16],
 ) -> PictureResult
-    ensures result { λ r. ⌜ r ≡ pictureResult (pictureCall (numbersOf g) (now (base .entry)) (now (out .entry)) .reply) ⌝ }
-    ensures words { λ r. ⌜ now (out .exit) ≡ pictureCall (numbersOf g) (now (base .entry)) (now (out .entry)) .words ⌝ }
+    ensures result { λ r. ⌜ r ≡ pictureResult (pictureCall narrow (numbersOf g) (now (base .entry)) (now (out .entry)) .reply) ⌝ }
+    ensures words { λ r. ⌜ now (out .exit) ≡ pictureCall narrow (numbersOf g) (now (base .entry)) (now (out .entry)) .words ⌝ }
 {
     match upsample_picture(numbers_of(g), base, out) {
         PictureReply::Counted(c) => PictureResult {

@@ -14,7 +14,7 @@ use Rattle.definitions.specs.declared.Verdict.{Verdict}
 use Rattle.definitions.specs.declared.Verdict.the-variants.{Accepted, Refused}
 use Rattle.definitions.specs.Basics.{forEach}
 use Rattle.definitions.specs.Geometry.{columnsRead}
-use Rattle.definitions.specs.Record.{recordWords}
+use Rattle.definitions.specs.Record.{recordWords, narrow}
 use Rattle.definitions.specs.Answer.{addressesOf}
 use Rattle.definitions.specs.Refusals.{Test, verdictOf, recordTest, recordTests}
 use Rattle.definitions.specs.Raster.{baseAddress}
@@ -23,7 +23,7 @@ use Rattle.definitions.proofs.Map.{class-columns, class-rows}
 use Rattle.definitions.proofs.Verdicts.{then-verdict, refused-first}
 use Rattle.records.specs.Checking.{addresses}
 use Rattle.records.proofs.Addresses.{addresses-more, addresses-end, addresses-one}
-use Rattle.macroblock.specs.Made.{namedBy}
+use Rattle.macroblock.specs.Made.{originBy}
 use Rattle.upsample.specs.Staged.{rowAddresses, InBase}
 
 -- a row's product is far below what 64 bits hold
@@ -62,27 +62,27 @@ module _ (g : Axes) (first row : ℕ) where
         (subst (λ (m : ℕ). m * recordWords ≤ length base) n (k .0), k .1)
 
 -- ---- one row or two
-tests-join : (base : List ℤ) (xs ys : List ℕ) → recordTests base (xs ++ ys) ≡ recordTests base xs ++ recordTests base ys
+tests-join : (base : List ℤ) (xs ys : List ℕ) → recordTests narrow base (xs ++ ys) ≡ recordTests narrow base xs ++ recordTests narrow base ys
 unfolding recordTests
 tests-join base [] ys = refl
-tests-join base (x ∷ xs) ys = ap (λ (l : List Test). recordTest base x ∷ l) (tests-join base xs ys)
+tests-join base (x ∷ xs) ys = ap (λ (l : List Test). recordTest narrow base x ∷ l) (tests-join base xs ys)
 
 module _ (g : Axes) (h v : AxisRead) where
   abbrev rowOf : ℕ → List ℕ
   rowOf row = rowAddresses g (h .first) (h .two) row
 
-  by-rows : addressesOf g (namedBy h v) ≡ forEach (columnsRead (v .first) (v .two)) rowOf
+  by-rows : addressesOf g (originBy h v) ≡ forEach (columnsRead (v .first) (v .two)) rowOf
   unfolding addressesOf
   by-rows =
       let c = class-columns (h .two) (v .two) in
       let r = class-rows (h .two) (v .two) in
       λ i. forEach (columnsRead (v .first) (r i)) (λ row. map (λ column. baseAddress g column row) (columnsRead (h .first) (c i)))
 
-  pub named-one : v .two ≡ false → addressesOf g (namedBy h v) ≡ rowOf (v .first)
+  pub named-one : v .two ≡ false → addressesOf g (originBy h v) ≡ rowOf (v .first)
   unfolding columnsRead
   named-one e = by-rows ∙ (ap (λ (l : List ℕ). forEach l rowOf) (no ((v .first) ∷ (v .first + 1) ∷ []) ((v .first) ∷ []) e) ∙ append-nil (rowOf (v .first)))
 
-  pub named-two : v .two ≡ true → addressesOf g (namedBy h v) ≡ rowOf (v .first) ++ rowOf (v .first + 1)
+  pub named-two : v .two ≡ true → addressesOf g (originBy h v) ≡ rowOf (v .first) ++ rowOf (v .first + 1)
   unfolding columnsRead
   named-two e =
       by-rows ∙ (ap (λ (l : List ℕ). forEach l rowOf) (yes ((v .first) ∷ (v .first + 1) ∷ []) ((v .first) ∷ []) e)
@@ -90,28 +90,28 @@ module _ (g : Axes) (h v : AxisRead) where
 
   module _ (base : List ℤ) where
     abbrev verdictAt : ℕ → Verdict
-    verdictAt row = verdictOf (recordTests base (rowOf row))
+    verdictAt row = verdictOf (recordTests narrow base (rowOf row))
 
     abbrev verdict : Verdict
-    verdict = verdictOf (recordTests base (addressesOf g (namedBy h v)))
+    verdict = verdictOf (recordTests narrow base (addressesOf g (originBy h v)))
 
     pub one-row : v .two ≡ false → verdictAt (v .first) ≡ verdict
-    one-row e = ap (λ (l : List ℕ). verdictOf (recordTests base l)) (sym (named-one e))
+    one-row e = ap (λ (l : List ℕ). verdictOf (recordTests narrow base l)) (sym (named-one e))
 
-    split-rows : v .two ≡ true → verdict ≡ verdictOf (recordTests base (rowOf (v .first)) ++ recordTests base (rowOf (v .first + 1)))
-    split-rows e = ap (λ (l : List ℕ). verdictOf (recordTests base l)) (named-two e) ∙ ap verdictOf (tests-join base (rowOf (v .first)) (rowOf (v .first + 1)))
+    split-rows : v .two ≡ true → verdict ≡ verdictOf (recordTests narrow base (rowOf (v .first)) ++ recordTests narrow base (rowOf (v .first + 1)))
+    split-rows e = ap (λ (l : List ℕ). verdictOf (recordTests narrow base l)) (named-two e) ∙ ap verdictOf (tests-join base (rowOf (v .first)) (rowOf (v .first + 1)))
 
     pub second-row : v .two ≡ true → verdictAt (v .first) ≡ Accepted → verdictAt (v .first + 1) ≡ verdict
-    second-row e p = sym (split-rows e ∙ then-verdict (recordTests base (rowOf (v .first))) _ p)
+    second-row e p = sym (split-rows e ∙ then-verdict (recordTests narrow base (rowOf (v .first))) _ p)
 
     pub first-row : v .two ≡ true → (r : Refusal) → verdictAt (v .first) ≡ Refused r → Refused r ≡ verdict
-    first-row e r p = sym (split-rows e ∙ refused-first (recordTests base (rowOf (v .first))) _ r p)
+    first-row e r p = sym (split-rows e ∙ refused-first (recordTests narrow base (rowOf (v .first))) _ r p)
 
-    pub one-below : v .two ≡ false → InBase base (addressesOf g (namedBy h v)) → InBase base (rowOf (v .first))
+    pub one-below : v .two ≡ false → InBase base (addressesOf g (originBy h v)) → InBase base (rowOf (v .first))
     one-below e n = subst (InBase base) (named-one e) n
 
-    pub first-below : v .two ≡ true → InBase base (addressesOf g (namedBy h v)) → InBase base (rowOf (v .first))
+    pub first-below : v .two ≡ true → InBase base (addressesOf g (originBy h v)) → InBase base (rowOf (v .first))
     first-below e n a m = n a (subst (List·Memᴰ a) (sym (named-two e)) (Memᴰ·append-left (rowOf (v .first + 1)) m))
 
-    pub second-below : v .two ≡ true → InBase base (addressesOf g (namedBy h v)) → InBase base (rowOf (v .first + 1))
+    pub second-below : v .two ≡ true → InBase base (addressesOf g (originBy h v)) → InBase base (rowOf (v .first + 1))
     second-below e n a m = n a (subst (List·Memᴰ a) (sym (named-two e)) (Memᴰ·append-right (rowOf (v .first)) m))

@@ -11,8 +11,8 @@ use Rattle.definitions.specs.declared.Axes.{Axes}
 use Rattle.definitions.specs.Accepted.{Inside}
 use Rattle.definitions.specs.Geometry.{baseSize, scaledSize, cOf, insideAxis, inside, sampleOf}
 use Rattle.definitions.specs.BlockMap.{stepOf, addressRead}
-use Rattle.definitions.specs.Record.{recordWords, recordAt, wellFormed}
-use Rattle.definitions.specs.Answer.{namedAt, addressesOf}
+use Rattle.definitions.specs.Record.{recordWords, recordAt, wellFormed, narrow}
+use Rattle.definitions.specs.Answer.{originAt, addressesOf}
 use Rattle.definitions.specs.Refusals.{addressesRead}
 use Rattle.definitions.specs.Raster.{baseCount}
 use Rattle.definitions.proofs.Choices.{yes, no, both-true}
@@ -20,7 +20,7 @@ use Rattle.definitions.proofs.Accepted.{across-inside, down-inside}
 use Rattle.definitions.proofs.Addresses.{address-named, address-below}
 use Rattle.definitions.proofs.Map.{f-below}
 use Rattle.macroblock.specs.declared.AxisRead.{AxisRead}
-use Rattle.macroblock.specs.Made.{namedBy, readIn, readOf, Ready}
+use Rattle.macroblock.specs.Made.{originBy, readIn, readOf, Ready}
 use Rattle.macroblock.proofs.Reading.{read-says}
 use Rattle.upsample.specs.Staged.{InBase, BaseRight}
 use Rattle.upsample.proofs.Sizes.{base-small}
@@ -43,7 +43,7 @@ module _ (g : Axes) (base : List ℤ) (placed : BaseRight g base) (column row : 
     down-in : Inside (baseSize (g .vertical)) (scaledSize (g .vertical)) (cOf (g .vertical) (sampleOf row))
     down-in = down-inside g column row (placed .axes) e
 
-    named-in : InBase base (addressesOf g (namedAt g column row))
+    named-in : InBase base (addressesOf g (originAt g column row))
     named-in a m = in-base a (address-below g column row across-in down-in m)
 
     first-low : ver .first < 65536
@@ -52,10 +52,10 @@ module _ (g : Axes) (base : List ℤ) (placed : BaseRight g base) (column row : 
         let b = placed .axes .vertical .sized .base-high in
         omega (arith, f-below (baseSize (g .vertical)) (scaledSize (g .vertical)) (cOf (g .vertical) (sampleOf row)) down-in)
 
-    ready : ((a : ℕ) → List·Memᴰ a (addressesOf g (namedAt g column row)) → wellFormed (recordAt base a) ≡ true) → Ready g hor ver base
+    ready : ((a : ℕ) → List·Memᴰ a (addressesOf g (originAt g column row)) → wellFormed narrow (recordAt base a) ≡ true) → Ready g hor ver base
     unfolding addressRead
     ready formed =
-        let named : (i : ℕ) → i < 16 → List·Memᴰ (addressRead g column row i) (addressesOf g (namedAt g column row)) = address-named g column row across-in down-in in
+        let named : (i : ℕ) → i < 16 → List·Memᴰ (addressRead g column row i) (addressesOf g (originAt g column row)) = address-named g column row across-in down-in in
         record {
           axes = placed .axes;
           readable = λ i h. record { low = named-in _ (named i h) .1; fits = named-in _ (named i h) .0; formed = formed _ (named i h) };
@@ -65,13 +65,13 @@ module _ (g : Axes) (base : List ℤ) (placed : BaseRight g base) (column row : 
   pub record Known (h v : AxisRead) : Type 0 where
     pub within : (h .inside && v .inside) ≡ true → inside g column row ≡ true
     pub first-row : (h .inside && v .inside) ≡ true → v .first < 65536
-    pub named-below : (h .inside && v .inside) ≡ true → InBase base (addressesOf g (namedBy h v))
-    pub named : (h .inside && v .inside) ≡ true → addressesRead g column row ≡ addressesOf g (namedBy h v)
+    pub named-below : (h .inside && v .inside) ≡ true → InBase base (addressesOf g (originBy h v))
+    pub named : (h .inside && v .inside) ≡ true → addressesRead g column row ≡ addressesOf g (originBy h v)
     pub unnamed : (h .inside && v .inside) ≡ false → addressesRead g column row ≡ []
-    pub made-ready : (h .inside && v .inside) ≡ true → ((a : ℕ) → List·Memᴰ a (addressesRead g column row) → wellFormed (recordAt base a) ≡ true) → Ready g h v base
+    pub made-ready : (h .inside && v .inside) ≡ true → ((a : ℕ) → List·Memᴰ a (addressesRead g column row) → wellFormed narrow (recordAt base a) ≡ true) → Ready g h v base
 
   known : Known (readOf (g .horizontal) column) (readOf (g .vertical) row)
-  unfolding readOf addressesRead namedAt
+  unfolding readOf addressesRead originAt
   known =
       let across = readOf (g .horizontal) column in
       let down = readOf (g .vertical) row in
@@ -83,8 +83,8 @@ module _ (g : Axes) (base : List ℤ) (placed : BaseRight g base) (column row : 
       record {
         within = λ t. sym says ∙ t;
         first-row = λ t. to (λ h v. v .first < 65536) (sym says ∙ t) (first-low (sym says ∙ t));
-        named-below = λ t. to (λ h v. InBase base (addressesOf g (namedBy h v))) (sym says ∙ t) (named-in (sym says ∙ t));
-        named = λ t. let e = sym says ∙ t in yes _ _ e ∙ (λ i. addressesOf g (namedBy (sym (x e) i) (sym (y e) i)));
+        named-below = λ t. to (λ h v. InBase base (addressesOf g (originBy h v))) (sym says ∙ t) (named-in (sym says ∙ t));
+        named = λ t. let e = sym says ∙ t in yes _ _ e ∙ (λ i. addressesOf g (originBy (sym (x e) i) (sym (y e) i)));
         unnamed = λ t. no _ _ (sym says ∙ t);
         made-ready = λ t f. let e = sym says ∙ t in to (λ h v. Ready g h v base) e (ready e (λ a m. f a (subst (List·Memᴰ a) (sym (yes _ _ e)) m)));
       }

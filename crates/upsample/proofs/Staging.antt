@@ -15,7 +15,7 @@ use Rattle.definitions.specs.declared.Verdict.the-variants.{Accepted, Refused}
 use Rattle.definitions.specs.declared.MacroblockReply.{MacroblockReply}
 use Rattle.definitions.specs.declared.MacroblockReply.the-variants.{Answered, Refused as Declined}
 use Rattle.definitions.specs.Geometry.{axesOf, fullSize}
-use Rattle.definitions.specs.Record.{recordWords}
+use Rattle.definitions.specs.Record.{recordWords, narrow}
 use Rattle.definitions.specs.Answer.{Made, madeOf}
 use Rattle.definitions.specs.Refusals.{refusal, verdictOf, geometryTests, geometryVerdict, baseTest, outputTest, withinAxis, recordTests, addressesRead}
 use Rattle.definitions.specs.Calls.{Outcome, byVerdict, macroblockTests, macroblockCall}
@@ -36,7 +36,7 @@ handed {Reply} reply words outcome e = (sym (ap (λ (o : Outcome Reply). o .repl
 
 -- ---- refusal 8
 -- no record is read, so none is refused
-pub none-read : (base : List ℤ) {v : Verdict} → v ≡ verdictOf (recordTests base []) → v ≡ Accepted
+pub none-read : (base : List ℤ) {v : Verdict} → v ≡ verdictOf (recordTests narrow base []) → v ≡ Accepted
 unfolding recordTests
 none-read base e = e
 
@@ -48,7 +48,7 @@ module _ (g : Axes) (base : List ℤ) (column row : ℕ) (words : List ℤ) wher
   answers = record { reply = Answered (made .answer); words = made .written }
 
   abbrev verdict : Verdict
-  verdict = verdictOf (recordTests base (addressesRead g column row))
+  verdict = verdictOf (recordTests narrow base (addressesRead g column row))
 
   pub placed-refused : (r : Refusal) → verdict ≡ Refused r → Handed (Declined r) words (sizedCall g base column row words)
   unfolding sizedCall
@@ -102,7 +102,7 @@ module _ (g : Axes) (base : List ℤ) (column row : ℤ) (words : List ℤ) wher
 -- ---- refusals 1 to 4
 module _ (n : Numbers) (base : List ℤ) (column row : ℤ) (words : List ℤ) where
   abbrev whole : Outcome MacroblockReply
-  whole = macroblockCall n base column row words
+  whole = macroblockCall narrow n base column row words
 
   pub wrong-geometry : (r : Refusal) → geometryVerdict n ≡ Refused r → Handed (Declined r) words whole
   unfolding macroblockCall macroblockTests

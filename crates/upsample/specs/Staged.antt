@@ -13,7 +13,7 @@ use Rattle.definitions.specs.declared.PictureReply.the-variants.{Counted, Refus
 use Rattle.definitions.specs.Basics.{upTo, forEach}
 use Rattle.definitions.specs.Accepted.{AcceptedAxes}
 use Rattle.definitions.specs.Geometry.{columnsRead}
-use Rattle.definitions.specs.Record.{recordWords}
+use Rattle.definitions.specs.Record.{recordWords, narrow}
 use Rattle.definitions.specs.Answer.{madeOf}
 use Rattle.definitions.specs.Refusals.{Test, verdictOf, baseTest, outputTest, positionTest, recordTests, addressesRead, allAddresses, AllFormed}
 use Rattle.definitions.specs.Calls.{Outcome, byVerdict, madeAt, countsOf}
@@ -22,7 +22,7 @@ use Rattle.definitions.specs.Raster.{baseAddress, baseCount, fullCount}
 -- one macroblock, once its geometry is accepted: refusals 5 to 8
 unfoldable pub axesTests : Axes → List ℤ → ℤ → ℤ → List ℤ → List Test
 axesTests g base column row words =
-    baseTest g base ∷ outputTest 1 words ∷ positionTest g column row ∷ recordTests base (addressesRead g (natAbs column) (natAbs row))
+    baseTest g base ∷ outputTest 1 words ∷ positionTest g column row ∷ recordTests narrow base (addressesRead g (natAbs column) (natAbs row))
 
 unfoldable pub axesCall : Axes → List ℤ → ℤ → ℤ → List ℤ → Outcome MacroblockReply
 axesCall g base column row words =
@@ -33,13 +33,13 @@ axesCall g base column row words =
 unfoldable pub sizedCall : Axes → List ℤ → ℕ → ℕ → List ℤ → Outcome MacroblockReply
 sizedCall g base column row words =
     let made = madeOf g base column row in
-    byVerdict (verdictOf (recordTests base (addressesRead g column row))) Declined words (record { reply = Answered (made .answer); words = made .written })
+    byVerdict (verdictOf (recordTests narrow base (addressesRead g column row))) Declined words (record { reply = Answered (made .answer); words = made .written })
 
 -- the picture, once its geometry is accepted: refusals 5, 6 and 8
 unfoldable pub axesPicture : Axes → List ℤ → List ℤ → Outcome PictureReply
 axesPicture g base words =
     let made = upTo (fullCount g) (madeAt g base) in
-    byVerdict (verdictOf (baseTest g base ∷ outputTest (fullCount g) words ∷ recordTests base (allAddresses g))) NotMade words
+    byVerdict (verdictOf (baseTest g base ∷ outputTest (fullCount g) words ∷ recordTests narrow base (allAddresses g))) NotMade words
     (record { reply = Counted (countsOf made); words = forEach made (λ m. m .written) })
 
 -- the base macroblocks of one row that are read
@@ -58,4 +58,4 @@ pub record BaseRight (g : Axes) (base : List ℤ) : Type 0 where
 -- and every record of it well formed
 pub record Formed (g : Axes) (base : List ℤ) : Type 0 where
   pub placed : BaseRight g base
-  pub formed : AllFormed g base
+  pub formed : AllFormed narrow g base

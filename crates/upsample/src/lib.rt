@@ -4,10 +4,10 @@ ghost use Rattle.definitions.specs.Accepted.{AcceptedAxes};
 ghost use Rattle.definitions.specs.Answer.{addressesOf};
 ghost use Rattle.definitions.specs.Calls.{macroblockCall};
 ghost use Rattle.definitions.specs.Geometry.{baseSize};
-ghost use Rattle.definitions.specs.Record.{recordWords};
+ghost use Rattle.definitions.specs.Record.{recordWords, narrow};
 ghost use Rattle.definitions.specs.Refusals.{recordTests, refusal, verdictOf, withinAxis};
 ghost use Rattle.definitions.specs.Raster.{baseCount};
-ghost use Rattle.macroblock.specs.Made.{namedBy};
+ghost use Rattle.macroblock.specs.Made.{originBy};
 ghost use Rattle.upsample.specs.Promised.{SinglyPromised};
 ghost use Rattle.upsample.specs.Staged.{InBase, BaseRight, axesCall, sizedCall, rowAddresses};
 ghost use lib.ListN.{length};
@@ -55,7 +55,7 @@ fn is_within(size: EnhancementSample, x: i32) -> bool
 // One row of them: one column, or two next to each other.
 fn check_row(g: Axes, base: &[i16], first: u32, two: bool, row: u32) -> Verdict
     requires { ⌜ (baseSize (g .horizontal) ≤ 4096) × InBase (now base) (rowAddresses g first two row) ⌝ }
-    ensures { λ r. ⌜ r ≡ verdictOf (recordTests (now (base .entry)) (rowAddresses g first two row)) ⌝ }
+    ensures { λ r. ⌜ r ≡ verdictOf (recordTests narrow (now (base .entry)) (rowAddresses g first two row)) ⌝ }
 {
     let width = (g.horizontal.base.0 / 16) as usize;
     let a = row as usize * width + first as usize;
@@ -66,8 +66,8 @@ fn check_row(g: Axes, base: &[i16], first: u32, two: bool, row: u32) -> Verdict
 }
 
 fn check_read(g: Axes, base: &[i16], h: AxisRead, v: AxisRead) -> Verdict
-    requires { ⌜ (baseSize (g .horizontal) ≤ 4096) × (v .first < 65536) × InBase (now base) (addressesOf g (namedBy h v)) ⌝ }
-    ensures { λ r. ⌜ r ≡ verdictOf (recordTests (now (base .entry)) (addressesOf g (namedBy h v))) ⌝ }
+    requires { ⌜ (baseSize (g .horizontal) ≤ 4096) × (v .first < 65536) × InBase (now base) (addressesOf g (originBy h v)) ⌝ }
+    ensures { λ r. ⌜ r ≡ verdictOf (recordTests narrow (now (base .entry)) (addressesOf g (originBy h v))) ⌝ }
 {
     let column = h.first as u32;
     let row = v.first as u32;
@@ -139,8 +139,8 @@ pub fn upsample_macroblock(
     row: i32,
     out: &mut [i16],
 ) -> MacroblockReply
-    ensures reply { λ r. ⌜ r ≡ macroblockCall n (now (base .entry)) column row (now (out .entry)) .reply ⌝ }
-    ensures words { λ r. ⌜ now (out .exit) ≡ macroblockCall n (now (base .entry)) column row (now (out .entry)) .words ⌝ }
+    ensures reply { λ r. ⌜ r ≡ macroblockCall narrow n (now (base .entry)) column row (now (out .entry)) .reply ⌝ }
+    ensures words { λ r. ⌜ now (out .exit) ≡ macroblockCall narrow n (now (base .entry)) column row (now (out .entry)) .words ⌝ }
     ensures demand3 { λ r. ⌜ SinglyPromised n (now (base .entry)) column row (now (out .entry)) r (now (out .exit)) ⌝ }
 {
     match Geometry::new(n) {

@@ -3,7 +3,7 @@ use Prim.Native.Nat.{ℕ, _*_}
 use mathlib.Core.Path.{_≡_, sym, ap, subst, _∙_}
 use Rattle.definitions.specs.declared.Verdict.the-variants.{Accepted}
 use Rattle.definitions.specs.Geometry.{axesOf}
-use Rattle.definitions.specs.Record.{recordWords}
+use Rattle.definitions.specs.Record.{recordWords, narrow}
 use Rattle.definitions.specs.Refusals.{geometryVerdict, verdictOf, recordTests, allAddresses}
 use Rattle.definitions.proofs.RecordLists.{all-formed, index-member}
 use Rattle.geometry.proofs.Verdicts.{checked-accepted, checked-refused, checked-valid}
@@ -31,7 +31,7 @@ right : (c : tie.Else1) → c .before .before .before .before .before .before .b
 right c = c .if1 .left ∙ c .before .before .base-count .ensures .0
 
 -- the verdict on all records
-checked : (c : tie.After-check) → verdictOf (recordTests (c .before .before .before .before .before .before .before .before .before .before .before .args .base .now) (allAddresses (c .before .before .before .before .axes .result))) ≡ c .check .result
+checked : (c : tie.After-check) → verdictOf (recordTests narrow (c .before .before .before .before .before .before .before .before .before .before .before .args .base .now) (allAddresses (c .before .before .before .before .axes .result))) ≡ c .check .result
 checked c =
     all-checked (c .before .before .before .before .axes .result) (c .before .before .before .before .before .before .before .before .before .before .before .args .base .now) (c .before .before .before .base-count .result) (c .before .before .before .base-count .ensures .0) ∙ sym (c .check .ensures)
 
@@ -73,7 +73,7 @@ picture-lines-requires c κs =
     let g = c .before .before .before .before .before .before .before .axes .result in (
       record {
         placed = record { axes = accepted (c .before .before .before .before .before .before .before); base-length = s .pre .0 ∙ ap (λ (k : ℕ). recordWords * k) (right (c .before .before .before .before)) };
-        formed = λ a h. all-formed (s .args .base .now) (allAddresses g) v a (index-member (baseCount g) a h);
+        formed = λ a h. all-formed narrow (s .args .base .now) (allAddresses g) v a (index-member (baseCount g) a h);
       },
       s .pre .1,
     )

@@ -1,7 +1,7 @@
 -- `macroblock::named_of` meets its contract. Assumes nothing.
 use mathlib.Core.Path.{ap}
 use Rattle.definitions.specs.declared.Class.{Class}
-use Rattle.definitions.specs.declared.Named.{Named}
+use Rattle.definitions.specs.declared.Origin.{Origin}
 use borrow.Author.Needs.{needs}
 use Rattle.macroblock.proofs.named_of.Statement.{statement}
 use Rattle.macroblock.proofs.named_of.Tie as tie
@@ -18,7 +18,7 @@ cast-t5 c = search needs
 returns : tie.Need-returns
 returns c =
     let a = c .before .before .before .args in
-    let made : Class → Named = λ k. record { class = k; column = a .h .first; row = a .v .first } in
+    let made : Class → Origin = λ k. record { class = k; column = a .h .first; row = a .v .first } in
     ap made (c .before .before .class-of .ensures)
 
 pub named-of-spec : {M : Type 1} → statement M

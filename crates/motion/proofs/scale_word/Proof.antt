@@ -8,7 +8,7 @@ use mir.Facts.{toZ-pos, toZ-ofZ}
 use mir.Syntax.{w16}
 use mir.Val.{toZ}
 use native.Mathlib.Omega.{arith}
-use Rattle.definitions.specs.Record.{vectorLimit}
+use Rattle.definitions.specs.Record.{narrow}
 use Rattle.definitions.specs.Basics.{signed}
 use Rattle.motion.proofs.Signs.{by-words}
 use borrow.Author.Needs.{needs}
@@ -27,7 +27,7 @@ magnitude-requires : tie.Need-magnitude-requires
 magnitude-requires c κs = search needs
 
 scale-size-requires : tie.Need-scale-size-requires
-scale-size-requires c κs = let h : c .magnitude .result ≤ vectorLimit = omega (arith, size c, c .before .pre .0) in (h, c .before .pre .1)
+scale-size-requires c κs = let h : c .magnitude .result ≤ narrow = omega (arith, size c, c .before .pre .0) in (h, c .before .pre .1)
 
 cast-with-sign-of : tie.Need-cast-with-sign-of
 cast-with-sign-of c = record { sfits = top c }

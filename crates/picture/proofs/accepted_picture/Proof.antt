@@ -2,7 +2,7 @@
 use Rattle.picture.proofs.Stages.{wrong-base, wrong-output, wrong-record, all-right, all-checked}
 use Rattle.definitions.proofs.RecordLists.{all-formed, index-member}
 use Rattle.definitions.specs.Refusals.{verdictOf, recordTests, allAddresses}
-use Rattle.definitions.specs.Record.{recordWords}
+use Rattle.definitions.specs.Record.{recordWords, narrow}
 use Rattle.definitions.specs.Raster.{fullCount, baseCount}
 use Rattle.definitions.specs.declared.PictureReply.the-variants.{Refused as NotMade}
 use lib.ListN.{length}
@@ -20,7 +20,7 @@ output-right : (c : tie.Else2) → length (c .before .before .before .before .ar
 output-right c = c .if2 .left ∙ ap (λ (n : ℕ). recordWords * n) (c .before .full-count .ensures .0)
 
 -- the verdict on all records
-checked : (c : tie.After-check) → verdictOf (recordTests (c .before .before .before .before .before .args .base .now) (allAddresses (c .before .before .before .before .before .args .g))) ≡ c .check .result
+checked : (c : tie.After-check) → verdictOf (recordTests narrow (c .before .before .before .before .before .args .base .now) (allAddresses (c .before .before .before .before .before .args .g))) ≡ c .check .result
 checked c =
     let s = c .before .before .before .before .before in
     all-checked (s .args .g) (s .args .base .now) (c .before .before .before .before .base-count .result) (c .before .before .before .before .base-count .ensures .0) ∙ sym (c .check .ensures)
@@ -66,7 +66,7 @@ fill-requires c κs =
     let s = c .before .before .before .before .before .before .before .before in
     let k = c .before .before .before in
     let v = checked k ∙ c .before .enum-told .given .1 in
-    (record { placed = record { axes = s .pre; base-length = base-right (k .before .before .before) }; formed = λ a h. all-formed (s .args .base .now) (allAddresses (s .args .g)) v a (index-member (baseCount (s .args .g)) a h) }, output-right (k .before))
+    (record { placed = record { axes = s .pre; base-length = base-right (k .before .before .before) }; formed = λ a h. all-formed narrow (s .args .base .now) (allAddresses (s .args .g)) v a (index-member (baseCount (s .args .g)) a h) }, output-right (k .before))
 
 enum-known-r : tie.Need-enum-known-r
 enum-known-r c = search needs

@@ -1,5 +1,6 @@
 -- `spiewomir::spiewomir_macroblock` meets its contract. Assumes nothing.
 use Rattle.spiewomir.specs.Results.{macroblockResult}
+use Rattle.definitions.specs.Record.{narrow}
 use Rattle.definitions.specs.Calls.{macroblockCall}
 use mir.Facts.{toZ-ofZ}
 use mathlib.Core.Path.{ap, _∙_}
@@ -26,8 +27,8 @@ returns c =
     let n = c .before .before .before .before .numbers-of .ensures in
     let p = toZ-ofZ (s .fits .column) in
     let q = toZ-ofZ (s .fits .row) in (
-      c .reply-result .ensures ∙ ap macroblockResult (u .ensures .0 ∙ (λ i. macroblockCall (n i) (s .args .base .now) (p i) (q i) (s .args .out .now) .reply)),
-      u .ensures .1 .0 ∙ (λ i. macroblockCall (n i) (s .args .base .now) (p i) (q i) (s .args .out .now) .words),
+      c .reply-result .ensures ∙ ap macroblockResult (u .ensures .0 ∙ (λ i. macroblockCall narrow (n i) (s .args .base .now) (p i) (q i) (s .args .out .now) .reply)),
+      u .ensures .1 .0 ∙ (λ i. macroblockCall narrow (n i) (s .args .base .now) (p i) (q i) (s .args .out .now) .words),
     )
 
 pub spiewomir-macroblock-spec : {M : Type 1} → statement M

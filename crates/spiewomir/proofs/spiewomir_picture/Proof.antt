@@ -1,5 +1,6 @@
 -- `spiewomir::spiewomir_picture` meets its contract. Assumes nothing.
 use Rattle.spiewomir.specs.Results.{pictureResult}
+use Rattle.definitions.specs.Record.{narrow}
 use Rattle.definitions.specs.Calls.{pictureCall}
 use mathlib.Core.Path.{sym, ap, _∙_}
 use borrow.Author.Needs.{needs}
@@ -27,8 +28,8 @@ returns c =
     let u = o .before .upsample-picture in
     let s = o .before .before .before .before in
     let n = o .before .before .before .numbers-of .ensures in (
-      ap pictureResult (sym (c .before .c .given .1) ∙ (u .ensures .0 ∙ (λ i. pictureCall (n i) (s .args .base .now) (s .args .out .now) .reply))),
-      u .ensures .1 .0 ∙ (λ i. pictureCall (n i) (s .args .base .now) (s .args .out .now) .words),
+      ap pictureResult (sym (c .before .c .given .1) ∙ (u .ensures .0 ∙ (λ i. pictureCall narrow (n i) (s .args .base .now) (s .args .out .now) .reply))),
+      u .ensures .1 .0 ∙ (λ i. pictureCall narrow (n i) (s .args .base .now) (s .args .out .now) .words),
     )
 
 same-length-2 : tie.Need-same-length-2
@@ -40,8 +41,8 @@ returns-2 c =
     let u = o .before .upsample-picture in
     let s = o .before .before .before .before in
     let n = o .before .before .before .numbers-of .ensures in (
-      ap pictureResult (sym (c .before .r .given .1) ∙ (u .ensures .0 ∙ (λ i. pictureCall (n i) (s .args .base .now) (s .args .out .now) .reply))),
-      u .ensures .1 .0 ∙ (λ i. pictureCall (n i) (s .args .base .now) (s .args .out .now) .words),
+      ap pictureResult (sym (c .before .r .given .1) ∙ (u .ensures .0 ∙ (λ i. pictureCall narrow (n i) (s .args .base .now) (s .args .out .now) .reply))),
+      u .ensures .1 .0 ∙ (λ i. pictureCall narrow (n i) (s .args .base .now) (s .args .out .now) .words),
     )
 
 pub spiewomir-picture-spec : {M : Type 1} → statement M

@@ -1,5 +1,6 @@
 -- `upsample::check_row` meets its contract. Assumes nothing.
 use Rattle.upsample.proofs.Naming.{row-small, row-one, row-two, one-in, two-in}
+use Rattle.definitions.specs.Record.{narrow}
 use Rattle.definitions.specs.Refusals.{verdictOf, recordTests}
 use Rattle.definitions.specs.Geometry.{baseSize}
 use native.Mathlib.Omega.{arith}
@@ -34,7 +35,7 @@ check-requires c κs =
 returns : tie.Need-returns
 returns c =
     let s = c .before .before .before in
-    c .check .ensures ∙ ap (λ (l : List ℕ). verdictOf (recordTests (s .args .base .now) l)) (sym (row-two (s .args .g) (s .args .first) (s .args .row) (c .before .if1 .taken)))
+    c .check .ensures ∙ ap (λ (l : List ℕ). verdictOf (recordTests narrow (s .args .base .now) l)) (sym (row-two (s .args .g) (s .args .first) (s .args .row) (c .before .if1 .taken)))
 
 add-check-2 : tie.Need-add-check-2
 add-check-2 c = omega (arith, small (c .before .before))
@@ -48,7 +49,7 @@ check-requires-2 c κs =
 returns-2 : tie.Need-returns-2
 returns-2 c =
     let s = c .before .before .before in
-    c .check2 .ensures ∙ ap (λ (l : List ℕ). verdictOf (recordTests (s .args .base .now) l)) (sym (row-one (s .args .g) (s .args .first) (s .args .row) (c .before .if1 .left)))
+    c .check2 .ensures ∙ ap (λ (l : List ℕ). verdictOf (recordTests narrow (s .args .base .now) l)) (sym (row-one (s .args .g) (s .args .first) (s .args .row) (c .before .if1 .left)))
 
 pub check-row-spec : {M : Type 1} → statement M
 check-row-spec =

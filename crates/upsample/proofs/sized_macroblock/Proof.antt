@@ -2,6 +2,7 @@
 use Rattle.upsample.proofs.Staging.{none-read, placed-refused, placed-answered}
 use Rattle.upsample.proofs.Readiness.{Known, known-of}
 use Rattle.definitions.proofs.RecordLists.{all-formed}
+use Rattle.definitions.specs.Record.{narrow}
 use Rattle.definitions.specs.Refusals.{verdictOf, recordTests, addressesRead}
 use mathlib.Core.Bool.{true≢false}
 use Prim.Native.Nat.{ℕ}
@@ -24,10 +25,10 @@ known a =
     known-of (s .args .g) (s .args .base .now) (s .pre .0) (s .args .column) (s .args .row) (a .before .axis-read .result) (a .axis-read2 .result) (a .before .axis-read .ensures) (a .axis-read2 .ensures)
 
 -- the verdict on the records that are read
-checked-is : (r : tie.After-check-read) → verdictOf (recordTests (r .before .before .before .before .before .before .args .base .now) (addressesRead (r .before .before .before .before .before .before .args .g) (r .before .before .before .before .before .before .args .column) (r .before .before .before .before .before .before .args .row))) ≡ r .check-read .result
+checked-is : (r : tie.After-check-read) → verdictOf (recordTests narrow (r .before .before .before .before .before .before .args .base .now) (addressesRead (r .before .before .before .before .before .before .args .g) (r .before .before .before .before .before .before .args .column) (r .before .before .before .before .before .before .args .row))) ≡ r .check-read .result
 checked-is r =
     let s = r .before .before .before .before .before .before in
-    ap (λ (l : List ℕ). verdictOf (recordTests (s .args .base .now) l)) (known (r .before .before .before .before) .named (r .before .if1 .taken)) ∙ sym (r .check-read .ensures)
+    ap (λ (l : List ℕ). verdictOf (recordTests narrow (s .args .base .now) l)) (known (r .before .before .before .before) .named (r .before .if1 .taken)) ∙ sym (r .check-read .ensures)
 
 check-read-requires : tie.Need-check-read-requires
 check-read-requires c κs =
@@ -44,7 +45,7 @@ make-requires c κs =
     let s = c .before .before .before .before .before .before .before .before .before in
     let k = known (c .before .before .before .before .before .before .before) in
     let e = checked-is (c .before .before .before) ∙ c .before .enum-told .given .1 in
-    (λ t. k .made-ready t (all-formed (s .args .base .now) (addressesRead (s .args .g) (s .args .column) (s .args .row)) e), s .pre .1)
+    (λ t. k .made-ready t (all-formed narrow (s .args .base .now) (addressesRead (s .args .g) (s .args .column) (s .args .row)) e), s .pre .1)
 
 enum-known-r : tie.Need-enum-known-r
 enum-known-r c = search needs
@@ -74,7 +75,7 @@ returns-3 : tie.Need-returns-3
 returns-3 c =
     let a = c .before .before .before .before .before .before in
     let s = a .before .before in
-    let e = ap (λ (l : List ℕ). verdictOf (recordTests (s .args .base .now) l)) (known a .unnamed (c .before .before .before .if1 .left)) in
+    let e = ap (λ (l : List ℕ). verdictOf (recordTests narrow (s .args .base .now) l)) (known a .unnamed (c .before .before .before .if1 .left)) in
     placed-answered (s .args .g) (s .args .base .now) (s .args .column) (s .args .row) (s .args .out .now) (none-read (s .args .base .now) e) (a .before .axis-read .result) (a .axis-read2 .result) (a .before .axis-read .ensures) (a .axis-read2 .ensures) _ _ (c .before .place2 .ensures .0) (c .before .place2 .ensures .1)
 
 pub placed-macroblock-spec : {M : Type 1} → statement M

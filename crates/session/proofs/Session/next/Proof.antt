@@ -5,6 +5,7 @@ use mathlib.Core.Path.{sym, _∙_}
 use native.Mathlib.Omega.{arith}
 use mir.Facts.{toZ-pos}
 use mir.Syntax.{w32}
+use Rattle.definitions.specs.Record.{narrow}
 use Rattle.definitions.specs.Calls.{macroblockCall, sumOf}
 use Prim.Native.Nat.{_<_, _^_}
 use borrow.Author.Needs.{needs}
@@ -66,8 +67,8 @@ returns-2 c =
     let p = toZ-pos w32 x in
     let q = toZ-pos w32 y in
     next-done (a .self) (a .base .now) (a .out .now) (on k) _ _ _
-    (u .ensures .0 ∙ (λ i. macroblockCall (a .self .numbers) (a .base .now) (p i) (q i) (a .out .now) .reply))
-    (u .ensures .1 .0 ∙ (λ i. macroblockCall (a .self .numbers) (a .base .now) (p i) (q i) (a .out .now) .words))
+    (u .ensures .0 ∙ (λ i. macroblockCall narrow (a .self .numbers) (a .base .now) (p i) (q i) (a .out .now) .reply))
+    (u .ensures .1 .0 ∙ (λ i. macroblockCall narrow (a .self .numbers) (a .base .now) (p i) (q i) (a .out .now) .words))
     (c .advance .ensures)
 
 returns-3 : tie.Need-returns-3

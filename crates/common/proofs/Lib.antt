@@ -1,0 +1,2 @@
+-- Laws of the sizes of a geometry; other crates cite them.
+pub mod Sizes
