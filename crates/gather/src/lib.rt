@@ -1,25 +1,26 @@
 // Gathering by the block map: the motions that the blocks of a macroblock read, and the set of those that read intra macroblocks.
 ghost use Prim.Native.Nat.{_*_, _+_, _≤_};
 ghost use Rattle.definitions.specs.Record.{isIntra, subTypeOf, typeOf};
-ghost use Rattle.gather.specs.Reads.{Readable, ReadableAt, addressAt, bitOf, blockAt, motionRead, recordRead, rowSet, setBy};
+ghost use Rattle.gather.specs.Reads.{QuadrantReadable, Readable, ReadableAt, RowReadable, addressAt, bitOf, blockAt, motionRead, quadrantRead, recordRead, rowSet, setBy};
 ghost use Rattle.definitions.specs.Basics.{eqZ};
 ghost use Rattle.definitions.specs.Blocks.{quadrantOf};
 ghost use lib.IntN.{pos};
 ghost use lib.ListN.{getD};
 ghost use mathlib.Core.List.{[], _∷_};
 ghost use mathlib.Core.Path.{_≡_};
+use common::raster;
 use definitions::Motion;
-use records::is_intra;
-use records::is_single;
-use records::is_whole;
-use records::motion_of;
+use records::read::is_intra;
+use records::read::is_single;
+use records::read::is_whole;
+use records::read::motion_of;
 
 // The base macroblock of the 4 by 4 block at coordinates x and y.
 fn address_of(width: usize, x: u16, y: u16) -> usize
     requires { ⌜ width ≤ 256 ⌝ }
     ensures { λ r. ⌜ r ≡ addressAt width x y ⌝ }
 {
-    (y / 4) as usize * width + (x / 4) as usize
+    raster::address_of(width, (x / 4) as usize, (y / 4) as usize)
 }
 
 pub fn motion_read(base: &[i16], width: usize, x: u16, y: u16) -> Motion
@@ -31,15 +32,22 @@ pub fn motion_read(base: &[i16], width: usize, x: u16, y: u16) -> Motion
     motion_of(base, a, b)
 }
 
-// The blocks of a quadrant: its columns read x0 and x1, its rows y0 and y1.
-pub fn quadrant_read(base: &[i16], width: usize, x0: u16, x1: u16, y0: u16, y1: u16) -> [Motion; 4]
-    requires { ⌜ ReadableAt width (now base) x0 y0 × ReadableAt width (now base) x1 y0 × ReadableAt width (now base) x0 y1 × ReadableAt width (now base) x1 y1 × (width ≤ 256) ⌝ }
-    ensures { λ r. ⌜ r ≡ motionRead width (now (base .entry)) x0 y0 ∷ motionRead width (now (base .entry)) x1 y0 ∷ motionRead width (now (base .entry)) x0 y1 ∷ motionRead width (now (base .entry)) x1 y1 ∷ [] ⌝ }
+// What the blocks of a quadrant read: its columns the coordinates x0 and x1, its rows y0 and y1.
+pub struct Corners {
+    pub x0: u16,
+    pub x1: u16,
+    pub y0: u16,
+    pub y1: u16,
+}
+
+pub fn quadrant_read(base: &[i16], width: usize, at: Corners) -> [Motion; 4]
+    requires { ⌜ QuadrantReadable width (now base) at × (width ≤ 256) ⌝ }
+    ensures { λ r. ⌜ r ≡ quadrantRead width (now (base .entry)) at ⌝ }
 {
-    let a = motion_read(base, width, x0, y0);
-    let b = motion_read(base, width, x1, y0);
-    let c = motion_read(base, width, x0, y1);
-    let d = motion_read(base, width, x1, y1);
+    let a = motion_read(base, width, at.x0, at.y0);
+    let b = motion_read(base, width, at.x1, at.y0);
+    let c = motion_read(base, width, at.x0, at.y1);
+    let d = motion_read(base, width, at.x1, at.y1);
     [a, b, c, d]
 }
 
@@ -75,7 +83,7 @@ fn intra_bit(base: &[i16], width: usize, x: u16, y: u16) -> u16
 }
 
 fn row_set(base: &[i16], width: usize, across: [u16; 4], y: u16) -> u16
-    requires { ⌜ ReadableAt width (now base) (getD across 0 0) y × ReadableAt width (now base) (getD across 1 0) y × ReadableAt width (now base) (getD across 2 0) y × ReadableAt width (now base) (getD across 3 0) y × (width ≤ 256) ⌝ }
+    requires { ⌜ RowReadable width (now base) across y × (width ≤ 256) ⌝ }
     ensures { λ r. ⌜ (r ≡ rowSet (λ i. isIntra (recordRead width (now (base .entry)) (getD across i 0) y))) × (r ≤ 15) ⌝ }
 {
     let a = intra_bit(base, width, across[0], y);

@@ -7,6 +7,10 @@ ghost use Rattle.log.specs.Given.{Given, LinesGiven};
 ghost use Rattle.log.specs.Promised.{LogPromised};
 ghost use lib.ListN.{length};
 ghost use mathlib.Core.Path.{_≡_};
+use common::raster::base_count;
+use common::refusals;
+use common::refusals::refused;
+use common::tests::base_right;
 use definitions::LogReply;
 use definitions::RECORD_WORDS;
 use definitions::Refusal;
@@ -17,11 +21,9 @@ use geometry::Checked;
 use geometry::Geometry;
 use log_lines::put_line;
 use log_picture::picture_lines;
-use records::check;
+use records::check::check;
 use sync_text::TEXT_WORDS;
 use sync_text::read_text;
-use upsample::base_count;
-use upsample::refused;
 
 // The bytes that every log fits: 65,536 lines of at most 18, and a last one of at most 31.
 pub const LOG_BYTES: usize = 1179679;
@@ -35,11 +37,10 @@ fn read_lines(t: TextRead, base: &[i16], out: &mut [u8]) -> LogReply
     match Geometry::new(numbers) {
         Checked::Geometry(g) => {
             let axes = g.axes();
-            let records = base_count(axes);
-            if t.lines as usize != records {
-                return LogReply::Refused(refused(5));
+            if !base_right(axes, base.len()) {
+                return LogReply::Refused(refused(refusals::BASE_LENGTH));
             }
-            match check(base, 0, records) {
+            match check(base, 0, base_count(axes)) {
                 Verdict::Accepted => LogReply::Written(picture_lines(axes, base, out)),
                 Verdict::Refused(r) => LogReply::Refused(r),
             }
@@ -78,7 +79,7 @@ pub fn log(text: &[u8], out: &mut [u8]) -> LogReply
     ensures demand2 { λ r. ⌜ LogPromised (now (text .entry)) r (now (out .exit)) ⌝ }
 {
     if out.len() < LOG_BYTES {
-        return LogReply::Refused(refused(6));
+        return LogReply::Refused(refused(refusals::OUTPUT_LENGTH));
     }
     match text_lines(text, out) {
         LogReply::Written(n) => LogReply::Written(n),

@@ -12,9 +12,9 @@ use Rattle.definitions.specs.declared.Motion.{Motion}
 use Rattle.definitions.specs.declared.Split.{Split}
 use Rattle.definitions.specs.Basics.{minus, between, eqZ, four}
 use Rattle.definitions.specs.Geometry.{baseSize, macroblocks}
-use Rattle.definitions.specs.Record.{narrow, used, motionOf, vectorWord, typeNumber, laidOut}
+use Rattle.definitions.specs.Record.{narrow, used, motionOf, vectorWord, laidOut}
 use Rattle.definitions.specs.Inheriting.{zeroMotion, at, clearOf, filled, merged, liveOf, copied, resolved, scaledMotion, motionAt, chosen}
-use Rattle.definitions.specs.Answer.{subTypes}
+use Rattle.definitions.specs.Answer.{dividedBy}
 use Rattle.definitions.specs.Blocks.{rasterOf}
 use Rattle.definitions.proofs.Choices.{both-true, eqZ-true, each, four-at, four-same}
 use Rattle.definitions.proofs.Formed.{Vectors, vectors-of}
@@ -45,7 +45,7 @@ module _ (width : ℕ) (base : List ℤ) (x y : ℕ) (r : ReadableAt width base 
   abbrev block : ℕ
   block = blockAt x y
 
-  vectors : (l : ℕ) → l < 2 → Vectors (recordRead width base x y) block l
+  vectors : (l : ℕ) → l < 2 → Vectors narrow (recordRead width base x y) block l
   vectors l h = vectors-of narrow (recordRead width base x y) (r .formed) block l (omega arith) h
 
   pub read-range : Both InRange (motionRead width base x y)
@@ -105,9 +105,9 @@ module _ (g : Axes) (h v : AxisRead) (base : List ℤ) (ready : Ready g h v base
   scaled-split e f = f ∙ (ap chosen e ∙ sym (chosen-scaled g (ready .axes .horizontal .sized) (ready .axes .vertical .sized) (resolvedBy g h v base)))
 
   pub inherited-written : {s : Split} {m scaled : List (List Motion)} → m ≡ resolvedBy g h v base → s ≡ chosen m → scaled ≡ four (λ q. four (λ k. scaledMotion g (at m q k)))
-      → laidOut (typeNumber s) (λ q. getD (subTypes s) q 0) (motionAt scaled) ≡ inheritedBy g h v base
+      → laidOut (dividedBy s (motionAt scaled)) ≡ inheritedBy g h v base
   unfolding inheritedBy motionsBy
   inherited-written e f es =
       let p = scaled-split e f in
       let q = es ∙ ap (λ (l : List (List Motion)). four (λ j. four (λ k. scaledMotion g (at l j k)))) e in
-      λ i. laidOut (typeNumber (p i)) (λ j. getD (subTypes (p i)) j 0) (motionAt (q i))
+      λ i. laidOut (dividedBy (p i) (motionAt (q i)))

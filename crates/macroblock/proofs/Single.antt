@@ -14,9 +14,9 @@ use Rattle.definitions.specs.declared.Motion.{Motion}
 use Rattle.definitions.specs.declared.Split.the-variants.{S16x16}
 use Rattle.definitions.specs.Basics.{pick, eqZ, four}
 use Rattle.definitions.specs.Geometry.{baseSize, macroblocks}
-use Rattle.definitions.specs.Record.{recordAt, isIntra, typeOf, subTypeOf, motionOf, typeNumber, laidOut}
+use Rattle.definitions.specs.Record.{recordAt, isIntra, typeOf, subTypeOf, motionOf, laidOut}
 use Rattle.definitions.specs.Inheriting.{zeroMotion, setOf, mostlyIntra, clearOf, filled, merged, copied, copiedFrom, liveOf, someOf, resolved, scaledMotion, motionAt, chosen}
-use Rattle.definitions.specs.Answer.{subTypes}
+use Rattle.definitions.specs.Answer.{dividedBy}
 use Rattle.definitions.specs.Blocks.{quadrantOf}
 use Rattle.definitions.proofs.Choices.{both-true, either-true, each, four-same, yes, no}
 use Rattle.definitions.proofs.Fewest.{chosen-is}
@@ -189,9 +189,9 @@ module _ (g : Axes) (h v : AxisRead) (base : List ℤ) (ready : Ready g h v base
       pub whole-split : S16x16 ≡ chosen (motionsBy g h v base)
       whole-split = sym (ap chosen whole-motions ∙ (chosen-is (four (λ q. four (λ k. scaledMotion g n))) ∙ uniform (scaledMotion g n)))
 
-      pub whole-written : {m : Motion} → m ≡ scaledMotion g n → laidOut (typeNumber S16x16) (λ q. getD (subTypes S16x16) q 0) (motionAt (replicate 4 (replicate 4 m))) ≡ inheritedBy g h v base
+      pub whole-written : {m : Motion} → m ≡ scaledMotion g n → laidOut (dividedBy S16x16 (motionAt (replicate 4 (replicate 4 m)))) ≡ inheritedBy g h v base
       unfolding inheritedBy
       whole-written e =
           let p = whole-split in
           let q = ap (λ (m : Motion). four (λ j. four (λ k. m))) e ∙ sym whole-motions in
-          λ i. laidOut (typeNumber (p i)) (λ j. getD (subTypes (p i)) j 0) (motionAt (q i))
+          λ i. laidOut (dividedBy (p i) (motionAt (q i)))

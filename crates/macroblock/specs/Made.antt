@@ -17,9 +17,9 @@ use Rattle.macroblock.specs.declared.AxisRead.{AxisRead}
 use Rattle.definitions.specs.Basics.{pick, four}
 use Rattle.definitions.specs.Geometry.{baseSize, classOf, macroblocks, insideAxis, sampleOf}
 use Rattle.definitions.specs.BlockMap.{stepOf}
-use Rattle.definitions.specs.Record.{typeNumber, laidOut}
+use Rattle.definitions.specs.Record.{laidOut}
 use Rattle.definitions.specs.Inheriting.{mostlyIntra, at, motionAt, resolved, scaledMotion, chosen}
-use Rattle.definitions.specs.Answer.{Made, subTypes, writtenFor}
+use Rattle.definitions.specs.Answer.{Made, dividedBy, writtenFor}
 use Rattle.definitions.specs.Accepted.{AcceptedAxes}
 use Rattle.gather.specs.Reads.{Readable, setBy, gatheredBy}
 
@@ -67,7 +67,7 @@ madeInside g h v base = record { answer = answerBy g h v base; written = written
 unfoldable pub inheritedBy : Axes → AxisRead → AxisRead → List ℤ → List ℤ
 inheritedBy g h v base =
     let m = motionsBy g h v base in
-    laidOut (typeNumber (chosen m)) (λ q. getD (subTypes (chosen m)) q 0) (motionAt m)
+    laidOut (dividedBy (chosen m) (motionAt m))
 
 -- ---- What is made of any macroblock: outside no record is read
 unfoldable pub madeBy : Axes → AxisRead → AxisRead → List ℤ → Made

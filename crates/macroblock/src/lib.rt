@@ -5,7 +5,7 @@ ghost use Rattle.definitions.specs.Answer.{subTypes, withoutMotion};
 ghost use Rattle.definitions.specs.Geometry.{baseSize, macroblocks};
 ghost use Rattle.definitions.specs.Inheriting.{chosen, clearOf, filled, merged, motionAt};
 ghost use Rattle.definitions.specs.Record.{laidOut, recordWords, subTypeNumber, typeNumber};
-ghost use Rattle.gather.specs.Reads.{ReadableAt, motionRead, setBy};
+ghost use Rattle.gather.specs.Reads.{QuadrantReadable, quadrantRead, setBy};
 ghost use Rattle.macroblock.specs.Made.{Makeable, Ready, Small, inheritedBy, madeInside, motionsBy, originBy, nowhere, onePart, madeBy, readIn, readOf, resolvedBy};
 ghost use lib.ListN.{getD, length};
 ghost use mathlib.Core.Bool.{_&&_, true};
@@ -18,9 +18,8 @@ use definitions::AxisStep;
 use definitions::EnhancementSample;
 use definitions::Motion;
 use definitions::Origin;
-use definitions::Prediction;
 use definitions::Split;
-use definitions::SubSplit;
+use gather::Corners;
 use gather::intra_set;
 use gather::motion_read;
 use gather::quadrant_read;
@@ -33,8 +32,12 @@ use geometry::is_inside;
 use inherit::mostly_intra;
 use motion::scale_by;
 use motion::scale_motion;
+use records::layout::INTRA;
+use records::layout::NO_MOTION;
+use records::layout::OUTSIDE;
+use records::write::write_one;
+use records::write::write_split;
 use split::choose;
-use write::write_record;
 
 // An axis at a macroblock: whether it is inside there, and then what of its step the making asks for (outside, zeros).
 // Twelve bytes, since a picture keeps one for each column.
@@ -85,78 +88,16 @@ pub fn axis_read(a: Axis, x: u32) -> AxisRead
     read_nowhere()
 }
 
-// ---- The written record
-pub fn type_number(s: Split) -> u8
-    ensures { λ r. ⌜ r ≡ typeNumber s ⌝ }
-{
-    match s {
-        Split::S16x16 => 1,
-        Split::S16x8 => 2,
-        Split::S8x16 => 3,
-        Split::S8x8(_) => 4,
-    }
-}
-
-fn sub_type_number(s: SubSplit) -> u8
-    ensures { λ r. ⌜ r ≡ subTypeNumber s ⌝ }
-{
-    match s {
-        SubSplit::S8x8 => 0,
-        SubSplit::S8x4 => 1,
-        SubSplit::S4x8 => 2,
-        SubSplit::S4x4 => 3,
-    }
-}
-
-pub fn sub_types(s: Split) -> [u8; 4]
-    ensures { λ r. ⌜ r ≡ subTypes s ⌝ }
-{
-    match s {
-        Split::S16x16 => [0; 4],
-        Split::S16x8 => [0; 4],
-        Split::S8x16 => [0; 4],
-        Split::S8x8(t) => {
-            let a = t.a;
-            let b = t.b;
-            let c = t.c;
-            let d = t.d;
-            [
-                sub_type_number(a),
-                sub_type_number(b),
-                sub_type_number(c),
-                sub_type_number(d),
-            ]
-        }
-    }
-}
-
-fn write_split(out: &mut [i16], s: Split, m: [[Motion; 4]; 4])
-    requires { ⌜ length (now out) ≡ recordWords ⌝ }
-    ensures { λ _. ⌜ now (out .exit) ≡ laidOut (typeNumber s) (λ q. getD (subTypes s) q 0) (motionAt m) ⌝ }
-{
-    write_record(out, type_number(s), sub_types(s), m);
-}
-
-const UNUSED: Prediction = Prediction {
-    reference: -1,
-    x: 0,
-    y: 0,
-};
-
 // A record without motion, of type 0 (intra) or 5 (outside).
 fn write_unused(out: &mut [i16], kind: u8)
     requires { ⌜ length (now out) ≡ recordWords ⌝ }
     ensures { λ _. ⌜ now (out .exit) ≡ withoutMotion kind ⌝ }
 {
-    let m = Motion {
-        list0: UNUSED,
-        list1: UNUSED,
-    };
-    write_record(out, kind, [0; 4], [[m; 4]; 4]);
+    write_one(out, kind, NO_MOTION);
 }
 
 // ---- Inside
-fn named_of(h: AxisRead, v: AxisRead) -> Origin
+fn origin_of(h: AxisRead, v: AxisRead) -> Origin
     ensures { λ r. ⌜ r ≡ originBy h v ⌝ }
 {
     Origin {
@@ -166,21 +107,12 @@ fn named_of(h: AxisRead, v: AxisRead) -> Origin
     }
 }
 
-// Steps 1 and 2: the motions of quadrant q, whose columns read x0 and x1 and whose rows y0 and y1.
-fn quadrant_made(
-    base: &[i16],
-    width: usize,
-    x0: u16,
-    x1: u16,
-    y0: u16,
-    y1: u16,
-    set: u16,
-    q: usize,
-) -> [Motion; 4]
-    requires { ⌜ ReadableAt width (now base) x0 y0 × ReadableAt width (now base) x1 y0 × ReadableAt width (now base) x0 y1 × ReadableAt width (now base) x1 y1 × (width ≤ 256) × (q < 4) ⌝ }
-    ensures { λ r. ⌜ r ≡ merged (filled (clearOf set q) (motionRead width (now (base .entry)) x0 y0 ∷ motionRead width (now (base .entry)) x1 y0 ∷ motionRead width (now (base .entry)) x0 y1 ∷ motionRead width (now (base .entry)) x1 y1 ∷ [])) ⌝ }
+// Steps 1 and 2: the motions of quadrant q, whose blocks read these coordinates.
+fn quadrant_made(base: &[i16], width: usize, at: Corners, set: u16, q: usize) -> [Motion; 4]
+    requires { ⌜ QuadrantReadable width (now base) at × (width ≤ 256) × (q < 4) ⌝ }
+    ensures { λ r. ⌜ r ≡ merged (filled (clearOf set q) (quadrantRead width (now (base .entry)) at)) ⌝ }
 {
-    inherit::resolve(set, quadrant_read(base, width, x0, x1, y0, y1), q)
+    inherit::resolve(set, quadrant_read(base, width, at), q)
 }
 
 // Steps 1 to 3: the motions of the blocks.
@@ -197,10 +129,29 @@ fn motions_made(g: Axes, base: &[i16], h: AxisRead, v: AxisRead, set: u16) -> [[
     let y1 = v.reads[1];
     let y2 = v.reads[2];
     let y3 = v.reads[3];
-    let a = quadrant_made(base, width, x0, x1, y0, y1, set, 0);
-    let b = quadrant_made(base, width, x2, x3, y0, y1, set, 1);
-    let c = quadrant_made(base, width, x0, x1, y2, y3, set, 2);
-    let d = quadrant_made(base, width, x2, x3, y2, y3, set, 3);
+    let above_left = Corners { x0, x1, y0, y1 };
+    let above_right = Corners {
+        x0: x2,
+        x1: x3,
+        y0,
+        y1,
+    };
+    let below_left = Corners {
+        x0,
+        x1,
+        y0: y2,
+        y1: y3,
+    };
+    let below_right = Corners {
+        x0: x2,
+        x1: x3,
+        y0: y2,
+        y1: y3,
+    };
+    let a = quadrant_made(base, width, above_left, set, 0);
+    let b = quadrant_made(base, width, above_right, set, 1);
+    let c = quadrant_made(base, width, below_left, set, 2);
+    let d = quadrant_made(base, width, below_right, set, 3);
     inherit::copy(set, [a, b, c, d])
 }
 
@@ -250,19 +201,19 @@ fn make_of_one(g: Axes, base: &[i16], h: AxisRead, v: AxisRead, out: &mut [i16])
     let down = v.reads;
     let x = across[0];
     let y = down[0];
-    let named = named_of(h, v);
+    let origin = origin_of(h, v);
     if reads_intra(base, width, x, y) {
-        write_unused(out, 0);
-        return Answer::Intra(named);
+        write_unused(out, INTRA);
+        return Answer::Intra(origin);
     }
     let quarter = is_half(across) & is_half(down);
     if reads_whole(base, width, x, y) | (quarter & reads_single(base, width, x, y)) {
         let m = scale_motion(g, motion_read(base, width, x, y));
         write_split(out, Split::S16x16, [[m; 4]; 4]);
-        return Answer::Inherited(named, Split::S16x16);
+        return Answer::Inherited(origin, Split::S16x16);
     }
     let s = make_inherited(g, base, h, v, 0, out);
-    Answer::Inherited(named, s)
+    Answer::Inherited(origin, s)
 }
 
 fn make_of_more(g: Axes, base: &[i16], h: AxisRead, v: AxisRead, out: &mut [i16]) -> Answer
@@ -273,14 +224,14 @@ fn make_of_more(g: Axes, base: &[i16], h: AxisRead, v: AxisRead, out: &mut [i16]
     let width = (g.horizontal.base.0 / 16) as usize;
     let across = h.reads;
     let down = v.reads;
-    let named = named_of(h, v);
+    let origin = origin_of(h, v);
     let set = intra_set(base, width, across, down);
     if mostly_intra(set) {
-        write_unused(out, 0);
-        return Answer::Intra(named);
+        write_unused(out, INTRA);
+        return Answer::Intra(origin);
     }
     let s = make_inherited(g, base, h, v, set, out);
-    Answer::Inherited(named, s)
+    Answer::Inherited(origin, s)
 }
 
 // ---- In or out of the window
@@ -297,6 +248,6 @@ pub fn make(g: Axes, base: &[i16], h: AxisRead, v: AxisRead, out: &mut [i16]) ->
         }
         return make_of_more(g, base, h, v, out);
     }
-    write_unused(out, 5);
+    write_unused(out, OUTSIDE);
     Answer::Outside
 }

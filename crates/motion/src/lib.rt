@@ -52,7 +52,7 @@ pub fn same_motion(m: Motion, n: Motion) -> bool
 // ---- Step 4. One rule for both axes: |v| is scaled to the nearest, halves up, and the sign put back.
 const POWER: u64 = 1099511627776; // 2^40
 
-// An axis's B and S, and 2^40 / B + 1: a product with it, shifted right by 40, stands for a division by B, which is dear.
+// An axis's B and S, and 2^40 / B + 1: a product with it, shifted right by 40, stands for a division by B, which is expensive.
 struct Scale {
     base: u32,
     scaled: u32,

@@ -1,18 +1,26 @@
 // The picture call of document 01: all base records are checked, then every macroblock is made in raster order.
 ghost use Prim.Native.Nat.{_*_, _+_, _<_, _≤_};
 ghost use Rattle.definitions.specs.Accepted.{AcceptedAxes, AcceptedAxis};
-ghost use Rattle.definitions.specs.Calls.{counted, countsOf, madeAt, pictureCall, sumOf};
+ghost use Rattle.definitions.specs.Calls.{countsOf, madeAt, pictureCall};
 ghost use Rattle.definitions.specs.Record.{recordWords, narrow};
 ghost use Rattle.definitions.specs.Basics.{forEach, upTo};
 ghost use Rattle.definitions.specs.Geometry.{fullSize, macroblocks};
 ghost use Rattle.definitions.specs.Raster.{fullCount};
 ghost use Rattle.macroblock.specs.Made.{readOf};
 ghost use Rattle.picture.specs.Reads.{AxisReads};
-ghost use Rattle.upsample.specs.Promised.{PicturePromised};
-ghost use Rattle.upsample.specs.Staged.{Formed, axesPicture};
+ghost use Rattle.common.specs.Bases.{BaseFormed};
+ghost use Rattle.picture.specs.Promised.{PicturePromised};
+ghost use Rattle.picture.specs.Staged.{axesPicture};
 ghost use lib.ListN.{length};
 ghost use mathlib.Core.Path.{_≡_};
-use definitions::Answer;
+use common::counts::count;
+use common::counts::no_counts;
+use common::raster::base_count;
+use common::raster::full_count;
+use common::refusals;
+use common::refusals::refused;
+use common::tests::base_right;
+use common::tests::output_right;
 use definitions::Axes;
 use definitions::Axis;
 use definitions::Counts;
@@ -26,9 +34,7 @@ use macroblock::AxisRead;
 use macroblock::axis_read;
 use macroblock::make;
 use macroblock::read_nowhere;
-use records::check;
-use upsample::base_count;
-use upsample::refused;
+use records::check::check;
 
 // The horizontal axis at each column of the picture; 256 is the most.
 fn column_reads(a: Axis) -> [AxisRead; 256]
@@ -43,37 +49,6 @@ fn column_reads(a: Axis) -> [AxisRead; 256]
         x += 1;
     }
     reads
-}
-
-// One more of an answer's sort.
-pub fn count(c: Counts, a: Answer) -> Counts
-    requires { ⌜ sumOf c < 65536 ⌝ }
-    ensures { λ r. ⌜ r ≡ counted a c ⌝ }
-{
-    match a {
-        Answer::Outside => Counts {
-            inherited: c.inherited,
-            intra: c.intra,
-            outside: c.outside + 1,
-        },
-        Answer::Intra(_) => Counts {
-            inherited: c.inherited,
-            intra: c.intra + 1,
-            outside: c.outside,
-        },
-        Answer::Inherited(_, _) => Counts {
-            inherited: c.inherited + 1,
-            intra: c.intra,
-            outside: c.outside,
-        },
-    }
-}
-
-pub fn full_count(g: Axes) -> usize
-    requires { ⌜ AcceptedAxes g ⌝ }
-    ensures { λ r. ⌜ (r ≡ fullCount g) × (r ≤ 65536) ⌝ }
-{
-    (g.horizontal.full.0 / 16) as usize * (g.vertical.full.0 / 16) as usize
 }
 
 // A macroblock's column and row.
@@ -112,18 +87,14 @@ fn row_read(a: Axis, p: Position, kept: AxisRead) -> AxisRead
 
 // Every macroblock, in raster order.
 fn fill(g: Axes, base: &[i16], out: &mut [i16]) -> Counts
-    requires { ⌜ Formed g (now base) × (length (now out) ≡ recordWords * fullCount g) ⌝ }
+    requires { ⌜ BaseFormed narrow g (now base) × (length (now out) ≡ recordWords * fullCount g) ⌝ }
     ensures counts { λ r. ⌜ r ≡ countsOf (upTo (fullCount g) (madeAt g (now (base .entry)))) ⌝ }
     ensures words { λ r. ⌜ now (out .exit) ≡ forEach (upTo (fullCount g) (madeAt g (now (base .entry)))) (λ m. m .written) ⌝ }
 {
     let columns = column_reads(g.horizontal);
     let width = g.horizontal.full.0 / 16;
     let total = full_count(g);
-    let mut counts = Counts {
-        inherited: 0,
-        intra: 0,
-        outside: 0,
-    };
+    let mut counts = no_counts();
     let mut at = Position { column: 0, row: 0 };
     let mut v = read_nowhere();
     let mut a: usize = 0;
@@ -147,14 +118,13 @@ fn accepted_picture(g: Axes, base: &[i16], out: &mut [i16]) -> PictureReply
     ensures reply { λ r. ⌜ r ≡ axesPicture g (now (base .entry)) (now (out .entry)) .reply ⌝ }
     ensures words { λ r. ⌜ now (out .exit) ≡ axesPicture g (now (base .entry)) (now (out .entry)) .words ⌝ }
 {
-    let records = base_count(g);
-    if base.len() != RECORD_WORDS * records {
-        return PictureReply::Refused(refused(5));
+    if !base_right(g, base.len()) {
+        return PictureReply::Refused(refused(refusals::BASE_LENGTH));
     }
-    if out.len() != RECORD_WORDS * full_count(g) {
-        return PictureReply::Refused(refused(6));
+    if !output_right(full_count(g), out.len()) {
+        return PictureReply::Refused(refused(refusals::OUTPUT_LENGTH));
     }
-    match check(base, 0, records) {
+    match check(base, 0, base_count(g)) {
         Verdict::Accepted => PictureReply::Counted(fill(g, base, out)),
         Verdict::Refused(r) => PictureReply::Refused(r),
     }

@@ -2,13 +2,15 @@
 ghost use Prim.Native.Nat.{_<_};
 ghost use Rattle.definitions.specs.Inheriting.{filled, merged, mergedList, source, unused, withReference, zeroPrediction};
 ghost use Rattle.definitions.specs.Record.{used};
-ghost use Rattle.quadrant.specs.Merging.{AllEmpty, firstOf, lowerOf, oneReference, oneReferenceOf};
+ghost use Rattle.quadrant.specs.Merging.{AllEmpty, candidateFor, firstHaving, lowerOf, oneReference, oneReferenceOf};
 ghost use lib.ListN.{getD};
 ghost use lib.Signed.{ltZ};
 ghost use mathlib.Core.List.{[], _∷_};
 ghost use mathlib.Core.Path.{_≡_};
 use definitions::Motion;
 use definitions::Prediction;
+use records::layout::UNUSED;
+use records::layout::UNUSED_LIST;
 
 // ---- Neighbours in a square of four. Quadrants stand in a macroblock as blocks do in a quadrant.
 pub const HORIZONTAL: [usize; 4] = [1, 0, 3, 2];
@@ -60,11 +62,11 @@ pub fn fill(clear: [bool; 4], m: [Motion; 4]) -> [Motion; 4]
 }
 
 // ---- Step 2: one reference for the quadrant in each list.
-// Which reference is lower, and whose vector is taken, cannot be foretold: where a test can be made without a branch, it is.
+// Which reference is lower, and whose vector is taken, cannot be predicted: where a test can be made without a branch, it is.
 fn is_used(p: Prediction) -> bool
     ensures { λ r. ⌜ r ≡ used (p .reference) ⌝ }
 {
-    p.reference != -1
+    p.reference != UNUSED
 }
 
 fn is_lower(p: Prediction, q: Prediction) -> bool
@@ -93,43 +95,38 @@ fn with_reference(r: Prediction, p: Prediction) -> Prediction
     }
 }
 
-// A block's part of a merged list: r with the vector of the first that had r, of the block itself, its horizontal, vertical and diagonal neighbour.
-fn taken(
-    r: Prediction,
-    own: bool,
-    h: bool,
-    v: bool,
-    d: bool,
-    p: Prediction,
-    ph: Prediction,
-    pv: Prediction,
-    pd: Prediction,
-) -> Prediction
-    ensures { λ t. ⌜ t ≡ withReference (r .reference) (firstOf own h v d p ph pv pd) ⌝ }
-{
-    if own {
-        return with_reference(r, p);
-    }
-    if h {
-        return with_reference(r, ph);
-    }
-    if v {
-        return with_reference(r, pv);
-    }
-    if d {
-        return with_reference(r, pd);
-    }
-    with_reference(r, p)
+// A list's part of a block's motion, and whether its reference is r.
+struct Candidate {
+    has: bool,
+    list: Prediction,
 }
 
-fn unused_list() -> Prediction
-    ensures { λ r. ⌜ r ≡ unused ⌝ }
+fn candidate_of(p: Prediction, r: Prediction) -> Candidate
+    ensures { λ c. ⌜ c ≡ candidateFor p r ⌝ }
 {
-    Prediction {
-        reference: -1,
-        x: 0,
-        y: 0,
+    Candidate {
+        has: motion::same_reference(p, r),
+        list: p,
     }
+}
+
+// A block's part of a merged list: r with the vector of the first that had r, of the block itself, its horizontal, vertical and diagonal neighbour.
+fn taken(r: Prediction, own: Candidate, h: Candidate, v: Candidate, d: Candidate) -> Prediction
+    ensures { λ t. ⌜ t ≡ withReference (r .reference) (firstHaving own h v d) ⌝ }
+{
+    if own.has {
+        return with_reference(r, own.list);
+    }
+    if h.has {
+        return with_reference(r, h.list);
+    }
+    if v.has {
+        return with_reference(r, v.list);
+    }
+    if d.has {
+        return with_reference(r, d.list);
+    }
+    with_reference(r, own.list)
 }
 
 fn merge_list(p: Prediction, q: Prediction, s: Prediction, t: Prediction) -> [Prediction; 4]
@@ -137,18 +134,17 @@ fn merge_list(p: Prediction, q: Prediction, s: Prediction, t: Prediction) -> [Pr
 {
     let r = lower_of(lower_of(p, q), lower_of(s, t));
     if is_used(r) {
-        let hp = motion::same_reference(p, r);
-        let hq = motion::same_reference(q, r);
-        let hs = motion::same_reference(s, r);
-        let ht = motion::same_reference(t, r);
-        let a = taken(r, hp, hq, hs, ht, p, q, s, t);
-        let b = taken(r, hq, hp, ht, hs, q, p, t, s);
-        let c = taken(r, hs, ht, hp, hq, s, t, p, q);
-        let d = taken(r, ht, hs, hq, hp, t, s, q, p);
+        let cp = candidate_of(p, r);
+        let cq = candidate_of(q, r);
+        let cs = candidate_of(s, r);
+        let ct = candidate_of(t, r);
+        let a = taken(r, cp, cq, cs, ct);
+        let b = taken(r, cq, cp, ct, cs);
+        let c = taken(r, cs, ct, cp, cq);
+        let d = taken(r, ct, cs, cq, cp);
         return [a, b, c, d];
     }
-    let n = unused_list();
-    [n, n, n, n]
+    [UNUSED_LIST; 4]
 }
 
 fn joined_at(p: [Prediction; 4], q: [Prediction; 4], k: usize) -> Motion

@@ -1,12 +1,20 @@
 // The session of document 01: one picture made macroblock by macroblock, with a state that is handed over and back by value.
 ghost use Prim.Native.Nat.{_<_};
 ghost use Rattle.definitions.specs.Accepted.{AcceptedAxes};
-ghost use Rattle.definitions.specs.Calls.{noCounts, sumOf};
+ghost use Rattle.definitions.specs.Calls.{sumOf};
 ghost use Rattle.definitions.specs.Session.{abandon, abandonVerdict, begin, beginVerdict, next, nextCall, totals, totalsOf, unfinished};
 ghost use Rattle.session.specs.Stage.{stageIn, stageOf};
 ghost use Rattle.session.specs.Values.{HandsBack, advancedBy, freshSession, stateOf};
 ghost use mathlib.Core.Bool.{false};
 ghost use mathlib.Core.Path.{_≡_};
+use common::counts::count;
+use common::counts::no_counts;
+use common::counts::sum;
+use common::raster::column_at;
+use common::raster::full_count;
+use common::raster::row_at;
+use common::refusals;
+use common::refusals::refused;
 use definitions::Axes;
 use definitions::AxisNumbers;
 use definitions::Counts;
@@ -15,9 +23,6 @@ use definitions::Numbers;
 use definitions::Verdict;
 use geometry::Checked;
 use geometry::Geometry;
-use picture::count;
-use picture::full_count;
-use upsample::refused;
 use upsample::upsample_macroblock;
 
 // Nothing begun; or the geometry's numbers, and the counts of the accepted next calls. Any value can be handed over: one that no list of calls
@@ -53,22 +58,6 @@ pub enum Stage {
     Finished,
 }
 
-fn no_counts() -> Counts
-    ensures { λ r. ⌜ r ≡ noCounts ⌝ }
-{
-    Counts {
-        inherited: 0,
-        intra: 0,
-        outside: 0,
-    }
-}
-
-fn sum(c: Counts) -> u64
-    ensures { λ r. ⌜ r ≡ sumOf c ⌝ }
-{
-    c.inherited as u64 + c.intra as u64 + c.outside as u64
-}
-
 // The geometry is accepted.
 fn stage_in(g: Axes, c: Counts) -> Stage
     requires { ⌜ AcceptedAxes g ⌝ }
@@ -83,9 +72,8 @@ fn stage_in(g: Axes, c: Counts) -> Stage
     if left == 0 {
         return Stage::Finished;
     }
-    let columns = g.horizontal.full.0 / 16;
-    let address = at as u32;
-    Stage::Unfinished(address % columns, address / columns)
+    let address = at as usize;
+    Stage::Unfinished(column_at(g, address), row_at(g, address))
 }
 
 fn stage_of(s: Session) -> Stage
@@ -171,7 +159,7 @@ impl Session {
             Stage::Nothing => begin_anew(self, n),
             Stage::Unfinished(_, _) => Judged {
                 session: self,
-                verdict: Verdict::Refused(refused(22)),
+                verdict: Verdict::Refused(refused(refusals::UNFINISHED)),
             },
             Stage::Finished => begin_anew(self, n),
         }
@@ -187,7 +175,7 @@ impl Session {
         match stage_of(self) {
             Stage::Nothing => Advanced {
                 session: self,
-                reply: MacroblockReply::Refused(refused(20)),
+                reply: MacroblockReply::Refused(refused(refusals::NOTHING_BEGUN)),
             },
             Stage::Unfinished(column, row) => {
                 let reply = upsample_macroblock(numbers, base, column as i32, row as i32, out);
@@ -198,7 +186,7 @@ impl Session {
             }
             Stage::Finished => Advanced {
                 session: self,
-                reply: MacroblockReply::Refused(refused(21)),
+                reply: MacroblockReply::Refused(refused(refusals::FINISHED)),
             },
         }
     }
@@ -212,7 +200,7 @@ impl Session {
         match stage_of(self) {
             Stage::Nothing => Judged {
                 session: self,
-                verdict: Verdict::Refused(refused(20)),
+                verdict: Verdict::Refused(refused(refusals::NOTHING_BEGUN)),
             },
             Stage::Unfinished(_, _) => Judged {
                 session: anew,
@@ -220,7 +208,7 @@ impl Session {
             },
             Stage::Finished => Judged {
                 session: self,
-                verdict: Verdict::Refused(refused(21)),
+                verdict: Verdict::Refused(refused(refusals::FINISHED)),
             },
         }
     }

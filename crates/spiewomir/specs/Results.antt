@@ -11,7 +11,7 @@ use Rattle.definitions.specs.declared.MacroblockReply.{MacroblockReply}
 use Rattle.definitions.specs.declared.MacroblockReply.the-variants.{Answered, Refused as Declined}
 use Rattle.definitions.specs.declared.PictureReply.{PictureReply}
 use Rattle.definitions.specs.declared.PictureReply.the-variants.{Counted, Refused as NotMade}
-use Rattle.definitions.specs.Answer.{answerType, answerClass, answerColumn, answerRow, subTypes}
+use Rattle.definitions.specs.Answer.{answerType, answerOrigin, subTypes}
 use Rattle.spiewomir.specs.declared.GeometryNumbers.{GeometryNumbers}
 use Rattle.spiewomir.specs.declared.MacroblockResult.{MacroblockResult}
 use Rattle.spiewomir.specs.declared.PictureResult.{PictureResult}
@@ -35,23 +35,20 @@ answerSubTypes (Intra n) = 0 ∷ 0 ∷ 0 ∷ 0 ∷ []
 answerSubTypes (Inherited n s) = subTypes s
 
 -- refusal 0 stands for none
-abbrev pub answered : ℕ → List ℕ → Class → ℕ → ℕ → MacroblockResult
-answered kind sub class column row = record {
+abbrev pub answerResult : Answer → MacroblockResult
+answerResult a = record {
   refusal = 0;
   place = 0;
   rule = 0;
-  kind = kind;
-  sub0 = getD sub 0 0;
-  sub1 = getD sub 1 0;
-  sub2 = getD sub 2 0;
-  sub3 = getD sub 3 0;
-  class = classNumber class;
-  column = column;
-  row = row;
+  kind = answerType a;
+  sub0 = getD (answerSubTypes a) 0 0;
+  sub1 = getD (answerSubTypes a) 1 0;
+  sub2 = getD (answerSubTypes a) 2 0;
+  sub3 = getD (answerSubTypes a) 3 0;
+  class = classNumber (answerOrigin a .class);
+  column = answerOrigin a .column;
+  row = answerOrigin a .row;
 }
-
-abbrev pub answerResult : Answer → MacroblockResult
-answerResult a = answered (answerType a) (answerSubTypes a) (answerClass a) (answerColumn a) (answerRow a)
 
 abbrev pub macroblockResult : MacroblockReply → MacroblockResult
 macroblockResult (Answered a) = answerResult a

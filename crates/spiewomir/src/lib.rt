@@ -1,8 +1,9 @@
 // The C interface: the calls on numbers and slices, with results by value. include/spiewomir.h declares it.
 ghost use Rattle.definitions.specs.Record.{narrow};
+ghost use Rattle.definitions.specs.Answer.{answerOrigin};
 ghost use Rattle.definitions.specs.Calls.{macroblockCall, pictureCall};
 ghost use Rattle.definitions.specs.Session.{abandon, abandonVerdict, begin, beginVerdict, next, nextCall, totalsOf};
-ghost use Rattle.spiewomir.specs.Results.{answerResult, answered, classNumber, macroblockResult, numbersOf, pictureResult};
+ghost use Rattle.spiewomir.specs.Results.{answerResult, answerSubTypes, classNumber, macroblockResult, numbersOf, pictureResult};
 ghost use Rattle.spiewomir.specs.Sessions.{advancedResult, flag, judgedResult, numbersFor, sessionFor, sessionOf, totalsResult};
 ghost use Rattle.spiewomir.specs.Texts.{LogGiven, TextGiven};
 ghost use Rattle.session.specs.Values.{freshSession, handedBack, stateOf};
@@ -18,9 +19,9 @@ use definitions::Origin;
 use definitions::PictureReply;
 use definitions::TextReply;
 use definitions::Verdict;
-use macroblock::sub_types;
-use macroblock::type_number;
 use picture::upsample_picture;
+use records::layout::answer_type;
+use records::layout::sub_types;
 use session::Advanced;
 use session::Judged;
 use session::Session;
@@ -151,40 +152,49 @@ fn wide(n: u8) -> u32
     n as u32
 }
 
-fn named_result(kind: u8, sub: [u8; 4], n: Origin) -> MacroblockResult
-    ensures { λ r. ⌜ r ≡ answered kind sub (n .class) (n .column) (n .row) ⌝ }
+// What an answer says besides its split: outside as document 01 has it.
+fn origin_of(a: Answer) -> Origin
+    ensures { λ r. ⌜ r ≡ answerOrigin a ⌝ }
 {
-    let class = n.class;
-    MacroblockResult {
-        refusal: 0,
-        place: 0,
-        rule: 0,
-        kind: wide(kind),
-        sub0: wide(sub[0]),
-        sub1: wide(sub[1]),
-        sub2: wide(sub[2]),
-        sub3: wide(sub[3]),
-        class: class_number(class),
-        column: n.column,
-        row: n.row,
+    match a {
+        Answer::Outside => Origin {
+            class: Class::Corner,
+            column: 0,
+            row: 0,
+        },
+        Answer::Intra(o) => o,
+        Answer::Inherited(o, _) => o,
+    }
+}
+
+fn sub_types_of(a: Answer) -> [u8; 4]
+    ensures { λ r. ⌜ r ≡ answerSubTypes a ⌝ }
+{
+    match a {
+        Answer::Outside => [0; 4],
+        Answer::Intra(_) => [0; 4],
+        Answer::Inherited(_, s) => sub_types(s),
     }
 }
 
 fn answer_result(a: Answer) -> MacroblockResult
     ensures { λ r. ⌜ r ≡ answerResult a ⌝ }
 {
-    match a {
-        Answer::Outside => named_result(
-            5,
-            [0; 4],
-            Origin {
-                class: Class::Corner,
-                column: 0,
-                row: 0,
-            },
-        ),
-        Answer::Intra(n) => named_result(0, [0; 4], n),
-        Answer::Inherited(n, s) => named_result(type_number(s), sub_types(s), n),
+    let sub = sub_types_of(a);
+    let origin = origin_of(a);
+    let class = origin.class;
+    MacroblockResult {
+        refusal: 0,
+        place: 0,
+        rule: 0,
+        kind: wide(answer_type(a)),
+        sub0: wide(sub[0]),
+        sub1: wide(sub[1]),
+        sub2: wide(sub[2]),
+        sub3: wide(sub[3]),
+        class: class_number(class),
+        column: origin.column,
+        row: origin.row,
     }
 }
 

@@ -1,6 +1,8 @@
-// Step 5 of "Inheriting": the split with the fewest pieces that have one motion each.
+// Step 5 of "Inheriting": the split with the fewest pieces that have one motion each; and the number of a split's pieces.
 ghost use Rattle.definitions.proofs.Shapes.{allWhole, isWhole, quadrantShape, samePairs, shapeOf, shapesOf};
+ghost use Prim.Native.Nat.{_≤_};
 ghost use Rattle.definitions.specs.Inheriting.{chosen};
+ghost use Rattle.definitions.specs.Splits.{count, subCount};
 ghost use mathlib.Core.Path.{_≡_};
 use definitions::Motion;
 use definitions::Split;
@@ -97,4 +99,34 @@ pub fn choose(m: [[Motion; 4]; 4]) -> Split
         };
     }
     Split::S8x8(t)
+}
+
+// ---- The number of pieces
+fn sub_pieces(s: SubSplit) -> u32
+    ensures { λ r. ⌜ (r ≡ subCount s) × (r ≤ 4) ⌝ }
+{
+    match s {
+        SubSplit::S8x8 => 1,
+        SubSplit::S8x4 => 2,
+        SubSplit::S4x8 => 2,
+        SubSplit::S4x4 => 4,
+    }
+}
+
+// The number of pieces of a split.
+pub fn pieces_of(s: Split) -> u32
+    ensures { λ r. ⌜ r ≡ count s ⌝ }
+{
+    match s {
+        Split::S16x16 => 1,
+        Split::S16x8 => 2,
+        Split::S8x16 => 2,
+        Split::S8x8(t) => {
+            let a = t.a;
+            let b = t.b;
+            let c = t.c;
+            let d = t.d;
+            sub_pieces(a) + sub_pieces(b) + sub_pieces(c) + sub_pieces(d)
+        }
+    }
 }

@@ -18,11 +18,3 @@ use Rattle.definitions.specs.Demand3.{Demand3Singly, Demand3Picture}
 abbrev pub SinglyPromised : Numbers → List ℤ → ℤ → ℤ → List ℤ → MacroblockReply → List ℤ → Type 0
 SinglyPromised n base column row words (Answered answer) written = Demand3Singly narrow n (natAbs column) (natAbs row) words base answer written
 SinglyPromised n base column row words (Declined r) written = Unit
-
--- the picture: so is each of its macroblocks, with the one-macroblock call's answer on the same base
-abbrev pub PicturePromised : Numbers → List ℤ → List ℤ → PictureReply → List ℤ → Type 0
-PicturePromised n base words (Counted counts) out =
-    (column row : ℕ) → column < macroblocks (fullSize (axesOf n .horizontal)) → row < macroblocks (fullSize (axesOf n .vertical))
-    → (alone : List ℤ) (answer : Answer) → macroblockCall narrow n base (pos column) (pos row) alone .reply ≡ Answered answer
-    → Demand3Picture narrow n column row words alone base answer (recordAt out (row * macroblocks (fullSize (axesOf n .horizontal)) + column))
-PicturePromised n base words (NotMade r) out = Unit

@@ -1,4 +1,4 @@
--- The calls of document 01 in the stages of the code: after the geometry is accepted, and after lengths and place are.
+-- The one-macroblock call of document 01 in the stages of the code: after the geometry is accepted, and after lengths and position are.
 use Prim.Native.Nat.{ℕ, _+_, _*_, _≤_, _<_}
 use mathlib.Core.Path.{_≡_}
 use mathlib.Core.Bool.{Bool}
@@ -35,13 +35,6 @@ sizedCall g base column row words =
     let made = madeOf g base column row in
     byVerdict (verdictOf (recordTests narrow base (addressesRead g column row))) Declined words (record { reply = Answered (made .answer); words = made .written })
 
--- the picture, once its geometry is accepted: refusals 5, 6 and 8
-unfoldable pub axesPicture : Axes → List ℤ → List ℤ → Outcome PictureReply
-axesPicture g base words =
-    let made = upTo (fullCount g) (madeAt g base) in
-    byVerdict (verdictOf (baseTest g base ∷ outputTest (fullCount g) words ∷ recordTests narrow base (allAddresses g))) NotMade words
-    (record { reply = Counted (countsOf made); words = forEach made (λ m. m .written) })
-
 -- the base macroblocks of one row that are read
 abbrev pub rowAddresses : Axes → ℕ → Bool → ℕ → List ℕ
 rowAddresses g first two row = map (λ column. baseAddress g column row) (columnsRead first two)
@@ -49,13 +42,3 @@ rowAddresses g first two row = map (λ column. baseAddress g column row) (column
 -- addresses that lie in the base
 abbrev pub InBase : List ℤ → List ℕ → Type 0
 InBase base addresses = (a : ℕ) → List·Memᴰ a addresses → ((a + 1) * recordWords ≤ length base) × (a < 65536)
-
--- an accepted geometry, and a base of the right length
-pub record BaseRight (g : Axes) (base : List ℤ) : Type 0 where
-  pub axes : AcceptedAxes g
-  pub base-length : length base ≡ recordWords * baseCount g
-
--- and every record of it well formed
-pub record Formed (g : Axes) (base : List ℤ) : Type 0 where
-  pub placed : BaseRight g base
-  pub formed : AllFormed narrow g base

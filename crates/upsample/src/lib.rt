@@ -1,5 +1,6 @@
-// The one-macroblock call of document 01 on records, and the stages that the picture call has too.
+// The one-macroblock call of document 01.
 ghost use Prim.Native.Nat.{_*_, _<_, _≤_};
+ghost use Rattle.common.specs.Bases.{BaseRight};
 ghost use Rattle.definitions.specs.Accepted.{AcceptedAxes};
 ghost use Rattle.definitions.specs.Answer.{addressesOf};
 ghost use Rattle.definitions.specs.Calls.{macroblockCall};
@@ -9,47 +10,26 @@ ghost use Rattle.definitions.specs.Refusals.{recordTests, refusal, verdictOf, w
 ghost use Rattle.definitions.specs.Raster.{baseCount};
 ghost use Rattle.macroblock.specs.Made.{originBy};
 ghost use Rattle.upsample.specs.Promised.{SinglyPromised};
-ghost use Rattle.upsample.specs.Staged.{InBase, BaseRight, axesCall, sizedCall, rowAddresses};
+ghost use Rattle.upsample.specs.Staged.{InBase, axesCall, sizedCall, rowAddresses};
 ghost use lib.ListN.{length};
 ghost use mathlib.Core.Path.{_≡_};
+use common::raster::address_of;
+use common::raster::base_width;
+use common::refusals;
+use common::refusals::refused;
+use common::tests::base_right;
+use common::tests::output_right;
+use common::tests::position_right;
 use definitions::Axes;
-use definitions::EnhancementSample;
 use definitions::MacroblockReply;
 use definitions::Numbers;
-use definitions::RECORD_WORDS;
-use definitions::Refusal;
 use definitions::Verdict;
 use geometry::Checked;
 use geometry::Geometry;
 use macroblock::AxisRead;
 use macroblock::axis_read;
 use macroblock::make;
-use records::check;
-
-pub fn refused(number: u32) -> Refusal
-    ensures { λ r. ⌜ r ≡ refusal number ⌝ }
-{
-    Refusal {
-        number,
-        place: 0,
-        rule: 0,
-    }
-}
-
-pub fn base_count(g: Axes) -> usize
-    requires { ⌜ AcceptedAxes g ⌝ }
-    ensures { λ r. ⌜ (r ≡ baseCount g) × (r ≤ 65536) ⌝ }
-{
-    (g.horizontal.base.0 / 16) as usize * (g.vertical.base.0 / 16) as usize
-}
-
-// Column or row x is one of the picture's.
-fn is_within(size: EnhancementSample, x: i32) -> bool
-    requires { ⌜ size .0 ≤ 4096 ⌝ }
-    ensures { λ r. ⌜ r ≡ withinAxis (size .0) x ⌝ }
-{
-    (0 <= x) & (x < (size.0 / 16) as i32)
-}
+use records::check::check;
 
 // ---- The records that a macroblock reads
 // One row of them: one column, or two next to each other.
@@ -57,8 +37,7 @@ fn check_row(g: Axes, base: &[i16], first: u32, two: bool, row: u32) -> Verdict
     requires { ⌜ (baseSize (g .horizontal) ≤ 4096) × InBase (now base) (rowAddresses g first two row) ⌝ }
     ensures { λ r. ⌜ r ≡ verdictOf (recordTests narrow (now (base .entry)) (rowAddresses g first two row)) ⌝ }
 {
-    let width = (g.horizontal.base.0 / 16) as usize;
-    let a = row as usize * width + first as usize;
+    let a = address_of(base_width(g), first as usize, row as usize);
     if two {
         return check(base, a, a + 2);
     }
@@ -82,7 +61,7 @@ fn check_read(g: Axes, base: &[i16], h: AxisRead, v: AxisRead) -> Verdict
 }
 
 // ---- One macroblock
-// Lengths and place are right: refusal 8, or the answer.
+// Lengths and position are right: refusal 8, or the answer.
 fn sized_macroblock(
     g: Axes,
     base: &[i16],
@@ -117,18 +96,16 @@ fn accepted_macroblock(
     ensures reply { λ r. ⌜ r ≡ axesCall g (now (base .entry)) column row (now (out .entry)) .reply ⌝ }
     ensures words { λ r. ⌜ now (out .exit) ≡ axesCall g (now (base .entry)) column row (now (out .entry)) .words ⌝ }
 {
-    if base.len() != RECORD_WORDS * base_count(g) {
-        return MacroblockReply::Refused(refused(5));
+    if !base_right(g, base.len()) {
+        return MacroblockReply::Refused(refused(refusals::BASE_LENGTH));
     }
-    if out.len() != RECORD_WORDS {
-        return MacroblockReply::Refused(refused(6));
+    if !output_right(1, out.len()) {
+        return MacroblockReply::Refused(refused(refusals::OUTPUT_LENGTH));
     }
-    let width = g.horizontal.full;
-    let height = g.vertical.full;
-    if is_within(width, column) & is_within(height, row) {
+    if position_right(g, column, row) {
         return sized_macroblock(g, base, column as u32, row as u32, out);
     }
-    MacroblockReply::Refused(refused(7))
+    MacroblockReply::Refused(refused(refusals::POSITION))
 }
 
 // The one-macroblock call: geometry, base, column, row, and 77 words to write.

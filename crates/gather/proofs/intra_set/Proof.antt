@@ -13,25 +13,25 @@ array-read-row-set : tie.Need-array-read-row-set
 array-read-row-set c = search needs
 
 row-set-requires : tie.Need-row-set-requires
-row-set-requires c κs = (c .pre .0 0 (omega arith), c .pre .0 1 (omega arith), c .pre .0 2 (omega arith), c .pre .0 3 (omega arith), c .pre .1)
+row-set-requires c κs = ((c .pre .0 0 (omega arith), c .pre .0 1 (omega arith), c .pre .0 2 (omega arith), c .pre .0 3 (omega arith)), c .pre .1)
 
 array-read-row-set-2 : tie.Need-array-read-row-set-2
 array-read-row-set-2 c = search needs
 
 row-set-requires-2 : tie.Need-row-set-requires-2
-row-set-requires-2 c κs = (c .before .pre .0 4 (omega arith), c .before .pre .0 5 (omega arith), c .before .pre .0 6 (omega arith), c .before .pre .0 7 (omega arith), c .before .pre .1)
+row-set-requires-2 c κs = ((c .before .pre .0 4 (omega arith), c .before .pre .0 5 (omega arith), c .before .pre .0 6 (omega arith), c .before .pre .0 7 (omega arith)), c .before .pre .1)
 
 array-read-row-set-3 : tie.Need-array-read-row-set-3
 array-read-row-set-3 c = search needs
 
 row-set-requires-3 : tie.Need-row-set-requires-3
-row-set-requires-3 c κs = (c .before .before .pre .0 8 (omega arith), c .before .before .pre .0 9 (omega arith), c .before .before .pre .0 10 (omega arith), c .before .before .pre .0 11 (omega arith), c .before .before .pre .1)
+row-set-requires-3 c κs = ((c .before .before .pre .0 8 (omega arith), c .before .before .pre .0 9 (omega arith), c .before .before .pre .0 10 (omega arith), c .before .before .pre .0 11 (omega arith)), c .before .before .pre .1)
 
 array-read-row-set-4 : tie.Need-array-read-row-set-4
 array-read-row-set-4 c = search needs
 
 row-set-requires-4 : tie.Need-row-set-requires-4
-row-set-requires-4 c κs = (c .before .before .before .pre .0 12 (omega arith), c .before .before .before .pre .0 13 (omega arith), c .before .before .before .pre .0 14 (omega arith), c .before .before .before .pre .0 15 (omega arith), c .before .before .before .pre .1)
+row-set-requires-4 c κs = ((c .before .before .before .pre .0 12 (omega arith), c .before .before .before .pre .0 13 (omega arith), c .before .before .before .pre .0 14 (omega arith), c .before .before .before .pre .0 15 (omega arith)), c .before .before .before .pre .1)
 
 mul-result : tie.Need-mul-result
 mul-result c = search needs

@@ -9,8 +9,8 @@ use Rattle.macroblock.proofs.make_of_more.Tie as tie
 cast-width : tie.Need-cast-width
 cast-width c = search needs
 
-named-of-requires : tie.Need-named-of-requires
-named-of-requires c κs = search needs
+origin-of-requires : tie.Need-origin-of-requires
+origin-of-requires c κs = search needs
 
 intra-set-requires : tie.Need-intra-set-requires
 intra-set-requires c κs = search needs
@@ -26,7 +26,7 @@ same-length c = search needs
 
 returns : tie.Need-returns
 returns c =
-    let r = made-intra (c .before .before .before .before .before .before .before .before .before .before .args .g) (c .before .before .before .before .before .before .before .before .before .before .args .h) (c .before .before .before .before .before .before .before .before .before .before .args .v) (c .before .before .before .before .before .before .before .before .before .before .args .base .now) (c .before .before .before .before .before .intra-set .ensures) (sym (c .before .before .before .before .mostly-intra .ensures) ∙ c .before .before .before .if1 .taken) (ap Intra (c .before .before .before .before .before .before .named-of .ensures)) (c .before .write-unused .ensures) in
+    let r = made-intra (c .before .before .before .before .before .before .before .before .before .before .args .g) (c .before .before .before .before .before .before .before .before .before .before .args .h) (c .before .before .before .before .before .before .before .before .before .before .args .v) (c .before .before .before .before .before .before .before .before .before .before .args .base .now) (c .before .before .before .before .before .intra-set .ensures) (sym (c .before .before .before .before .mostly-intra .ensures) ∙ c .before .before .before .if1 .taken) (ap Intra (c .before .before .before .before .before .before .origin-of .ensures)) (c .before .write-unused .ensures) in
     (r .answered, r .written)
 
 make-inherited-requires : tie.Need-make-inherited-requires
@@ -37,7 +37,7 @@ same-length-2 c = search needs
 
 returns-2 : tie.Need-returns-2
 returns-2 c =
-    let n = c .before .before .before .before .before .before .named-of .ensures in
+    let n = c .before .before .before .before .before .before .origin-of .ensures in
     let k = c .before .make-inherited .ensures .0 in
     let r = made-inherited (c .before .before .before .before .before .before .before .before .before .before .args .g) (c .before .before .before .before .before .before .before .before .before .before .args .h) (c .before .before .before .before .before .before .before .before .before .before .args .v) (c .before .before .before .before .before .before .before .before .before .before .args .base .now) (c .before .before .before .before .before .intra-set .ensures) (sym (c .before .before .before .before .mostly-intra .ensures) ∙ c .before .before .before .if1 .left) (λ i. Inherited (n i) (k i)) (c .before .make-inherited .ensures .1) in
     (r .answered, r .written)
@@ -47,7 +47,7 @@ make-of-more-spec =
     tie.close
     (tie.spec
     cast-width
-    named-of-requires
+    origin-of-requires
     intra-set-requires
     mostly-intra-requires
     write-unused-requires

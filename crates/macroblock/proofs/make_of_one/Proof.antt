@@ -22,8 +22,8 @@ array-read-x c = search needs
 array-read-y : tie.Need-array-read-y
 array-read-y c = search needs
 
-named-of-requires : tie.Need-named-of-requires
-named-of-requires c κs = search needs
+origin-of-requires : tie.Need-origin-of-requires
+origin-of-requires c κs = search needs
 
 reads-intra-requires : tie.Need-reads-intra-requires
 reads-intra-requires c κs = (first-readable (c .before .before .before .before .args .g) (c .before .before .before .before .args .h) (c .before .before .before .before .args .v) (c .before .before .before .before .args .base .now) (c .before .before .before .before .pre .0) (c .before .before .before .before .pre .1), omega (arith, c .before .before .before .before .pre .0 .axes .horizontal .sized .base-high))
@@ -36,7 +36,7 @@ same-length c = search needs
 
 returns : tie.Need-returns
 returns c =
-    let r = made-intra (c .before .before .before .before .before .before .before .before .before .args .g) (c .before .before .before .before .before .before .before .before .before .args .h) (c .before .before .before .before .before .before .before .before .before .args .v) (c .before .before .before .before .before .before .before .before .before .args .base .now) (set-all (c .before .before .before .before .before .before .before .before .before .args .g) (c .before .before .before .before .before .before .before .before .before .args .h) (c .before .before .before .before .before .before .before .before .before .args .v) (c .before .before .before .before .before .before .before .before .before .args .base .now) (c .before .before .before .before .before .before .before .before .before .pre .0) (c .before .before .before .before .before .before .before .before .before .pre .1) (sym (c .before .before .before .before .reads-intra .ensures) ∙ c .before .before .before .if1 .taken)) mostly-all (ap Intra (c .before .before .before .before .before .named-of .ensures)) (c .before .write-unused .ensures) in
+    let r = made-intra (c .before .before .before .before .before .before .before .before .before .args .g) (c .before .before .before .before .before .before .before .before .before .args .h) (c .before .before .before .before .before .before .before .before .before .args .v) (c .before .before .before .before .before .before .before .before .before .args .base .now) (set-all (c .before .before .before .before .before .before .before .before .before .args .g) (c .before .before .before .before .before .before .before .before .before .args .h) (c .before .before .before .before .before .before .before .before .before .args .v) (c .before .before .before .before .before .before .before .before .before .args .base .now) (c .before .before .before .before .before .before .before .before .before .pre .0) (c .before .before .before .before .before .before .before .before .before .pre .1) (sym (c .before .before .before .before .reads-intra .ensures) ∙ c .before .before .before .if1 .taken)) mostly-all (ap Intra (c .before .before .before .before .before .origin-of .ensures)) (c .before .write-unused .ensures) in
     (r .answered, r .written)
 
 is-half-requires : tie.Need-is-half-requires
@@ -73,7 +73,7 @@ returns-2 c =
     let b = sym (c .before .before .before .before .before .before .before .before .is-half2 .ensures) in
     let s = sym (c .before .before .before .before .before .before .reads-single .ensures) in
     let all = one-read (c .before .before .before .before .before .before .before .before .before .before .before .before .before .before .before .before .args .g) (c .before .before .before .before .before .before .before .before .before .before .before .before .before .before .before .before .args .h) (c .before .before .before .before .before .before .before .before .before .before .before .before .before .before .before .before .args .v) (c .before .before .before .before .before .before .before .before .before .before .before .before .before .before .before .before .args .base .now) (c .before .before .before .before .before .before .before .before .before .before .before .before .before .before .before .before .pre .0) (c .before .before .before .before .before .before .before .before .before .before .before .before .before .before .before .before .pre .1) not-intra ((λ i. w i || ((a i && b i) && s i)) ∙ c .before .before .before .before .before .if2 .taken) in
-    let n = c .before .before .before .before .before .before .before .before .before .before .before .before .named-of .ensures in
+    let n = c .before .before .before .before .before .before .before .before .before .before .before .before .origin-of .ensures in
     let k = whole-split (c .before .before .before .before .before .before .before .before .before .before .before .before .before .before .before .before .args .g) (c .before .before .before .before .before .before .before .before .before .before .before .before .before .before .before .before .args .h) (c .before .before .before .before .before .before .before .before .before .before .before .before .before .before .before .before .args .v) (c .before .before .before .before .before .before .before .before .before .before .before .before .before .before .before .before .args .base .now) (c .before .before .before .before .before .before .before .before .before .before .before .before .before .before .before .before .pre .0) (c .before .before .before .before .before .before .before .before .before .before .before .before .before .before .before .before .pre .1) not-intra all in
     let m = c .before .before .before .scale-motion .ensures ∙ ap (scaledMotion (c .before .before .before .before .before .before .before .before .before .before .before .before .before .before .before .before .args .g)) (c .before .before .before .before .motion-read .ensures) in
     let r = made-inherited (c .before .before .before .before .before .before .before .before .before .before .before .before .before .before .before .before .args .g) (c .before .before .before .before .before .before .before .before .before .before .before .before .before .before .before .before .args .h) (c .before .before .before .before .before .before .before .before .before .before .before .before .before .before .before .before .args .v) (c .before .before .before .before .before .before .before .before .before .before .before .before .before .before .before .before .args .base .now) (set-none (c .before .before .before .before .before .before .before .before .before .before .before .before .before .before .before .before .args .g) (c .before .before .before .before .before .before .before .before .before .before .before .before .before .before .before .before .args .h) (c .before .before .before .before .before .before .before .before .before .before .before .before .before .before .before .before .args .v) (c .before .before .before .before .before .before .before .before .before .before .before .before .before .before .before .before .args .base .now) (c .before .before .before .before .before .before .before .before .before .before .before .before .before .before .before .before .pre .0) (c .before .before .before .before .before .before .before .before .before .before .before .before .before .before .before .before .pre .1) not-intra) mostly-none (λ i. Inherited (n i) (k i)) (c .before .write-split .ensures ∙ whole-written (c .before .before .before .before .before .before .before .before .before .before .before .before .before .before .before .before .args .g) (c .before .before .before .before .before .before .before .before .before .before .before .before .before .before .before .before .args .h) (c .before .before .before .before .before .before .before .before .before .before .before .before .before .before .before .before .args .v) (c .before .before .before .before .before .before .before .before .before .before .before .before .before .before .before .before .args .base .now) (c .before .before .before .before .before .before .before .before .before .before .before .before .before .before .before .before .pre .0) (c .before .before .before .before .before .before .before .before .before .before .before .before .before .before .before .before .pre .1) not-intra all m) in
@@ -87,7 +87,7 @@ same-length-3 c = search needs
 
 returns-3 : tie.Need-returns-3
 returns-3 c =
-    let n = c .before .before .before .before .before .before .before .before .before .before .named-of .ensures in
+    let n = c .before .before .before .before .before .before .before .before .before .before .origin-of .ensures in
     let k = c .before .make-inherited .ensures .0 in
     let r = made-inherited (c .before .before .before .before .before .before .before .before .before .before .before .before .before .before .args .g) (c .before .before .before .before .before .before .before .before .before .before .before .before .before .before .args .h) (c .before .before .before .before .before .before .before .before .before .before .before .before .before .before .args .v) (c .before .before .before .before .before .before .before .before .before .before .before .before .before .before .args .base .now) (set-none (c .before .before .before .before .before .before .before .before .before .before .before .before .before .before .args .g) (c .before .before .before .before .before .before .before .before .before .before .before .before .before .before .args .h) (c .before .before .before .before .before .before .before .before .before .before .before .before .before .before .args .v) (c .before .before .before .before .before .before .before .before .before .before .before .before .before .before .args .base .now) (c .before .before .before .before .before .before .before .before .before .before .before .before .before .before .pre .0) (c .before .before .before .before .before .before .before .before .before .before .before .before .before .before .pre .1) (sym (c .before .before .before .before .before .before .before .before .before .reads-intra .ensures) ∙ c .before .before .before .before .before .before .before .before .if1 .left)) mostly-none (λ i. Inherited (n i) (k i)) (c .before .make-inherited .ensures .1) in
     (r .answered, r .written)
@@ -99,7 +99,7 @@ make-of-one-spec =
     cast-width
     array-read-x
     array-read-y
-    named-of-requires
+    origin-of-requires
     reads-intra-requires
     write-unused-requires
     same-length

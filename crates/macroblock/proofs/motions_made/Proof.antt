@@ -33,16 +33,24 @@ element-copy-out-y3 : tie.Need-element-copy-out-y3
 element-copy-out-y3 c = search needs
 
 quadrant-made-requires : tie.Need-quadrant-made-requires
-quadrant-made-requires c κs = (c .before .before .before .before .before .before .before .before .before .pre .0 .readable 0 (omega arith), c .before .before .before .before .before .before .before .before .before .pre .0 .readable 1 (omega arith), c .before .before .before .before .before .before .before .before .before .pre .0 .readable 4 (omega arith), c .before .before .before .before .before .before .before .before .before .pre .0 .readable 5 (omega arith), omega (arith, c .before .before .before .before .before .before .before .before .before .pre .0 .axes .horizontal .sized .base-high), omega arith)
+quadrant-made-requires c κs =
+    let s = c .before .before .before .before .before .before .before .before .before in
+    ((s .pre .0 .readable 0 (omega arith), s .pre .0 .readable 1 (omega arith), s .pre .0 .readable 4 (omega arith), s .pre .0 .readable 5 (omega arith)), omega (arith, s .pre .0 .axes .horizontal .sized .base-high), omega arith)
 
 quadrant-made-requires-2 : tie.Need-quadrant-made-requires-2
-quadrant-made-requires-2 c κs = (c .before .before .before .before .before .before .before .before .before .before .pre .0 .readable 2 (omega arith), c .before .before .before .before .before .before .before .before .before .before .pre .0 .readable 3 (omega arith), c .before .before .before .before .before .before .before .before .before .before .pre .0 .readable 6 (omega arith), c .before .before .before .before .before .before .before .before .before .before .pre .0 .readable 7 (omega arith), omega (arith, c .before .before .before .before .before .before .before .before .before .before .pre .0 .axes .horizontal .sized .base-high), omega arith)
+quadrant-made-requires-2 c κs =
+    let s = c .before .before .before .before .before .before .before .before .before .before in
+    ((s .pre .0 .readable 2 (omega arith), s .pre .0 .readable 3 (omega arith), s .pre .0 .readable 6 (omega arith), s .pre .0 .readable 7 (omega arith)), omega (arith, s .pre .0 .axes .horizontal .sized .base-high), omega arith)
 
 quadrant-made-requires-3 : tie.Need-quadrant-made-requires-3
-quadrant-made-requires-3 c κs = (c .before .before .before .before .before .before .before .before .before .before .before .pre .0 .readable 8 (omega arith), c .before .before .before .before .before .before .before .before .before .before .before .pre .0 .readable 9 (omega arith), c .before .before .before .before .before .before .before .before .before .before .before .pre .0 .readable 12 (omega arith), c .before .before .before .before .before .before .before .before .before .before .before .pre .0 .readable 13 (omega arith), omega (arith, c .before .before .before .before .before .before .before .before .before .before .before .pre .0 .axes .horizontal .sized .base-high), omega arith)
+quadrant-made-requires-3 c κs =
+    let s = c .before .before .before .before .before .before .before .before .before .before .before in
+    ((s .pre .0 .readable 8 (omega arith), s .pre .0 .readable 9 (omega arith), s .pre .0 .readable 12 (omega arith), s .pre .0 .readable 13 (omega arith)), omega (arith, s .pre .0 .axes .horizontal .sized .base-high), omega arith)
 
 quadrant-made-requires-4 : tie.Need-quadrant-made-requires-4
-quadrant-made-requires-4 c κs = (c .before .before .before .before .before .before .before .before .before .before .before .before .pre .0 .readable 10 (omega arith), c .before .before .before .before .before .before .before .before .before .before .before .before .pre .0 .readable 11 (omega arith), c .before .before .before .before .before .before .before .before .before .before .before .before .pre .0 .readable 14 (omega arith), c .before .before .before .before .before .before .before .before .before .before .before .before .pre .0 .readable 15 (omega arith), omega (arith, c .before .before .before .before .before .before .before .before .before .before .before .before .pre .0 .axes .horizontal .sized .base-high), omega arith)
+quadrant-made-requires-4 c κs =
+    let s = c .before .before .before .before .before .before .before .before .before .before .before .before in
+    ((s .pre .0 .readable 10 (omega arith), s .pre .0 .readable 11 (omega arith), s .pre .0 .readable 14 (omega arith), s .pre .0 .readable 15 (omega arith)), omega (arith, s .pre .0 .axes .horizontal .sized .base-high), omega arith)
 
 copy-requires : tie.Need-copy-requires
 copy-requires c κs = search needs

@@ -16,8 +16,8 @@ resolve-requires : tie.Need-resolve-requires
 resolve-requires c κs =
     let s = c .before in
     let empty = read-empty (s .args .width) (s .args .base .now) in (
-      s .pre .5,
-      subst AllEmpty (sym (c .quadrant-read .ensures)) (four-empty _ _ _ _ (empty _ _ (s .pre .0)) (empty _ _ (s .pre .1)) (empty _ _ (s .pre .2)) (empty _ _ (s .pre .3))),
+      s .pre .2,
+      subst AllEmpty (sym (c .quadrant-read .ensures)) (four-empty _ _ _ _ (empty _ _ (s .pre .0 .0)) (empty _ _ (s .pre .0 .1)) (empty _ _ (s .pre .0 .2)) (empty _ _ (s .pre .0 .3))),
     )
 
 returns : tie.Need-returns

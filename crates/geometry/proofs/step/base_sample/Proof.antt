@@ -17,5 +17,5 @@ div-t7 c = search needs
 returns : tie.Need-returns
 returns c = search needs
 
-pub base-place-spec : {M : Type 1} → statement M
-base-place-spec = tie.close (tie.spec mul-t4 add-t6 div-t7 returns)
+pub base-sample-spec : {M : Type 1} → statement M
+base-sample-spec = tie.close (tie.spec mul-t4 add-t6 div-t7 returns)

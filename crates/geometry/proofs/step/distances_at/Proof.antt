@@ -9,8 +9,8 @@ use Rattle.definitions.proofs.Positions.{room}
 use Rattle.geometry.proofs.step.distances_at.Statement.{statement}
 use Rattle.geometry.proofs.step.distances_at.Tie as tie
 
-base-place-requires : tie.Need-base-place-requires
-base-place-requires c κs = search needs
+base-sample-requires : tie.Need-base-sample-requires
+base-sample-requires c κs = search needs
 
 rounded-distance-requires : tie.Need-rounded-distance-requires
 rounded-distance-requires c κs =
@@ -33,4 +33,4 @@ returns c =
     (k, (c .before .rounded-distance .ensures ∙ ap (λ (j : ℕ). roundedOf (subℕ (pOf (a .b .0) (a .s .0) j) (a .c .0))) k, c .rounded-distance2 .ensures ∙ ap (λ (j : ℕ). roundedOf (subℕ (pOf (a .b .0) (a .s .0) (j + 1)) (a .c .0))) k))
 
 pub distances-at-spec : {M : Type 1} → statement M
-distances-at-spec = tie.close (tie.spec base-place-requires rounded-distance-requires add-rounded-distance rounded-distance-requires-2 returns)
+distances-at-spec = tie.close (tie.spec base-sample-requires rounded-distance-requires add-rounded-distance rounded-distance-requires-2 returns)

@@ -20,5 +20,5 @@ div-t8 c = search needs
 returns : tie.Need-returns
 returns c = search needs
 
-pub grid-place-spec : {M : Type 1} → statement M
-grid-place-spec = tie.close (tie.spec mul-t4 mul-t5 add-t7 div-t8 returns)
+pub grid-sample-spec : {M : Type 1} → statement M
+grid-sample-spec = tie.close (tie.spec mul-t4 mul-t5 add-t7 div-t8 returns)

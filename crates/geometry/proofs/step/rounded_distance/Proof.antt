@@ -10,10 +10,10 @@ use Rattle.geometry.proofs.Bounds.{difference-small, place-top}
 use Rattle.geometry.proofs.step.rounded_distance.Statement.{statement}
 use Rattle.geometry.proofs.step.rounded_distance.Tie as tie
 
-grid-place-requires : tie.Need-grid-place-requires
-grid-place-requires c κs = search needs
+grid-sample-requires : tie.Need-grid-sample-requires
+grid-sample-requires c κs = search needs
 
-reach : (c : tie.After-grid-place) → (c .grid-sample .result .0 < 65536) × (c .before .args .c .0 < 65536)
+reach : (c : tie.After-grid-sample) → (c .grid-sample .result .0 < 65536) × (c .before .args .c .0 < 65536)
 reach c =
     let s = c .before in
     (omega (arith, c .grid-sample .ensures, place-top _ _ _ (s .pre .0 .sized) (s .pre .1)), omega (arith, near _ _ _ (s .pre .0)))
@@ -33,4 +33,4 @@ returns c =
     ∙ ap roundedOf (c .before .distance .ensures ∙ ap (λ (x : ℕ). subℕ x (s .before .args .c .0)) (s .grid-sample .ensures))
 
 pub rounded-distance-spec : {M : Type 1} → statement M
-rounded-distance-spec = tie.close (tie.spec grid-place-requires distance-requires rounded-requires returns)
+rounded-distance-spec = tie.close (tie.spec grid-sample-requires distance-requires rounded-requires returns)

@@ -1,8 +1,8 @@
--- `log_picture::split_pieces` meets its contract. Assumes nothing.
+-- `split::pieces_of` meets its contract. Assumes nothing.
 use native.Mathlib.Omega.{arith}
 use borrow.Author.Needs.{needs}
-use Rattle.log_picture.proofs.split_pieces.Statement.{statement}
-use Rattle.log_picture.proofs.split_pieces.Tie as tie
+use Rattle.split.proofs.pieces_of.Statement.{statement}
+use Rattle.split.proofs.pieces_of.Tie as tie
 
 enum-told : tie.Need-enum-told
 enum-told c = search needs
@@ -49,8 +49,8 @@ returns-3 c = search needs
 returns-4 : tie.Need-returns-4
 returns-4 c = rw (c .before .before .before .before .before .s .given .1) (omega (arith, c .before .before .before .sub-pieces .ensures .0, c .before .before .sub-pieces2 .ensures .0, c .before .sub-pieces3 .ensures .0, c .sub-pieces4 .ensures .0))
 
-pub split-pieces-spec : {M : Type 1} → statement M
-split-pieces-spec =
+pub pieces-of-spec : {M : Type 1} → statement M
+pieces-of-spec =
     tie.close
     (tie.spec
     enum-told

@@ -1,10 +1,10 @@
--- `macroblock::named_of` meets its contract. Assumes nothing.
+-- `macroblock::origin_of` meets its contract. Assumes nothing.
 use mathlib.Core.Path.{ap}
 use Rattle.definitions.specs.declared.Class.{Class}
 use Rattle.definitions.specs.declared.Origin.{Origin}
 use borrow.Author.Needs.{needs}
-use Rattle.macroblock.proofs.named_of.Statement.{statement}
-use Rattle.macroblock.proofs.named_of.Tie as tie
+use Rattle.macroblock.proofs.origin_of.Statement.{statement}
+use Rattle.macroblock.proofs.origin_of.Tie as tie
 
 class-of-requires : tie.Need-class-of-requires
 class-of-requires c κs = search needs
@@ -21,5 +21,5 @@ returns c =
     let made : Class → Origin = λ k. record { class = k; column = a .h .first; row = a .v .first } in
     ap made (c .before .before .class-of .ensures)
 
-pub named-of-spec : {M : Type 1} → statement M
-named-of-spec = tie.close (tie.spec class-of-requires cast-t4 cast-t5 returns)
+pub origin-of-spec : {M : Type 1} → statement M
+origin-of-spec = tie.close (tie.spec class-of-requires cast-t4 cast-t5 returns)
