@@ -35,7 +35,7 @@ pub fn full_count(g: Axes) -> usize
 
 // The address at a column and row, in a picture of so many columns.
 pub fn address_of(width: usize, column: usize, row: usize) -> usize
-    requires { ⌜ (width ≤ 256) × (column < 65536) × (row < 65536) ⌝ }
+    requires { ⌜ (width ≤ 256) × (column < 4294967296) × (row < 4294967296) ⌝ }
     ensures { λ r. ⌜ r ≡ row * width + column ⌝ }
 {
     row * width + column

@@ -8,19 +8,17 @@ use Rattle.definitions.specs.declared.Numbers.{Numbers}
 use Rattle.definitions.specs.declared.Answer.{Answer}
 use Rattle.definitions.specs.declared.MacroblockReply.{MacroblockReply}
 use Rattle.definitions.specs.declared.MacroblockReply.the-variants.{Answered, Refused as Declined}
-use Rattle.definitions.specs.declared.PictureReply.{PictureReply}
-use Rattle.definitions.specs.declared.PictureReply.the-variants.{Counted, Refused as NotMade}
 use Rattle.definitions.specs.Geometry.{axesOf, fullSize, macroblocks}
 use Rattle.definitions.specs.Record.{recordAt, narrow}
 use Rattle.definitions.specs.Calls.{macroblockCall, pictureCall}
 use Rattle.definitions.proofs.Demand.{demand3, call-accepted, AskedAt, asked-at}
-use Rattle.upsample.specs.Promised.{SinglyPromised, PicturePromised}
+use Rattle.upsample.specs.Promised.{SinglyPromised}
 use Rattle.upsample.proofs.Within.{within-natural}
 
 -- where a call answers, its column and row are those of the picture
 module _ (n : Numbers) (base : List ℤ) (column row : ℤ) (words : List ℤ) (answer : Answer) (e : macroblockCall narrow n base column row words .reply ≡ Answered answer) where
-  asked : AskedAt n column row words
-  asked = asked-at n base column row words (call-accepted narrow n base column row words answer e)
+  asked : AskedAt narrow n column row words
+  asked = asked-at narrow n base column row words (call-accepted narrow n base column row words answer e)
 
   natural-column : pos (natAbs column) ≡ column
   natural-column = pos-natAbs column (within-natural (fullSize (axesOf n .horizontal)) column (asked .column-within))
@@ -37,20 +35,8 @@ singly-promised n base column row words (Answered answer) out r w =
     demand3 narrow .singly n (natAbs column) (natAbs row) words base answer out (e ∙ (λ i. record { reply = sym r i; words = sym w i }))
 singly-promised n base column row words (Declined r) out e w = tt
 
-picture-promised : (n : Numbers) (base words : List ℤ) (reply : PictureReply) (out : List ℤ)
-    → reply ≡ pictureCall narrow n base words .reply → out ≡ pictureCall narrow n base words .words → PicturePromised n base words reply out
-picture-promised n base words (Counted counts) out r w = λ column row x y alone answer a.
-    demand3 narrow .picture n column row words alone base answer (recordAt out (row * macroblocks (fullSize (axesOf n .horizontal)) + column))
-    (record { counts = counts; accepted = sym r; answered = a; at-address = ap (λ (o : List ℤ). recordAt o (row * macroblocks (fullSize (axesOf n .horizontal)) + column)) (sym w) })
-picture-promised n base words (NotMade r) out e w = tt
-
 -- a call's reply and words with the promise of them: the contract's three parts
 pub singly-kept : (n : Numbers) (base : List ℤ) (column row : ℤ) (words : List ℤ) (reply : MacroblockReply) (out : List ℤ)
     → reply ≡ macroblockCall narrow n base column row words .reply → out ≡ macroblockCall narrow n base column row words .words
     → (reply ≡ macroblockCall narrow n base column row words .reply) × ((out ≡ macroblockCall narrow n base column row words .words) × SinglyPromised n base column row words reply out)
 singly-kept n base column row words reply out r w = (r, (w, singly-promised n base column row words reply out r w))
-
-pub picture-kept : (n : Numbers) (base words : List ℤ) (reply : PictureReply) (out : List ℤ)
-    → reply ≡ pictureCall narrow n base words .reply → out ≡ pictureCall narrow n base words .words
-    → (reply ≡ pictureCall narrow n base words .reply) × ((out ≡ pictureCall narrow n base words .words) × PicturePromised n base words reply out)
-picture-kept n base words reply out r w = (r, (w, picture-promised n base words reply out r w))

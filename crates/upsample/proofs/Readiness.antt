@@ -22,10 +22,11 @@ use Rattle.definitions.proofs.Map.{f-below}
 use Rattle.macroblock.specs.declared.AxisRead.{AxisRead}
 use Rattle.macroblock.specs.Made.{originBy, readIn, readOf, Ready}
 use Rattle.macroblock.proofs.Reading.{read-says}
-use Rattle.upsample.specs.Staged.{InBase, BaseRight}
-use Rattle.upsample.proofs.Sizes.{base-small}
+use Rattle.common.specs.Bases.{BaseRight}
+use Rattle.upsample.specs.Staged.{InBase}
+use Rattle.common.proofs.Sizes.{base-small}
 
-module _ (g : Axes) (base : List ℤ) (placed : BaseRight g base) (column row : ℕ) where
+module _ (g : Axes) (base : List ℤ) (right : BaseRight g base) (column row : ℕ) where
   abbrev hor : AxisRead
   hor = readIn (stepOf (g .horizontal) (sampleOf column))
 
@@ -34,14 +35,14 @@ module _ (g : Axes) (base : List ℤ) (placed : BaseRight g base) (column row : 
 
   -- an address of the base
   in-base : (a : ℕ) → a < baseCount g → ((a + 1) * recordWords ≤ length base) × (a < 65536)
-  in-base a h = (omega (arith, placed .base-length, mul-le-mul-right recordWords h), omega (arith, base-small g (placed .axes)))
+  in-base a h = (omega (arith, right .base-length, mul-le-mul-right recordWords h), omega (arith, base-small g (right .axes)))
 
   module _ (e : inside g column row ≡ true) where
     across-in : Inside (baseSize (g .horizontal)) (scaledSize (g .horizontal)) (cOf (g .horizontal) (sampleOf column))
-    across-in = across-inside g column row (placed .axes) e
+    across-in = across-inside g column row (right .axes) e
 
     down-in : Inside (baseSize (g .vertical)) (scaledSize (g .vertical)) (cOf (g .vertical) (sampleOf row))
-    down-in = down-inside g column row (placed .axes) e
+    down-in = down-inside g column row (right .axes) e
 
     named-in : InBase base (addressesOf g (originAt g column row))
     named-in a m = in-base a (address-below g column row across-in down-in m)
@@ -49,7 +50,7 @@ module _ (g : Axes) (base : List ℤ) (placed : BaseRight g base) (column row : 
     first-low : ver .first < 65536
     unfolding stepOf
     first-low =
-        let b = placed .axes .vertical .sized .base-high in
+        let b = right .axes .vertical .sized .base-high in
         omega (arith, f-below (baseSize (g .vertical)) (scaledSize (g .vertical)) (cOf (g .vertical) (sampleOf row)) down-in)
 
     ready : ((a : ℕ) → List·Memᴰ a (addressesOf g (originAt g column row)) → wellFormed narrow (recordAt base a) ≡ true) → Ready g hor ver base
@@ -57,7 +58,7 @@ module _ (g : Axes) (base : List ℤ) (placed : BaseRight g base) (column row : 
     ready formed =
         let named : (i : ℕ) → i < 16 → List·Memᴰ (addressRead g column row i) (addressesOf g (originAt g column row)) = address-named g column row across-in down-in in
         record {
-          axes = placed .axes;
+          axes = right .axes;
           readable = λ i h. record { low = named-in _ (named i h) .1; fits = named-in _ (named i h) .0; formed = formed _ (named i h) };
         }
 

@@ -2,10 +2,10 @@
 use Prim.Native.Nat.{ℕ, _*_}
 use mathlib.Core.Path.{_≡_, sym, ap, _∙_}
 use mathlib.Core.Bool.{true, false, not, _&&_}
+use lib.Dec.{eqb}
 use mathlib.Core.List.{List, []}
 use lib.IntN.{ℤ, natAbs}
 use lib.ListN.{length}
-use borrow.Author.Tests.{eq-eqb, ne-eqb}
 use Rattle.definitions.specs.declared.Axes.{Axes}
 use Rattle.definitions.specs.declared.Numbers.{Numbers}
 use Rattle.definitions.specs.declared.Answer.{Answer}
@@ -50,14 +50,14 @@ module _ (g : Axes) (base : List ℤ) (column row : ℕ) (words : List ℤ) wher
   abbrev verdict : Verdict
   verdict = verdictOf (recordTests narrow base (addressesRead g column row))
 
-  pub placed-refused : (r : Refusal) → verdict ≡ Refused r → Handed (Declined r) words (sizedCall g base column row words)
+  pub sized-refused : (r : Refusal) → verdict ≡ Refused r → Handed (Declined r) words (sizedCall g base column row words)
   unfolding sizedCall
-  placed-refused r e = handed _ _ _ (ap (λ (v : Verdict). byVerdict v Declined words answers) e)
+  sized-refused r e = handed _ _ _ (ap (λ (v : Verdict). byVerdict v Declined words answers) e)
 
-  pub placed-answered : verdict ≡ Accepted → (h v : AxisRead) → h ≡ readOf (g .horizontal) column → v ≡ readOf (g .vertical) row → (answer : Answer) (written : List ℤ)
+  pub sized-answered : verdict ≡ Accepted → (h v : AxisRead) → h ≡ readOf (g .horizontal) column → v ≡ readOf (g .vertical) row → (answer : Answer) (written : List ℤ)
       → answer ≡ madeBy g h v base .answer → written ≡ madeBy g h v base .written → Handed (Answered answer) written (sizedCall g base column row words)
   unfolding sizedCall
-  placed-answered e h v p q answer written a w =
+  sized-answered e h v p q answer written a w =
       let m : madeBy g h v base ≡ made = (λ i. madeBy g (p i) (q i) base) ∙ sym (placed-by g column row base) in
       let x : answer ≡ made .answer = a ∙ ap (λ (k : Made). k .answer) m in
       let y : written ≡ made .written = w ∙ ap (λ (k : Made). k .written) m in
@@ -75,29 +75,29 @@ module _ (g : Axes) (base : List ℤ) (column row : ℤ) (words : List ℤ) wher
   unfolding axesCall
   by-tests v e = ap (λ (u : Verdict). byVerdict u Declined words made₂) e
 
-  pub wrong-base : (length base ≡ recordWords * baseCount g → ⊥) → Handed (Declined (refusal 5)) words call
+  pub wrong-base : eqb (length base) (recordWords * baseCount g) ≡ false → Handed (Declined (refusal 5)) words call
   unfolding axesTests
-  wrong-base n = handed _ _ _ (by-tests _ (yes _ _ (ap not (ne-eqb _ _ n))))
+  wrong-base n = handed _ _ _ (by-tests _ (yes _ _ (ap not n)))
 
-  module _ (base-right : length base ≡ recordWords * baseCount g) where
+  module _ (base-right : eqb (length base) (recordWords * baseCount g) ≡ true) where
     base-passed : baseTest g base .applies ≡ false
-    base-passed = ap not (eq-eqb _ _ base-right)
+    base-passed = ap not base-right
 
-    pub wrong-output : (length words ≡ recordWords → ⊥) → Handed (Declined (refusal 6)) words call
+    pub wrong-output : eqb (length words) (recordWords * 1) ≡ false → Handed (Declined (refusal 6)) words call
     unfolding axesTests
-    wrong-output n = handed _ _ _ (by-tests _ (no _ _ base-passed ∙ yes _ _ (ap not (ne-eqb _ _ n))))
+    wrong-output n = handed _ _ _ (by-tests _ (no _ _ base-passed ∙ yes _ _ (ap not n)))
 
-    module _ (output-right : length words ≡ recordWords) where
+    module _ (output-right : eqb (length words) (recordWords * 1) ≡ true) where
       output-passed : outputTest 1 words .applies ≡ false
-      output-passed = ap not (eq-eqb _ _ output-right)
+      output-passed = ap not output-right
 
-      pub wrong-place : (withinAxis (fullSize (g .horizontal)) column && withinAxis (fullSize (g .vertical)) row) ≡ false → Handed (Declined (refusal 7)) words call
+      pub wrong-position : (withinAxis (fullSize (g .horizontal)) column && withinAxis (fullSize (g .vertical)) row) ≡ false → Handed (Declined (refusal 7)) words call
       unfolding axesTests
-      wrong-place n = handed _ _ _ (by-tests _ (no _ _ base-passed ∙ (no _ _ output-passed ∙ yes _ _ (ap not n))))
+      wrong-position n = handed _ _ _ (by-tests _ (no _ _ base-passed ∙ (no _ _ output-passed ∙ yes _ _ (ap not n))))
 
-      pub right-place : (withinAxis (fullSize (g .horizontal)) column && withinAxis (fullSize (g .vertical)) row) ≡ true → call ≡ sizedCall g base (natAbs column) (natAbs row) words
+      pub right-position : (withinAxis (fullSize (g .horizontal)) column && withinAxis (fullSize (g .vertical)) row) ≡ true → call ≡ sizedCall g base (natAbs column) (natAbs row) words
       unfolding axesTests sizedCall
-      right-place n = by-tests _ (no _ _ base-passed ∙ (no _ _ output-passed ∙ no _ _ (ap not n)))
+      right-position n = by-tests _ (no _ _ base-passed ∙ (no _ _ output-passed ∙ no _ _ (ap not n)))
 
 -- ---- refusals 1 to 4
 module _ (n : Numbers) (base : List ℤ) (column row : ℤ) (words : List ℤ) where

@@ -1,5 +1,5 @@
 -- `upsample::sized_macroblock` meets its contract. Assumes nothing.
-use Rattle.upsample.proofs.Staging.{none-read, placed-refused, placed-answered}
+use Rattle.upsample.proofs.Staging.{none-read, sized-refused, sized-answered}
 use Rattle.upsample.proofs.Readiness.{Known, known-of}
 use Rattle.definitions.proofs.RecordLists.{all-formed}
 use Rattle.definitions.specs.Record.{narrow}
@@ -58,12 +58,12 @@ returns c =
     let a = c .before .before .before .before .before .before .before .before .before in
     let s = a .before .before in
     let e = checked-is (c .before .before .before .before .before) ∙ c .before .before .before .enum-told .given .1 in
-    placed-answered (s .args .g) (s .args .base .now) (s .args .column) (s .args .row) (s .args .out .now) e (a .before .axis-read .result) (a .axis-read2 .result) (a .before .axis-read .ensures) (a .axis-read2 .ensures) _ _ (c .before .make .ensures .0) (c .before .make .ensures .1)
+    sized-answered (s .args .g) (s .args .base .now) (s .args .column) (s .args .row) (s .args .out .now) e (a .before .axis-read .result) (a .axis-read2 .result) (a .before .axis-read .ensures) (a .axis-read2 .ensures) _ _ (c .before .make .ensures .0) (c .before .make .ensures .1)
 
 returns-2 : tie.Need-returns-2
 returns-2 c =
     let s = c .before .before .before .before .before .before .before .before .before in
-    placed-refused (s .args .g) (s .args .base .now) (s .args .column) (s .args .row) (s .args .out .now) (c .before .r .given .0 .0) (checked-is (c .before .before .before) ∙ c .before .r .given .1)
+    sized-refused (s .args .g) (s .args .base .now) (s .args .column) (s .args .row) (s .args .out .now) (c .before .r .given .0 .0) (checked-is (c .before .before .before) ∙ c .before .r .given .1)
 
 make-requires-2 : tie.Need-make-requires-2
 make-requires-2 c κs = (λ t. absurd (true≢false (sym t ∙ c .before .if1 .left)), c .before .before .before .before .before .before .pre .1)
@@ -76,10 +76,10 @@ returns-3 c =
     let a = c .before .before .before .before .before .before in
     let s = a .before .before in
     let e = ap (λ (l : List ℕ). verdictOf (recordTests narrow (s .args .base .now) l)) (known a .unnamed (c .before .before .before .if1 .left)) in
-    placed-answered (s .args .g) (s .args .base .now) (s .args .column) (s .args .row) (s .args .out .now) (none-read (s .args .base .now) e) (a .before .axis-read .result) (a .axis-read2 .result) (a .before .axis-read .ensures) (a .axis-read2 .ensures) _ _ (c .before .place2 .ensures .0) (c .before .place2 .ensures .1)
+    sized-answered (s .args .g) (s .args .base .now) (s .args .column) (s .args .row) (s .args .out .now) (none-read (s .args .base .now) e) (a .before .axis-read .result) (a .axis-read2 .result) (a .before .axis-read .ensures) (a .axis-read2 .ensures) _ _ (c .before .make2 .ensures .0) (c .before .make2 .ensures .1)
 
-pub placed-macroblock-spec : {M : Type 1} → statement M
-placed-macroblock-spec =
+pub sized-macroblock-spec : {M : Type 1} → statement M
+sized-macroblock-spec =
     tie.close
     (tie.spec
     axis-read-requires
