@@ -1,2 +1,3 @@
--- Laws of the sizes of a geometry; other crates cite them.
+-- Laws of the sizes of a geometry and of tests; other crates cite them.
 pub mod Sizes
+pub mod Judging

@@ -107,6 +107,21 @@ made-length g base address = written-length _ _
 pub within : (size k : ℕ) → k < macroblocks size → withinAxis size (pos k) ≡ true
 within size k h = and-intro (le-leb 0 k (omega arith)) (lt-ltb k (macroblocks size) h)
 
+pub within-low : (size : ℕ) (x : ℤ) → withinAxis size x ≡ true → natAbs x < macroblocks size
+within-low size (pos k) e = ltb-true k (macroblocks size) (both-true (leb 0 k) (ltb k (macroblocks size)) e .1)
+within-low size (negsuc k) e = absurd (let z : _≡_ {A = ℕ} 0 1 = cc in omega arith)
+
+-- a macroblock of the picture, and 77 words lent for it
+pub record AskedAt (n : Numbers) (column row : ℤ) (words : List ℤ) : Type 0 where
+  pub column-within : withinAxis (fullSize (axesOf n .horizontal)) column ≡ true
+  pub row-within : withinAxis (fullSize (axesOf n .vertical)) row ≡ true
+  pub words-length : length words ≡ recordWords
+
+record Asked (n : Numbers) (column row : ℕ) (alone : List ℤ) : Type 0 where
+  column-within : column < macroblocks (fullSize (axesOf n .horizontal))
+  row-within : row < macroblocks (fullSize (axesOf n .vertical))
+  alone-length : length alone ≡ recordWords
+
 -- ---- a reply is a refusal or not
 answer-not-refusal : {r : Refusal} {answer : Answer} → Declined r ≡ Answered answer → ⊥
 answer-not-refusal e = let z : _≡_ {A = ℕ} 0 1 = cc in omega arith
@@ -256,15 +271,6 @@ module _ (limit : ℕ) where
           ∙ (λ i. madeOf g base (p i) (q i) .written))
 
   -- a macroblock whose call is accepted is one of the picture, and was lent 77 words
-  pub within-low : (size : ℕ) (x : ℤ) → withinAxis size x ≡ true → natAbs x < macroblocks size
-  within-low size (pos k) e = ltb-true k (macroblocks size) (both-true (leb 0 k) (ltb k (macroblocks size)) e .1)
-  within-low size (negsuc k) e = absurd (let z : _≡_ {A = ℕ} 0 1 = cc in omega arith)
-
-  pub record AskedAt (n : Numbers) (column row : ℤ) (words : List ℤ) : Type 0 where
-    pub column-within : withinAxis (fullSize (axesOf n .horizontal)) column ≡ true
-    pub row-within : withinAxis (fullSize (axesOf n .vertical)) row ≡ true
-    pub words-length : length words ≡ recordWords
-
   pub asked-at : (n : Numbers) (base : List ℤ) (column row : ℤ) (words : List ℤ) → verdictOf (macroblockTests limit n base column row words) ≡ Accepted → AskedAt n column row words
   unfolding macroblockTests
   asked-at n base column row words v =
@@ -277,11 +283,6 @@ module _ (limit : ℕ) where
       let t = first-passed place records (r .1) in
       let both = both-true (withinAxis (fullSize (g .horizontal)) column) (withinAxis (fullSize (g .vertical)) row) (not-false _ (t .0)) in
       record { column-within = both .0; row-within = both .1; words-length = eqb-true (length words) recordWords (not-false (eqb (length words) recordWords) (r .0)) }
-
-  record Asked (n : Numbers) (column row : ℕ) (alone : List ℤ) : Type 0 where
-    column-within : column < macroblocks (fullSize (axesOf n .horizontal))
-    row-within : row < macroblocks (fullSize (axesOf n .vertical))
-    alone-length : length alone ≡ recordWords
 
   asked : (n : Numbers) (column row : ℕ) (alone base : List ℤ) → verdictOf (macroblockTests limit n base (pos column) (pos row) alone) ≡ Accepted → Asked n column row alone
   asked n column row alone base v =

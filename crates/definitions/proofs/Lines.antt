@@ -18,7 +18,7 @@ use Rattle.definitions.specs.declared.Refusal.{Refusal}
 use Rattle.definitions.specs.Basics.{pick, upTo, forEach}
 use Rattle.definitions.specs.Splits.{subCount}
 use Rattle.definitions.specs.Answer.{answerType}
-use Rattle.definitions.specs.Text.{Digit, All, none, each, valued, Plain, nought, digits}
+use Rattle.definitions.specs.Text.{Digit, All, none, each, valued, Plain, zeroAlone, digits}
 use Rattle.definitions.specs.Log.{digitsIn, decimal, lineOf, mbWord, syncWord, answerPieces, macroblockLine, syncLine, pictureLines, refusedLine}
 use Rattle.definitions.specs.Raster.{fullCount}
 use Rattle.definitions.proofs.Choices.{yes, no}
@@ -55,13 +55,13 @@ digit-last [] c none d = each d none
 digit-last (x ∷ t) c (each p h) d = each p (digit-last t c h d)
 
 plain-last : {n : ℕ} {t : List ℕ} (d : ℕ) → Plain n t → 1 ≤ n → d < 10 → Plain (10 * n + d) (t ++ ((48 + d) ∷ []))
-plain-last d nought l h = absurd (omega arith)
+plain-last d zeroAlone l h = absurd (omega arith)
 plain-last d (digits {c = c} {t = t} low high all) l h =
     let e : valued (c - 48) (t ++ ((48 + d) ∷ [])) ≡ 10 * valued (c - 48) t + d = omega (arith, valued-last (c - 48) t (48 + d)) in
     subst (λ (n : ℕ). Plain n (c ∷ (t ++ ((48 + d) ∷ [])))) e (digits low high (digit-last t (48 + d) all (omega arith, omega arith)))
 
 plain-one : (n : ℕ) → n < 10 → Plain n ((48 + n) ∷ [])
-plain-one zero h = nought
+plain-one zero h = zeroAlone
 plain-one (suc n) h =
     let e : 48 + suc n - 48 ≡ suc n = omega arith in
     subst (λ (k : ℕ). Plain k ((48 + suc n) ∷ [])) e (digits (omega arith) (omega arith) none)
@@ -168,11 +168,11 @@ digits-same (x ∷ s) (y ∷ t) u v (each p h) (each q k) e =
     λ (i : 𝕀). a i ∷ b i
 
 plain-digits : {n : ℕ} {t : List ℕ} → Plain n t → All Digit t
-plain-digits nought = each {c = 48} (omega arith, omega arith) none
+plain-digits zeroAlone = each {c = 48} (omega arith, omega arith) none
 plain-digits (digits {c = c} low high all) = each {c = c} (omega arith, omega arith) all
 
 plain-worth : {n : ℕ} {t : List ℕ} → Plain n t → valued 0 t ≡ n
-plain-worth nought = refl
+plain-worth zeroAlone = refl
 plain-worth (digits {c = c} {t = t} low high all) = let e : 10 * 0 + (c - 48) ≡ c - 48 = omega arith in ap (λ (a : ℕ). valued a t) e
 
 pub refused-number : (r s : Refusal) → refusedLine r ≡ refusedLine s → r .number ≡ s .number

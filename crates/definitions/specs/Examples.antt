@@ -155,29 +155,29 @@ pub record Broken : Type 0 where
   pub text : List ℕ
   pub place : ℕ
 
-abbrev row : List ℕ → ℕ → Broken
-row t p = record { text = t; place = p }
+abbrev brokenRow : List ℕ → ℕ → Broken
+brokenRow t p = record { text = t; place = p }
 
 -- `(note ` and then t
 abbrev inNote : List ℕ → List ℕ
 inNote t = 40 ∷ 110 ∷ 111 ∷ 116 ∷ 101 ∷ 32 ∷ t
 
-abbrev pub broken : List Broken
-broken =
-    row [] 0  -- the text ends early
-    ∷ row (40 ∷ 98 ∷ 97 ∷ []) 3  -- (ba
-    ∷ row (40 ∷ 105 ∷ 110 ∷ []) 1  -- (in, before the first four lines
-    ∷ row (40 ∷ 110 ∷ 111 ∷ 116 ∷ 101 ∷ 115 ∷ 41 ∷ []) 5  -- (notes)
-    ∷ row (inNote (41 ∷ [])) 6  -- (note )
-    ∷ row (inNote (48 ∷ 49 ∷ 41 ∷ [])) 7  -- (note 01)
-    ∷ row (inNote (45 ∷ 48 ∷ 41 ∷ [])) 7  -- (note -0)
-    ∷ row (inNote (51 ∷ 50 ∷ 55 ∷ 54 ∷ 55 ∷ [])) 11  -- (note 32767, which goes on
-    ∷ row (inNote (51 ∷ 50 ∷ 55 ∷ 54 ∷ 56 ∷ [])) 10  -- (note 32768
-    ∷ row (inNote (45 ∷ 51 ∷ 50 ∷ 55 ∷ 54 ∷ 56 ∷ [])) 12  -- (note -32768, which goes on
-    ∷ row (inNote (57 ∷ 57 ∷ 57 ∷ 57 ∷ 57 ∷ [])) 10  -- (note 99999
-    ∷ row (inNote (40 ∷ 41 ∷ 41 ∷ [])) 7  -- (note ())
-    ∷ row (inNote (40 ∷ 40 ∷ 40 ∷ 40 ∷ 40 ∷ 40 ∷ 40 ∷ 97 ∷ [])) 14  -- (note (((((((a, which goes on
-    ∷ row (inNote (40 ∷ 40 ∷ 40 ∷ 40 ∷ 40 ∷ 40 ∷ 40 ∷ 40 ∷ [])) 13  -- (note ((((((((
+abbrev pub brokenTexts : List Broken
+brokenTexts =
+    brokenRow [] 0  -- the text ends early
+    ∷ brokenRow (40 ∷ 98 ∷ 97 ∷ []) 3  -- (ba
+    ∷ brokenRow (40 ∷ 105 ∷ 110 ∷ []) 1  -- (in, before the first four lines
+    ∷ brokenRow (40 ∷ 110 ∷ 111 ∷ 116 ∷ 101 ∷ 115 ∷ 41 ∷ []) 5  -- (notes)
+    ∷ brokenRow (inNote (41 ∷ [])) 6  -- (note )
+    ∷ brokenRow (inNote (48 ∷ 49 ∷ 41 ∷ [])) 7  -- (note 01)
+    ∷ brokenRow (inNote (45 ∷ 48 ∷ 41 ∷ [])) 7  -- (note -0)
+    ∷ brokenRow (inNote (51 ∷ 50 ∷ 55 ∷ 54 ∷ 55 ∷ [])) 11  -- (note 32767, which goes on
+    ∷ brokenRow (inNote (51 ∷ 50 ∷ 55 ∷ 54 ∷ 56 ∷ [])) 10  -- (note 32768
+    ∷ brokenRow (inNote (45 ∷ 51 ∷ 50 ∷ 55 ∷ 54 ∷ 56 ∷ [])) 12  -- (note -32768, which goes on
+    ∷ brokenRow (inNote (57 ∷ 57 ∷ 57 ∷ 57 ∷ 57 ∷ [])) 10  -- (note 99999
+    ∷ brokenRow (inNote (40 ∷ 41 ∷ 41 ∷ [])) 7  -- (note ())
+    ∷ brokenRow (inNote (40 ∷ 40 ∷ 40 ∷ 40 ∷ 40 ∷ 40 ∷ 40 ∷ 97 ∷ [])) 14  -- (note (((((((a, which goes on
+    ∷ brokenRow (inNote (40 ∷ 40 ∷ 40 ∷ 40 ∷ 40 ∷ 40 ∷ 40 ∷ 40 ∷ [])) 13  -- (note ((((((((
     ∷ []
 
 abbrev pub PlacesRight : List Broken → Type 0

@@ -41,7 +41,7 @@ valued a (c ∷ t) = valued (10 * a + (c - 48)) t
 
 -- no leading zero: `0`, or digits of which the first is no zero; n is what they are worth
 pub data Plain : ℕ → List ℕ → Type 0 where
-  nought : Plain 0 (48 ∷ [])
+  zeroAlone : Plain 0 (48 ∷ [])
   digits : {c : ℕ} {t : List ℕ} → 49 ≤ c → c ≤ 57 → All Digit t → Plain (valued (c - 48) t) (c ∷ t)
 
 -- Numbers: optional minus, no leading zero, no −0, range −32,768..32,767. (negsuc n is −(n + 1).)
@@ -91,14 +91,14 @@ pub data Form : List Part → List ℤ → List ℕ → Type 0 where
   isEnded : {z : ℤ} {w : List ℕ} {ps : List Part} {vs : List ℤ} {t : List ℕ} → Number z w → Form ps vs t → Form (ended ∷ ps) (z ∷ vs) (w ++ (41 ∷ t))
 
 -- these bytes, and then ps
-abbrev pub bytes : List ℕ → List Part → List Part
-bytes [] ps = ps
-bytes (c ∷ w) ps = byte c ∷ bytes w ps
+abbrev pub bytesThen : List ℕ → List Part → List Part
+bytesThen [] ps = ps
+bytesThen (c ∷ w) ps = byte c ∷ bytesThen w ps
 
 -- n + 1 numbers separated by one space, a closing bracket, and then ps
-abbrev pub numbers : ℕ → List Part → List Part
-numbers zero ps = ended ∷ ps
-numbers (suc n) ps = spaced ∷ numbers n ps
+abbrev pub numbersThen : ℕ → List Part → List Part
+numbersThen zero ps = ended ∷ ps
+numbersThen (suc n) ps = spaced ∷ numbersThen n ps
 
 -- the kinds of line: each begins with a bracket and a letter of its own, which is not that of a note
 pub data Kind : Type 0 where
@@ -116,14 +116,14 @@ letter mbLine = 109
 -- what comes after the letter: (base W H), (scaled W H), (at X Y), (full W H), (intra), (whole (R0 R1) (X0 Y0 X1 Y1)),
 -- (mb T (4 sub-types) (8 references) (64 vector words)), line feed after each
 abbrev pub tailOf : Kind → List Part
-tailOf baseLine = bytes (97 ∷ 115 ∷ 101 ∷ 32 ∷ []) (numbers 1 (byte 10 ∷ []))
-tailOf scaledLine = bytes (99 ∷ 97 ∷ 108 ∷ 101 ∷ 100 ∷ 32 ∷ []) (numbers 1 (byte 10 ∷ []))
-tailOf atLine = bytes (116 ∷ 32 ∷ []) (numbers 1 (byte 10 ∷ []))
-tailOf fullLine = bytes (117 ∷ 108 ∷ 108 ∷ 32 ∷ []) (numbers 1 (byte 10 ∷ []))
-tailOf intraLine = bytes (110 ∷ 116 ∷ 114 ∷ 97 ∷ 41 ∷ 10 ∷ []) []
-tailOf wholeLine = bytes (104 ∷ 111 ∷ 108 ∷ 101 ∷ 32 ∷ 40 ∷ []) (numbers 1 (bytes (32 ∷ 40 ∷ []) (numbers 3 (bytes (41 ∷ 10 ∷ []) []))))
+tailOf baseLine = bytesThen (97 ∷ 115 ∷ 101 ∷ 32 ∷ []) (numbersThen 1 (byte 10 ∷ []))
+tailOf scaledLine = bytesThen (99 ∷ 97 ∷ 108 ∷ 101 ∷ 100 ∷ 32 ∷ []) (numbersThen 1 (byte 10 ∷ []))
+tailOf atLine = bytesThen (116 ∷ 32 ∷ []) (numbersThen 1 (byte 10 ∷ []))
+tailOf fullLine = bytesThen (117 ∷ 108 ∷ 108 ∷ 32 ∷ []) (numbersThen 1 (byte 10 ∷ []))
+tailOf intraLine = bytesThen (110 ∷ 116 ∷ 114 ∷ 97 ∷ 41 ∷ 10 ∷ []) []
+tailOf wholeLine = bytesThen (104 ∷ 111 ∷ 108 ∷ 101 ∷ 32 ∷ 40 ∷ []) (numbersThen 1 (bytesThen (32 ∷ 40 ∷ []) (numbersThen 3 (bytesThen (41 ∷ 10 ∷ []) []))))
 tailOf mbLine =
-    bytes (98 ∷ 32 ∷ []) (spaced ∷ bytes (40 ∷ []) (numbers 3 (bytes (32 ∷ 40 ∷ []) (numbers 7 (bytes (32 ∷ 40 ∷ []) (numbers 63 (bytes (41 ∷ 10 ∷ []) [])))))))
+    bytesThen (98 ∷ 32 ∷ []) (spaced ∷ bytesThen (40 ∷ []) (numbersThen 3 (bytesThen (32 ∷ 40 ∷ []) (numbersThen 7 (bytesThen (32 ∷ 40 ∷ []) (numbersThen 63 (bytesThen (41 ∷ 10 ∷ []) [])))))))
 
 -- a line of a kind, with its numbers
 abbrev pub LineOf : Kind → List ℤ → List ℕ → Type 0

@@ -49,13 +49,6 @@ module _ (n : Numbers) where
   unfolding geometryTests pick
   accepted p q r s = rw (p, q, r, s)
 
--- a test that the code negates
-pub failed : {r t : Bool} → r ≡ t → not r ≡ true → t ≡ false
-failed e h = sym e ∙ not-true _ h
-
-pub held : {r t : Bool} → r ≡ t → not r ≡ false → t ≡ true
-held e h = sym e ∙ not-false _ h
-
 -- the sizes of an axis that is accepted
 pub none-negative : {n : AxisNumbers} → AcceptedNumbers n → NoneNegative n
 none-negative a = record { base = rw (a .base-is) tt; scaled = rw (a .scaled-is) tt; full = rw (a .full-is) tt }

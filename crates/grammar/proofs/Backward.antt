@@ -10,7 +10,7 @@ use lib.Dec.{leb, eqb}
 use borrow.Author.Tests.{eqb-true}
 use Rattle.grammar.specs.declared.Class.{Class}
 use Rattle.grammar.specs.declared.Class.the-variants.{Alpha, Nought, Nonzero, Dash, Open, Close, Space, Other}
-use Rattle.definitions.specs.Text.{Letter, Digit, none, each, word, nought, digits, Number, unsigned, negative, Rest, close, item, listed, Simple, isWord, isNumber, Item, Note, note, more, Part, byte, spaced, ended, Form, nothing, isByte, isSpaced, isEnded, Kind, letter, tailOf, RecordKind, intra, whole, mb, kindOf}
+use Rattle.definitions.specs.Text.{Letter, Digit, none, each, word, zeroAlone, digits, Number, unsigned, negative, Rest, close, item, listed, Simple, isWord, isNumber, Item, Note, note, more, Part, byte, spaced, ended, Form, nothing, isByte, isSpaced, isEnded, Kind, letter, tailOf, RecordKind, intra, whole, mb, kindOf}
 use Rattle.grammar.specs.Machine.{Follow, gap, shut, inList, Sym, lit, first, letters, rest, field, dashed, zeroed, figures, line, opened, entry, Ev, rec, Delta, halt, limit, signed, choose, classOf, shuts, gaps, grow, opens, syms, δ, nums}
 use Rattle.grammar.proofs.Cats.{Cat, cons-cat, cat-with}
 use Rattle.grammar.proofs.Bytes.{class-in}
@@ -236,7 +236,7 @@ module _ (B : Lang) (ws : List Ev) (b : ℕ) (u : List ℕ) where
   backward (first d) ok h =
       choose-by To absurd b (classOf b) refl h
       (λ l k. cons-cat (cat-with k (simple-item d (isWord (word l (k .is))))))
-      (λ e k. record { left = 48 ∷ []; right = u; is = simple-item d (isNumber (unsigned (omega arith) nought)); then = k; cut = ap (λ (x : ℕ). x ∷ u) e })
+      (λ e k. record { left = 48 ∷ []; right = u; is = simple-item d (isNumber (unsigned (omega arith) zeroAlone)); then = k; cut = ap (λ (x : ℕ). x ∷ u) e })
       (λ l m k. cons-cat (cat-with (k .2) (simple-item d (isNumber (figures-number l m (k .1) (k .2 .is))))))
       (λ e k. rw e (cons-cat (cat-with (k .2) (simple-item d (isNumber (negative (k .1) (k .2 .is)))))))
       (λ e k. open-back d e k)
@@ -263,7 +263,7 @@ module _ (B : Lang) (ws : List Ev) (b : ℕ) (u : List ℕ) where
   backward (field f) ok h =
       choose-by To absurd b (classOf b) refl h
       (λ l k. absurd k)
-      (λ e k. (pos 0, record { left = 48 ∷ []; right = u; is = unsigned (omega arith) nought; then = k; cut = ap (λ (x : ℕ). x ∷ u) e }))
+      (λ e k. (pos 0, record { left = 48 ∷ []; right = u; is = unsigned (omega arith) zeroAlone; then = k; cut = ap (λ (x : ℕ). x ∷ u) e }))
       (λ l m k. (pos (k .0), cons-cat (cat-with (k .2) (figures-number l m (k .1) (k .2 .is)))))
       (λ e k. (negsuc (k .0), rw e (cons-cat (cat-with (k .2) (negative (k .1) (k .2 .is))))))
       (λ e k. absurd k)

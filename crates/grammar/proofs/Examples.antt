@@ -11,7 +11,7 @@ use borrow.Author.Tests.{ltb-true, ltb-false, leb-true}
 use Rattle.definitions.specs.Basics.{allOf}
 use Rattle.definitions.specs.Text.{readAs, read}
 use Rattle.definitions.specs.Log.{logFor, LogOf}
-use Rattle.definitions.specs.Examples.{wholeCase, wholeEntries, wholeText, wholeLog, whole-holds, Broken, broken, PlacesRight}
+use Rattle.definitions.specs.Examples.{wholeCase, wholeEntries, wholeText, wholeLog, whole-holds, Broken, brokenTexts, PlacesRight}
 use Rattle.definitions.proofs.Choices.{both-true}
 use Rattle.grammar.specs.Machine.{Cfg, dead, live, step, stepK, δ, classOf, runs, stateAt, Alive, Waiting}
 use Rattle.grammar.specs.Promises.{Ended}
@@ -65,9 +65,9 @@ all-right (r ∷ rs) h =
     let both = both-true (endsAt (r .text) (r .place)) (allOf (λ r. endsAt (r .text) (r .place)) rs) h in
     (ended-breaks (r .text) (r .place) (ended-by (r .text) (r .place) _ refl (both .0)), all-right rs (both .1))
 
-pub places-right : PlacesRight broken
+pub places-right : PlacesRight brokenTexts
 unfolding allOf stateAt runs step stepK δ classOf
-places-right = all-right broken refl
+places-right = all-right brokenTexts refl
 
 -- Whole case of document 01, from the text to the log
 pub whole-log : LogOf wholeText wholeLog

@@ -9,7 +9,7 @@ use native.Mathlib.Omega.{arith}
 use lib.IntN.{ℤ, pos}
 use lib.Dec.{eqb}
 use borrow.Author.Tests.{le-leb, eq-eqb, ne-eqb}
-use Rattle.definitions.specs.Text.{All, none, each, Word, word, valued, Plain, nought, digits, Number, unsigned, negative, Rest, close, item, Listed, listed, Simple, isWord, isNumber, Item, Note, note, Notes, more, Part, Form, nothing, isByte, isSpaced, isEnded, Kind, baseLine, scaledLine, atLine, fullLine, intraLine, wholeLine, mbLine, letter, tailOf, RecordKind, intra, whole, mb, kindOf}
+use Rattle.definitions.specs.Text.{All, none, each, Word, word, valued, Plain, zeroAlone, digits, Number, unsigned, negative, Rest, close, item, Listed, listed, Simple, isWord, isNumber, Item, Note, note, Notes, more, Part, Form, nothing, isByte, isSpaced, isEnded, Kind, baseLine, scaledLine, atLine, fullLine, intraLine, wholeLine, mbLine, letter, tailOf, RecordKind, intra, whole, mb, kindOf}
 use Rattle.grammar.specs.Machine.{Follow, gap, shut, inList, Sym, lit, first, letters, rest, field, dashed, zeroed, figures, line, opened, entry, Ev, rec, Delta, go, limit, signed, choose, classOf, shuts, gaps, grow, syms, δ, nums}
 use Rattle.grammar.proofs.Cats.{Cat, cat-cons, cat-either, cat-empty, cat-with, cat-right, no-cons}
 use Rattle.grammar.proofs.Bytes.{class-alpha, class-nonzero, class-nought, class-dash, class-open, class-close, class-space}
@@ -49,14 +49,14 @@ pub plain-none : {n : ℕ} → Plain n [] → ⊥
 plain-none h = by-text h refl
   where
     by-text : {n : ℕ} {t : List ℕ} → Plain n t → [] ≡ t → ⊥
-    by-text nought e = no-cons e
+    by-text zeroAlone e = no-cons e
     by-text (digits l m a) e = no-cons e
 
 plain-cons : {n : ℕ} {C : Type 0} {b : ℕ} {u : List ℕ} → Plain n (b ∷ u) → (b ≡ 48 → n ≡ 0 → u ≡ [] → C) → (49 ≤ b → b ≤ 57 → Figures (b - 48) n u → C) → C
 plain-cons {n} {C} {b} {u} h f g = by-text h refl refl
   where
     by-text : {m : ℕ} {t : List ℕ} → Plain m t → n ≡ m → b ∷ u ≡ t → C
-    by-text nought z e = f (heads e) z (tails e)
+    by-text zeroAlone z e = f (heads e) z (tails e)
     by-text (digits {c = c} {t = t} l m a) z e =
         let h : b ≡ c = heads e in
         g (omega arith) (omega arith) (record { all = rw (tails e) a; worth = rw (tails e, heads e) (sym z) })

@@ -10,7 +10,7 @@ use lib.Dec.{leb, eqb}
 use borrow.Author.Tests.{leb-true}
 use Rattle.grammar.specs.declared.Class.{Class}
 use Rattle.grammar.specs.declared.Class.the-variants.{Alpha, Nought, Nonzero, Dash, Open, Close, Space, Other}
-use Rattle.definitions.specs.Text.{Letter, none, word, Plain, nought, digits, Number, unsigned, close, isWord, Item, Note, note, Notes, more, Part, byte, spaced, ended, isByte, Kind, intraLine, wholeLine, mbLine, letter, tailOf, LineOf, kindOf}
+use Rattle.definitions.specs.Text.{Letter, none, word, Plain, zeroAlone, digits, Number, unsigned, close, isWord, Item, Note, note, Notes, more, Part, byte, spaced, ended, isByte, Kind, intraLine, wholeLine, mbLine, letter, tailOf, LineOf, kindOf}
 use Rattle.grammar.specs.Machine.{Follow, gap, shut, inList, Sym, lit, first, letters, rest, field, dashed, zeroed, figures, line, opened, entry, Ev, num, Delta, halt, go, emit, limit, signed, choose, classOf, shuts, gaps, grow, opens, noteTail, syms, δ}
 use Rattle.grammar.proofs.Cats.{Cat, no-cons}
 use Rattle.grammar.proofs.Bytes.{class-in}
@@ -24,7 +24,7 @@ pub record Some (B : Lang) : Type 0 where
   pub is : B numbers text
 
 zero-number : Number (pos 0) (48 ∷ [])
-zero-number = unsigned {n = 0} (omega arith) nought
+zero-number = unsigned {n = 0} (omega arith) zeroAlone
 
 a-letter : Letter 97
 a-letter = omega arith

@@ -12,7 +12,7 @@ use Rattle.definitions.specs.Basics.{minus, eqZ, between, allBelow}
 use Rattle.definitions.specs.Record.{narrow, wordOf, typeOf, isIntra, referenceOf, used, vectorWord, rule1, rule2, rule3, rule4, rule5}
 use Rattle.definitions.proofs.Choices.{eqZ-true, yes, no, below-same, each}
 use Rattle.records.specs.declared.check.Range.{Range}
-use Rattle.records.specs.Checking.{within, allWithin, quadrantUsed, listRight, blockWithin, vectorsRight}
+use Rattle.records.specs.Checking.{liesIn, allWithin, quadrantUsed, listRight, blockWithin, vectorsRight}
 use Rattle.records.proofs.Searches.{below-both, by-quadrants}
 
 -- ---- A range of one number
@@ -89,17 +89,17 @@ module _ (r : List ℤ) where
 abbrev vectorRange : Range
 vectorRange = from-to (minus narrow) (pos (narrow - 1))
 
-word-zero : (t : Bool) (v : ℤ) → t ≡ false → vectorWord narrow t v ≡ within (only (pos 0)) v
+word-zero : (t : Bool) (v : ℤ) → t ≡ false → vectorWord narrow t v ≡ liesIn (only (pos 0)) v
 word-zero t v e = rw e (narrowed (minus narrow) (pos (narrow - 1)) v refl)
 
-word-any : (t : Bool) (v : ℤ) → t ≡ true → vectorWord narrow t v ≡ within vectorRange v
-word-any t v e = rw e (and-true (within vectorRange v))
+word-any : (t : Bool) (v : ℤ) → t ≡ true → vectorWord narrow t v ≡ liesIn vectorRange v
+word-any t v e = rw e (and-true (liesIn vectorRange v))
 
 module _ (reference : ℤ) where
-  pub range-zero : eqZ reference (minus 1) ≡ true → (v : ℤ) → within (only (pos 0)) v ≡ vectorWord narrow (used reference) v
+  pub range-zero : eqZ reference (minus 1) ≡ true → (v : ℤ) → liesIn (only (pos 0)) v ≡ vectorWord narrow (used reference) v
   range-zero e v = sym (word-zero (used reference) v (ap not e))
 
-  pub range-any : eqZ reference (minus 1) ≡ false → (v : ℤ) → within vectorRange v ≡ vectorWord narrow (used reference) v
+  pub range-any : eqZ reference (minus 1) ≡ false → (v : ℤ) → liesIn vectorRange v ≡ vectorWord narrow (used reference) v
   range-any e v = sym (word-any (used reference) v (ap not e))
 
 -- the words of a block, and of a quadrant's four blocks

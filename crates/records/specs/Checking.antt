@@ -19,11 +19,11 @@ use Rattle.definitions.specs.Blocks.{quadrantOf, inQuadrant, rasterOf}
 use Rattle.records.specs.declared.check.Range.{Range}
 
 -- a word is in the range; count words from the first on are
-abbrev pub within : Range → ℤ → Bool
-within range z = between (range .low) (range .high) z
+abbrev pub liesIn : Range → ℤ → Bool
+liesIn range z = between (range .low) (range .high) z
 
 unfoldable pub allWithin : List ℤ → ℕ → ℕ → Range → Bool
-allWithin r first count range = allBelow count (λ k. within range (wordOf r (first + k)))
+allWithin r first count range = allBelow count (λ k. liesIn range (wordOf r (first + k)))
 
 -- the first of rules 1 to 4 that is broken, or 0
 unfoldable pub headBroken : List ℤ → ℕ

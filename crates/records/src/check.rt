@@ -8,7 +8,7 @@ ghost use Rattle.definitions.specs.Basics.{allBelow, eqZ};
 ghost use Rattle.definitions.specs.Blocks.{quadrantOf};
 ghost use Rattle.definitions.specs.Record.{narrow, recordWords, rule2, rule4, subSplitOf, subTypeOf, used, vectorWord, wordOf};
 ghost use Rattle.definitions.specs.Refusals.{verdictOf, recordTests};
-ghost use Rattle.records.specs.Checking.{within, allWithin, quadrantUsed, blockWithin, vectorsRight, subFirstBlock, firstBlockOf, sameReferences, sameVectors, sameAsFirst, headBroken, foundAt, addresses};
+ghost use Rattle.records.specs.Checking.{liesIn, allWithin, quadrantUsed, blockWithin, vectorsRight, subFirstBlock, firstBlockOf, sameReferences, sameVectors, sameAsFirst, headBroken, foundAt, addresses};
 use crate::layout;
 use crate::layout::UNUSED;
 use crate::read::record_at;
@@ -47,7 +47,7 @@ const ONLY_ZERO: Range = Range { low: 0, high: 0 };
 // Both tests are made: `&` has no branch. So it is wherever words are tested by `&` below, and the compiler takes several at once.
 fn word_within(words: &[i16], w: usize, range: Range) -> bool
     requires { ⌜ (length (now words) ≡ recordWords) × (w < recordWords) ⌝ }
-    ensures { λ t. ⌜ t ≡ within range (wordOf (now (words .entry)) w) ⌝ }
+    ensures { λ t. ⌜ t ≡ liesIn range (wordOf (now (words .entry)) w) ⌝ }
 {
     let word = words[w];
     (range.low <= word) & (word <= range.high)
@@ -137,7 +137,7 @@ fn head_rule(words: &[i16]) -> u32
 // The range that the reference at word w allows its vector words.
 fn range_by(words: &[i16], w: usize) -> Range
     requires { ⌜ (length (now words) ≡ recordWords) × (w < recordWords) ⌝ }
-    ensures { λ range. ⌜ ((v : ℤ) → within range v ≡ vectorWord narrow (used (wordOf (now (words .entry)) w)) v) ⌝ }
+    ensures { λ range. ⌜ ((v : ℤ) → liesIn range v ≡ vectorWord narrow (used (wordOf (now (words .entry)) w)) v) ⌝ }
 {
     if words[w] == UNUSED {
         return ONLY_ZERO;
@@ -148,7 +148,7 @@ fn range_by(words: &[i16], w: usize) -> Range
 // A block's four vector words, from the first on: those of list 0 are in range0, those of list 1 in range1.
 fn block_within(words: &[i16], first: usize, range0: Range, range1: Range) -> bool
     requires { ⌜ (length (now words) ≡ recordWords) × (first + 4 ≤ recordWords) ⌝ }
-    ensures { λ t. ⌜ t ≡ blockWithin (within range0) (within range1) (now (words .entry)) first ⌝ }
+    ensures { λ t. ⌜ t ≡ blockWithin (liesIn range0) (liesIn range1) (now (words .entry)) first ⌝ }
 {
     word_within(words, first, range0)
         & word_within(words, first + 1, range0)

@@ -26,10 +26,6 @@ use Rattle.records.proofs.Addresses.{addresses-more, addresses-end, addresses-o
 use Rattle.macroblock.specs.Made.{originBy}
 use Rattle.upsample.specs.Staged.{rowAddresses, InBase}
 
--- a row's product is far below what 64 bits hold
-pub row-small : (row b : ℕ) → row ≤ 4294967295 → b ≤ 4096 → row * (b / 16) ≤ 4294967295 * 256
-row-small row b h k = let w : b / 16 ≤ 256 = omega arith in mul-le-mul h w
-
 -- ---- one row
 module _ (g : Axes) (first row : ℕ) where
   abbrev pub start : ℕ

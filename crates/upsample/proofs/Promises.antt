@@ -17,7 +17,7 @@ use Rattle.upsample.proofs.Within.{within-natural}
 
 -- where a call answers, its column and row are those of the picture
 module _ (n : Numbers) (base : List ℤ) (column row : ℤ) (words : List ℤ) (answer : Answer) (e : macroblockCall narrow n base column row words .reply ≡ Answered answer) where
-  asked : AskedAt narrow n column row words
+  asked : AskedAt n column row words
   asked = asked-at narrow n base column row words (call-accepted narrow n base column row words answer e)
 
   natural-column : pos (natAbs column) ≡ column

@@ -2,7 +2,8 @@
 use mathlib.Core.Path.{_≡_, sym, _∙_}
 use mathlib.Core.Bool.{true}
 use borrow.Author.Needs.{needs}
-use Rattle.geometry.proofs.Verdicts.{bases, fulls, scaleds, refused-1, refused-2, refused-3, refused-4, accepted, failed, held}
+use Rattle.geometry.proofs.Verdicts.{bases, fulls, scaleds, refused-1, refused-2, refused-3, refused-4, accepted}
+use Rattle.common.proofs.Judging.{failed, held}
 use Rattle.geometry.proofs.verdict_on.Statement.{statement}
 use Rattle.geometry.proofs.verdict_on.Tie as tie
 

@@ -2,7 +2,7 @@
 use borrow.Author.Needs.{needs}
 use mathlib.Core.Path.{_∙_}
 use mathlib.Core.Bool.{_&&_}
-use Rattle.records.specs.Checking.{within}
+use Rattle.records.specs.Checking.{liesIn}
 use Rattle.records.proofs.Ranges.{quadrant-right}
 use Rattle.records.proofs.check.vectors_right.Statement.{statement}
 use Rattle.records.proofs.check.vectors_right.Tie as tie
@@ -65,7 +65,7 @@ returns c =
     let b4 = c .before .block-within3 .ensures in
     let b5 = c .block-within4 .ensures in
     (λ i. ((b0 i && b1 i) && b4 i) && b5 i)
-    ∙ quadrant-right (a .words .now) (a .q) (search needs) (within (range0 .result)) (within (range1 .result)) (range0 .ensures) (range1 .ensures)
+    ∙ quadrant-right (a .words .now) (a .q) (search needs) (liesIn (range0 .result)) (liesIn (range1 .result)) (range0 .ensures) (range1 .ensures)
 
 pub vectors-right-spec : {M : Type 1} → statement M
 vectors-right-spec =
