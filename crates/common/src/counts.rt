@@ -1,19 +1,15 @@
 // The counts of a picture: inherited, intra, outside.
 ghost use Prim.Native.Nat.{_<_};
-ghost use Rattle.definitions.specs.Calls.{counted, noCounts, sumOf};
+ghost use Rattle.definitions.specs.Calls.{counted, sumOf};
 ghost use mathlib.Core.Path.{_≡_};
 use definitions::Answer;
 use definitions::Counts;
 
-pub fn no_counts() -> Counts
-    ensures { λ r. ⌜ r ≡ noCounts ⌝ }
-{
-    Counts {
-        inherited: 0,
-        intra: 0,
-        outside: 0,
-    }
-}
+pub const NO_COUNTS: Counts = Counts {
+    inherited: 0,
+    intra: 0,
+    outside: 0,
+};
 
 // One more of an answer's sort.
 pub fn count(c: Counts, a: Answer) -> Counts

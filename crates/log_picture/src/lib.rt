@@ -10,8 +10,8 @@ ghost use Rattle.definitions.specs.Record.{narrow};
 ghost use lib.ListN.{length};
 ghost use mathlib.Core.List.{[], _∷_};
 ghost use mathlib.Core.Path.{_≡_};
+use common::counts::NO_COUNTS;
 use common::counts::count;
-use common::counts::no_counts;
 use common::raster::column_at;
 use common::raster::full_count;
 use common::raster::row_at;
@@ -78,7 +78,7 @@ pub fn picture_lines(g: Axes, base: &[i16], out: &mut [u8]) -> usize
     ensures { λ r. ⌜ Put (now (out .entry)) 0 (pictureLines g (now (base .entry))) (now (out .exit)) r ⌝ }
 {
     let total = full_count(g);
-    let mut counts = no_counts();
+    let mut counts = NO_COUNTS;
     let mut at: usize = 0;
     let mut a: usize = 0;
     while a < total {

@@ -25,7 +25,8 @@ use Rattle.macroblock.specs.Made.{readOf, madeBy, Makeable}
 use Rattle.macroblock.proofs.Paper.{placed-by}
 use Rattle.definitions.specs.Accepted.{AcceptedAxes}
 use Rattle.definitions.specs.Raster.{fullCount}
-use Rattle.upsample.specs.Staged.{Formed}
+use Rattle.definitions.specs.Record.{narrow}
+use Rattle.common.specs.Bases.{BaseFormed}
 use Rattle.upsample.proofs.Readiness.{Known, known-of}
 use Rattle.picture.specs.Reads.{noRead, AxisReads}
 
@@ -73,13 +74,13 @@ module _ (g : Axes) (address column row : ℕ) (c : column < macroblocks (fullSi
   pub row-below : AcceptedAxes g → (total : ℕ) → total ≡ fullCount g → address < total → row < 256
   row-below a total e h = omega (arith, located g a address total e h .row, its-row)
 
-  module _ (base : List ℤ) (f : Formed g base) (h v : AxisRead) (p : h ≡ readOf (g .horizontal) column) (q : v ≡ readOf (g .vertical) row) where
-    known : Known g base (f .placed) column row h v
-    known = known-of g base (f .placed) column row h v p q
+  module _ (base : List ℤ) (f : BaseFormed narrow g base) (h v : AxisRead) (p : h ≡ readOf (g .horizontal) column) (q : v ≡ readOf (g .vertical) row) where
+    known : Known g base (f .right) column row h v
+    known = known-of g base (f .right) column row h v p q
 
-    pub placeable : Makeable g h v base
-    placeable t =
-        known .made-ready t (λ a m. f .formed a (omega (arith, known .named-below t a (subst (List·Memᴰ a) (known .named t) m) .0, f .placed .base-length)))
+    pub makeable : Makeable g h v base
+    makeable t =
+        known .made-ready t (λ a m. f .formed a (omega (arith, known .named-below t a (subst (List·Memᴰ a) (known .named t) m) .0, f .right .base-length)))
 
     pub made-there : madeBy g h v base ≡ madeAt g base address
     unfolding madeAt

@@ -1,11 +1,11 @@
 -- The stages of the picture call, each refusal where it applies, are the call of document 01. Assumes nothing.
 use Prim.Native.Nat.{ℕ, _*_}
 use mathlib.Core.Path.{_≡_, sym, ap, _∙_}
-use mathlib.Core.Bool.{false, not}
+use mathlib.Core.Bool.{true, false, not}
 use mathlib.Core.List.{List, _∷_}
 use lib.IntN.{ℤ}
 use lib.ListN.{length}
-use borrow.Author.Tests.{eq-eqb, ne-eqb}
+use lib.Dec.{eqb}
 use Rattle.definitions.specs.declared.Axes.{Axes}
 use Rattle.definitions.specs.declared.Numbers.{Numbers}
 use Rattle.definitions.specs.declared.Refusal.{Refusal}
@@ -25,7 +25,7 @@ use Rattle.definitions.proofs.Choices.{yes, no}
 use Rattle.definitions.proofs.Verdicts.{then-verdict, refused-first}
 use Rattle.records.specs.Checking.{addresses}
 use Rattle.records.proofs.Addresses.{addresses-all}
-use Rattle.upsample.specs.Staged.{axesPicture}
+use Rattle.picture.specs.Staged.{axesPicture}
 use Rattle.upsample.proofs.Staging.{Handed, handed}
 
 module _ (g : Axes) (base words : List ℤ) where
@@ -42,19 +42,19 @@ module _ (g : Axes) (base words : List ℤ) where
   unfolding axesPicture
   by-tests v e = ap (λ (u : Verdict). byVerdict u NotMade words makes) e
 
-  pub wrong-base : (length base ≡ recordWords * baseCount g → ⊥) → Handed (NotMade (refusal 5)) words call
-  wrong-base n = handed _ _ _ (by-tests _ (yes _ _ (ap not (ne-eqb _ _ n))))
+  pub wrong-base : eqb (length base) (recordWords * baseCount g) ≡ false → Handed (NotMade (refusal 5)) words call
+  wrong-base n = handed _ _ _ (by-tests _ (yes _ _ (ap not n)))
 
-  module _ (base-right : length base ≡ recordWords * baseCount g) where
+  module _ (base-right : eqb (length base) (recordWords * baseCount g) ≡ true) where
     base-passed : baseTest g base .applies ≡ false
-    base-passed = ap not (eq-eqb _ _ base-right)
+    base-passed = ap not base-right
 
-    pub wrong-output : (length words ≡ recordWords * fullCount g → ⊥) → Handed (NotMade (refusal 6)) words call
-    wrong-output n = handed _ _ _ (by-tests _ (no _ _ base-passed ∙ yes _ _ (ap not (ne-eqb _ _ n))))
+    pub wrong-output : eqb (length words) (recordWords * fullCount g) ≡ false → Handed (NotMade (refusal 6)) words call
+    wrong-output n = handed _ _ _ (by-tests _ (no _ _ base-passed ∙ yes _ _ (ap not n)))
 
-    module _ (output-right : length words ≡ recordWords * fullCount g) where
+    module _ (output-right : eqb (length words) (recordWords * fullCount g) ≡ true) where
       by-records : (v : Verdict) → verdictOf (recordTests narrow base (allAddresses g)) ≡ v → call ≡ byVerdict v NotMade words makes
-      by-records v e = by-tests v (no _ _ base-passed ∙ (no _ _ (ap not (eq-eqb _ _ output-right)) ∙ e))
+      by-records v e = by-tests v (no _ _ base-passed ∙ (no _ _ (ap not output-right) ∙ e))
 
       pub wrong-record : (r : Refusal) → verdictOf (recordTests narrow base (allAddresses g)) ≡ Refused r → Handed (NotMade r) words call
       wrong-record r e = handed _ _ _ (by-records (Refused r) e)

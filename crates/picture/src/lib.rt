@@ -13,8 +13,8 @@ ghost use Rattle.picture.specs.Promised.{PicturePromised};
 ghost use Rattle.picture.specs.Staged.{axesPicture};
 ghost use lib.ListN.{length};
 ghost use mathlib.Core.Path.{_≡_};
+use common::counts::NO_COUNTS;
 use common::counts::count;
-use common::counts::no_counts;
 use common::raster::base_count;
 use common::raster::full_count;
 use common::refusals;
@@ -94,7 +94,7 @@ fn fill(g: Axes, base: &[i16], out: &mut [i16]) -> Counts
     let columns = column_reads(g.horizontal);
     let width = g.horizontal.full.0 / 16;
     let total = full_count(g);
-    let mut counts = no_counts();
+    let mut counts = NO_COUNTS;
     let mut at = Position { column: 0, row: 0 };
     let mut v = read_nowhere();
     let mut a: usize = 0;

@@ -24,7 +24,7 @@ use Rattle.definitions.specs.Raster.{fullCount}
 use Rattle.definitions.proofs.Choices.{yes, no}
 use Rattle.definitions.proofs.Accepted.{accepted-axes}
 use Rattle.definitions.proofs.Sessions.{next-going, next-over, sound-parts}
-use Rattle.upsample.proofs.Sizes.{full-small}
+use Rattle.common.proofs.Sizes.{full-small}
 use Rattle.session.specs.declared.Session.{Session}
 use Rattle.session.specs.declared.Stage.the-variants.{Nothing}
 use Rattle.session.specs.Values.{freshSession, valueOf, stateOf, handedBy, HandsBack, advancedBy}
@@ -54,8 +54,8 @@ module _ (v : Session) where
     pub begin-wrong : (r : Refusal) → geometryVerdict n ≡ Refused r → Began n (Refused r) v
     begin-wrong r e = begin-refused n r (free-verdict ∙ e)
 
-    pub begin-right : (c : Counts) → c ≡ noCounts → geometryVerdict n ≡ Accepted → Began n Accepted (record { begun = true; numbers = n; counts = c })
-    begin-right c z e = begin-accepted n c z (free-verdict ∙ e)
+    pub begin-right : geometryVerdict n ≡ Accepted → Began n Accepted (record { begun = true; numbers = n; counts = noCounts })
+    begin-right e = begin-accepted n noCounts refl (free-verdict ∙ e)
 
   pub free-nothing : stageOf (stateOf v) ≡ Nothing → unfinished (stateOf v) ≡ false
   free-nothing e = ap unfinished (nothing-begun (stateOf v) e)
@@ -97,8 +97,8 @@ module _ (v : Session) where
   abbrev Totals : Counts → Session → Type 0
   Totals c w = (c ≡ totalsOf (stateOf v)) × HandsBack v totals w
 
-  pub totals-nothing : stageOf (stateOf v) ≡ Nothing → (c : Counts) → c ≡ noCounts → Totals c v
-  totals-nothing s c e = (e ∙ sym (ap totalsOf (nothing-begun (stateOf v) s)), totals-keep)
+  pub totals-nothing : stageOf (stateOf v) ≡ Nothing → Totals noCounts v
+  totals-nothing s = (sym (ap totalsOf (nothing-begun (stateOf v) s)), totals-keep)
 
   pub totals-begun : stateOf v ≡ begun (v .numbers) (v .counts) → Totals (v .counts) v
   totals-begun s = (sym (ap totalsOf s), totals-keep)

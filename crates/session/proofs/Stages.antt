@@ -1,5 +1,7 @@
 -- Where a session stands (specs/Stage): what the code finds, and what each stage says of the state. Assumes nothing.
 use Prim.Native.Nat.{ℕ, _-_, _≤_, _<_}
+use mathlib.Core.Logic.{⊎-elim}
+use native.Mathlib.Nat.{eq-or-lt-of-le}
 use mathlib.Core.Path.{_≡_, refl, sym, ap, _∙_}
 use mathlib.Core.Bool.{Bool, true, false, _&&_}
 use native.Mathlib.Omega.{arith}
@@ -107,6 +109,10 @@ module _ (g : Axes) (made total at : ℕ) (t : total ≡ fullCount g) (a : at �
   pub stage-last : at ≤ total → total - at ≡ 0 → Finished ≡ stageIn g made
   unfolding stageIn
   stage-last h e = sym (no _ _ (le-ltb (fullCount g) made (omega arith)) ∙ yes _ _ (eq-eqb made (fullCount g) (omega arith)))
+
+  -- a macroblock is left
+  pub still-below : at ≤ total → (total - at ≡ 0 → ⊥) → at < fullCount g
+  still-below h n = ⊎-elim (λ e. absurd (n (omega arith))) (λ l. omega arith) (eq-or-lt-of-le h)
 
   pub stage-on : at ≤ total → (total - at ≡ 0 → ⊥) → Unfinished (columnAt g at) (rowAt g at) ≡ stageIn g made
   unfolding stageIn

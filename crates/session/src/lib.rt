@@ -7,8 +7,8 @@ ghost use Rattle.session.specs.Stage.{stageIn, stageOf};
 ghost use Rattle.session.specs.Values.{HandsBack, advancedBy, freshSession, stateOf};
 ghost use mathlib.Core.Bool.{false};
 ghost use mathlib.Core.Path.{_≡_};
+use common::counts::NO_COUNTS;
 use common::counts::count;
-use common::counts::no_counts;
 use common::counts::sum;
 use common::raster::column_at;
 use common::raster::full_count;
@@ -96,7 +96,7 @@ fn begin_anew(s: Session, n: Numbers) -> Judged
     ensures verdict { λ r. ⌜ r .verdict ≡ beginVerdict (stateOf s) n ⌝ }
     ensures session { λ r. ⌜ HandsBack s (begin n) (r .session) ⌝ }
 {
-    let counts = no_counts();
+    let counts = NO_COUNTS;
     match Geometry::new(n) {
         Checked::Geometry(_) => Judged {
             session: Session {
@@ -146,7 +146,7 @@ impl Session {
                 horizontal: zeros,
                 vertical: zeros,
             },
-            counts: no_counts(),
+            counts: NO_COUNTS,
         }
     }
 
@@ -218,7 +218,7 @@ impl Session {
         ensures counts { λ r. ⌜ r .counts ≡ totalsOf (stateOf self) ⌝ }
         ensures session { λ r. ⌜ HandsBack self totals (r .session) ⌝ }
     {
-        let none = no_counts();
+        let none = NO_COUNTS;
         let made = self.counts;
         match stage_of(self) {
             Stage::Nothing => Totalled {

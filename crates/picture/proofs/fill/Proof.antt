@@ -13,7 +13,7 @@ use Rattle.definitions.proofs.Demand.{made-length}
 use Rattle.definitions.proofs.Parts.{parts, parts-none, parts-all, part-back}
 use Rattle.macroblock.specs.Made.{readOf}
 use Rattle.picture.specs.Reads.{noRead}
-use Rattle.picture.proofs.Filling.{row-below, placeable, made-there, counts-none, counts-next, counts-low, words-of}
+use Rattle.picture.proofs.Filling.{row-below, makeable, made-there, counts-none, counts-next, counts-low, words-of}
 use borrow.Author.Needs.{needs}
 use Rattle.picture.proofs.fill.Statement.{statement}
 use Rattle.picture.proofs.fill.Tie as tie
@@ -30,7 +30,7 @@ column-reads-requires : tie.Need-column-reads-requires Inv-loop μ-loop
 column-reads-requires c κs = search needs
 
 full-count-requires : tie.Need-full-count-requires Inv-loop μ-loop
-full-count-requires c κs = c .before .before .pre .0 .placed .axes
+full-count-requires c κs = c .before .before .pre .0 .right .axes
 
 read-nowhere-requires : tie.Need-read-nowhere-requires Inv-loop μ-loop
 read-nowhere-requires c κs = search needs
@@ -39,13 +39,13 @@ loop-holds : tie.Need-loop-holds Inv-loop μ-loop
 loop-holds c =
     let s = c .before .before .before .before in
     let f = madeAt (s .args .g) (s .args .base .now) in
-    (omega arith, s .pre .1 ∙ ap (λ (n : ℕ). recordWords * n) (sym (c .before .full-count .ensures .0)), parts-none (λ k. f k .written) recordWords (s .args .out .now), counts-none f, omega arith, omega (arith, s .pre .0 .placed .axes .horizontal .full-low), λ h. absurd (omega arith))
+    (omega arith, s .pre .1 ∙ ap (λ (n : ℕ). recordWords * n) (sym (c .before .full-count .ensures .0)), parts-none (λ k. f k .written) recordWords (s .args .out .now), counts-none f, omega arith, omega (arith, s .pre .0 .right .axes .horizontal .full-low), λ h. absurd (omega arith))
 
 -- the macroblock's row, and the horizontal axis at its column
 row-low : (c : tie.In-loop Inv-loop μ-loop) → c .before .loop .at .row < 256
 row-low c =
     let s = c .before .before .before .before .before .before in
-    row-below (s .args .g) (c .before .loop .a) (c .before .loop .at .column) (c .before .loop .at .row) (c .before .loop .inv .5) (c .before .loop .inv .4) (s .pre .0 .placed .axes) (c .before .before .before .full-count .result) (c .before .before .before .full-count .ensures .0) (omega arith)
+    row-below (s .args .g) (c .before .loop .a) (c .before .loop .at .column) (c .before .loop .at .row) (c .before .loop .inv .5) (c .before .loop .inv .4) (s .pre .0 .right .axes) (c .before .before .before .full-count .result) (c .before .before .before .full-count .ensures .0) (omega arith)
 
 column-there : (c : tie.In-loop Inv-loop μ-loop) → getD (c .before .before .before .before .before .column-reads .result) (c .before .loop .at .column) noRead ≡ readOf (c .before .before .before .before .before .before .args .g .horizontal) (c .before .loop .at .column)
 column-there c = c .before .before .before .before .before .column-reads .ensures .each _ (c .before .loop .inv .5)
@@ -66,15 +66,15 @@ array-copy-out-h : tie.Need-array-copy-out-h Inv-loop μ-loop
 array-copy-out-h c =
     let l = c .before .before in
     let s = c .before .before .before .before .before .before .before in
-    omega (arith, s .pre .0 .placed .axes .horizontal .full-high, l .loop .inv .5)
+    omega (arith, s .pre .0 .right .axes .horizontal .full-high, l .loop .inv .5)
 
 row-read-requires : tie.Need-row-read-requires Inv-loop μ-loop
-row-read-requires c κs = (c .before .before .before .before .before .before .before .before .pre .0 .placed .axes .vertical, row-low (c .before .before), c .before .before .before .loop .inv .6)
+row-read-requires c κs = (c .before .before .before .before .before .before .before .before .pre .0 .right .axes .vertical, row-low (c .before .before), c .before .before .before .loop .inv .6)
 
-mul-make : tie.Need-mul-place Inv-loop μ-loop
+mul-make : tie.Need-mul-make Inv-loop μ-loop
 mul-make c = search needs
 
-sub-make : tie.Need-sub-place Inv-loop μ-loop
+sub-make : tie.Need-sub-make Inv-loop μ-loop
 sub-make c = search needs
 
 part-make-start : tie.Need-part-make-start Inv-loop μ-loop
@@ -87,7 +87,7 @@ make-requires : tie.Need-make-requires Inv-loop μ-loop
 make-requires c κs =
     let l = c .before .before .before .before .before in
     let s = c .before .before .before .before .before .before .before .before .before .before in
-    (placeable (s .args .g) (l .loop .a) (l .loop .at .column) (l .loop .at .row) (l .loop .inv .5) (l .loop .inv .4) (s .args .base .now) (s .pre .0) _ _ (column-there (c .before .before .before .before)) (c .before .row-read .ensures), simp (length-take, length-drop) (omega arith))
+    (makeable (s .args .g) (l .loop .a) (l .loop .at .column) (l .loop .at .row) (l .loop .inv .5) (l .loop .inv .4) (s .args .base .now) (s .pre .0) _ _ (column-there (c .before .before .before .before)) (c .before .row-read .ensures), simp (length-take, length-drop) (omega arith))
 
 count-requires : tie.Need-count-requires Inv-loop μ-loop
 count-requires c κs =

@@ -1,7 +1,7 @@
 -- `picture::upsample_picture` meets its contract. Assumes nothing.
-use Rattle.upsample.proofs.Promises.{picture-kept}
+use Rattle.picture.proofs.Promises.{picture-kept}
 use Rattle.picture.proofs.Stages.{wrong-geometry, right-geometry}
-use Rattle.upsample.specs.Staged.{axesPicture}
+use Rattle.picture.specs.Staged.{axesPicture}
 use Rattle.definitions.specs.Accepted.{AcceptedAxes}
 use Rattle.geometry.proofs.Verdicts.{checked-accepted, checked-refused, checked-valid}
 use Rattle.definitions.specs.Calls.{Outcome}

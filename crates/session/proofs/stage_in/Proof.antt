@@ -1,6 +1,12 @@
 -- `session::stage_in` meets its contract. Assumes nothing.
-use Rattle.session.proofs.Stages.{stage-many, stage-last, stage-on}
+use Rattle.session.proofs.Stages.{stage-many, stage-last, still-below, stage-on}
 use Rattle.definitions.specs.Calls.{sumOf}
+use Rattle.definitions.specs.Raster.{fullCount}
+use Rattle.common.proofs.Sizes.{full-small}
+use Rattle.session.specs.declared.Stage.the-variants.{Unfinished}
+use Prim.Native.Nat.{_<_}
+use mathlib.Core.Path.{_∙_}
+use native.Mathlib.Omega.{arith}
 use borrow.Author.Needs.{needs}
 use Rattle.session.proofs.stage_in.Statement.{statement}
 use Rattle.session.proofs.stage_in.Tie as tie
@@ -17,17 +23,26 @@ returns c = let s = c .before .before .before .args in stage-many (s .g) (sumOf 
 returns-2 : tie.Need-returns-2
 returns-2 c = let s = c .before .before .before .before .args in stage-last (s .g) (sumOf (s .c)) _ _ (c .before .before .before .full-count .ensures .0) (c .before .before .sum .ensures) (c .before .if1 .left) (c .if2 .taken)
 
-cast-address : tie.Need-cast-address
-cast-address c = search needs
+-- a macroblock is left
+below : (c : tie.Else2) → c .before .before .sum .result < fullCount (c .before .before .before .before .args .g)
+below c =
+    let s = c .before .before .before .before .args in
+    still-below (s .g) (sumOf (s .c)) _ _ (c .before .before .before .full-count .ensures .0) (c .before .before .sum .ensures) (c .before .if1 .left) (c .if2 .left)
 
-rem-t10 : tie.Need-rem-t10
-rem-t10 c = search needs
+column-at-requires : tie.Need-column-at-requires
+column-at-requires c κs =
+    let s = c .before .before .before .before in
+    (s .pre, omega (arith, below c, full-small (s .args .g) (s .pre)))
 
-div-t11 : tie.Need-div-t11
-div-t11 c = search needs
+row-at-requires : tie.Need-row-at-requires
+row-at-requires c κs = (c .before .before .before .before .before .pre, below (c .before))
 
 returns-3 : tie.Need-returns-3
-returns-3 c = let s = c .before .before .before .before .before .args in stage-on (s .g) (sumOf (s .c)) _ _ (c .before .before .before .before .full-count .ensures .0) (c .before .before .before .sum .ensures) (c .before .before .if1 .left) (c .before .if2 .left)
+returns-3 c =
+    let e = c .before .before in
+    let s = e .before .before .before .before .args in
+    (λ i. Unfinished (c .before .column-at .ensures .0 i) (c .row-at .ensures .0 i))
+    ∙ stage-on (s .g) (sumOf (s .c)) _ _ (e .before .before .before .full-count .ensures .0) (e .before .before .sum .ensures) (e .before .if1 .left) (e .if2 .left)
 
 pub stage-in-spec : {M : Type 1} → statement M
 stage-in-spec =
@@ -37,7 +52,6 @@ stage-in-spec =
     sum-requires
     returns
     returns-2
-    cast-address
-    rem-t10
-    div-t11
+    column-at-requires
+    row-at-requires
     returns-3)

@@ -5,11 +5,8 @@ use borrow.Author.Needs.{needs}
 use Rattle.session.proofs.Session.fresh.Statement.{statement}
 use Rattle.session.proofs.Session.fresh.Tie as tie
 
-no-counts-requires : tie.Need-no-counts-requires
-no-counts-requires c κs = search needs
-
 returns : tie.Need-returns
-returns c = λ i. record { begun = false; numbers = record { horizontal = zeros; vertical = zeros }; counts = c .no-counts .ensures i }
+returns c = search needs
 
 pub fresh-spec : {M : Type 1} → statement M
-fresh-spec = tie.close (tie.spec no-counts-requires returns)
+fresh-spec = tie.close (tie.spec returns)

@@ -6,9 +6,6 @@ use borrow.Author.Needs.{needs}
 use Rattle.session.proofs.Session.totals.Statement.{statement}
 use Rattle.session.proofs.Session.totals.Tie as tie
 
-no-counts-requires : tie.Need-no-counts-requires
-no-counts-requires c κs = search needs
-
 stage-of-requires : tie.Need-stage-of-requires
 stage-of-requires c κs = search needs
 
@@ -22,19 +19,18 @@ enum-told-3 : tie.Need-enum-told-3
 enum-told-3 c = search needs
 
 returns : tie.Need-returns
-returns c = totals-nothing (c .before .before .before .before .before .args .self) (sym (c .before .before .stage-of .ensures) ∙ c .enum-told .given .1) _ (c .before .before .before .before .no-counts .ensures)
+returns c = totals-nothing (c .before .before .before .before .args .self) (sym (c .before .before .stage-of .ensures) ∙ c .enum-told .given .1)
 
 returns-2 : tie.Need-returns-2
-returns-2 c = totals-begun (c .before .before .before .before .before .args .self) (going (c .before .before .before .before .before .args .self) _ _ (sym (c .before .before .stage-of .ensures) ∙ c .enum-told2 .given .1) .state)
+returns-2 c = totals-begun (c .before .before .before .before .args .self) (going (c .before .before .before .before .args .self) _ _ (sym (c .before .before .stage-of .ensures) ∙ c .enum-told2 .given .1) .state)
 
 returns-3 : tie.Need-returns-3
-returns-3 c = totals-begun (c .before .before .before .before .before .args .self) (over-of (c .before .before .before .before .before .args .self) (sym (c .before .before .stage-of .ensures) ∙ c .enum-told3 .given .1) .state)
+returns-3 c = totals-begun (c .before .before .before .before .args .self) (over-of (c .before .before .before .before .args .self) (sym (c .before .before .stage-of .ensures) ∙ c .enum-told3 .given .1) .state)
 
 pub totals-spec : {M : Type 1} → statement M
 totals-spec =
     tie.close
     (tie.spec
-    no-counts-requires
     stage-of-requires
     enum-told
     enum-told-2
