@@ -1,3 +1,5 @@
--- Laws of the sizes of a geometry and of tests; other crates cite them.
+-- Laws of a geometry's sizes and addresses, of counts and of tests; other crates cite them.
 pub mod Sizes
+pub mod Located
+pub mod Counted
 pub mod Judging

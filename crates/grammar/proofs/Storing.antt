@@ -202,7 +202,7 @@ pub intra-tail :
 intra-tail s i old from new e w t =
     record {
       numbers = [];
-      many = laid-length 0 (λ q. 0) (λ b. unusedMotion);
+      many = laid-length _;
       up = t .0;
       within = t .1;
       stored = w;
@@ -242,7 +242,7 @@ numbers-tail r s n i old from new zeros own e many l w v =
 pub whole-tail :
     (s : List ℕ) (i : ℕ) (old : List ℤ) (from : ℕ) (new zeros six : List ℤ) (e : ℕ) → length zeros ≡ 6 → new ≡ sets old from (wordsFor whole six)
     → Stored s (tail whole) 6 i zeros 0 six e → TailTo whole s i old from new (At e)
-whole-tail s i old from new zeros six e = numbers-tail whole s 6 i old from new zeros six e (laid-length 1 (λ q. 0) (λ b. wholeMotion six))
+whole-tail s i old from new zeros six e = numbers-tail whole s 6 i old from new zeros six e (laid-length _)
 
 pub mb-tail :
     (s : List ℕ) (i : ℕ) (old : List ℤ) (from : ℕ) (new zeros own : List ℤ) (e : ℕ) → length zeros ≡ recordWords → new ≡ sets old from own

@@ -19,8 +19,8 @@ use Rattle.definitions.proofs.Lines.{mb-short, sync-short, type-low, pieces-low
 use Rattle.definitions.proofs.Parts.{parts, parts-more}
 use Rattle.definitions.specs.Accepted.{AcceptedAxes}
 use Rattle.definitions.specs.Raster.{fullCount}
-use Rattle.upsample.proofs.Sizes.{full-small}
-use Rattle.picture.proofs.Filling.{located}
+use Rattle.common.proofs.Sizes.{full-small}
+use Rattle.common.proofs.Located.{located}
 use Rattle.log_lines.specs.Put.{Fits, Put}
 use Rattle.log_lines.proofs.Putting.{put-none, put-then}
 

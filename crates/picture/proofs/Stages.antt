@@ -23,8 +23,6 @@ use Rattle.definitions.specs.Calls.{Outcome, byVerdict, madeAt, countsOf, pictu
 use Rattle.definitions.specs.Raster.{baseCount, fullCount}
 use Rattle.definitions.proofs.Choices.{yes, no}
 use Rattle.definitions.proofs.Verdicts.{then-verdict, refused-first}
-use Rattle.records.specs.Checking.{addresses}
-use Rattle.records.proofs.Addresses.{addresses-all}
 use Rattle.picture.specs.Staged.{axesPicture}
 use Rattle.upsample.proofs.Staging.{Handed, handed}
 
@@ -62,9 +60,6 @@ module _ (g : Axes) (base words : List ℤ) where
       pub all-right : verdictOf (recordTests narrow base (allAddresses g)) ≡ Accepted → (counts : Counts) (out : List ℤ) → counts ≡ countsOf made → out ≡ forEach made (λ m. m .written) → Handed (Counted counts) out call
       all-right e counts out c w = handed _ _ _ (by-records Accepted e ∙ (λ i. record { reply = Counted (sym c i); words = sym w i }))
 
--- the check of records 0 .. n−1 is that of all
-pub all-checked : (g : Axes) (base : List ℤ) (n : ℕ) → n ≡ baseCount g → verdictOf (recordTests narrow base (allAddresses g)) ≡ verdictOf (recordTests narrow base (addresses 0 n))
-all-checked g base n e = ap (λ (l : List ℕ). verdictOf (recordTests narrow base l)) (sym (addresses-all n ∙ ap (λ (k : ℕ). upTo k (λ a. a)) e))
 
 -- ---- refusals 1 to 4
 module _ (n : Numbers) (base words : List ℤ) where

@@ -1,10 +1,15 @@
 -- Laws of the addresses from .. to−1. Assumes nothing.
 use Prim.Native.Nat.{ℕ, zero, suc, _+_, _-_, _<_, _≤_}
-use mathlib.Core.Path.{_≡_, refl, ap, _∙_}
+use mathlib.Core.Path.{_≡_, refl, sym, ap, _∙_}
 use mathlib.Core.List.{List, [], _∷_, _++_}
 use native.Mathlib.Nat.{sub-zero, zero-add, add-zero}
 use native.Mathlib.Omega.{arith}
+use lib.IntN.{ℤ}
+use Rattle.definitions.specs.declared.Axes.{Axes}
 use Rattle.definitions.specs.Basics.{upTo}
+use Rattle.definitions.specs.Raster.{baseCount}
+use Rattle.definitions.specs.Record.{narrow}
+use Rattle.definitions.specs.Refusals.{verdictOf, recordTests, allAddresses}
 use Rattle.definitions.proofs.Choices.{upTo-same}
 use Rattle.records.specs.Checking.{addresses}
 
@@ -30,3 +35,7 @@ addresses-one a = addresses-more a (a + 1) (omega arith) ∙ ap (λ (l : List �
 
 pub addresses-all : (n : ℕ) → addresses 0 n ≡ upTo n (λ a. a)
 addresses-all n = ap (λ (k : ℕ). upTo k (λ k. 0 + k)) (sub-zero n) ∙ upTo-same n (λ k. 0 + k) (λ k. k) (λ k l. zero-add k)
+
+-- the check of records 0 .. n−1 is that of all
+pub all-checked : (g : Axes) (base : List ℤ) (n : ℕ) → n ≡ baseCount g → verdictOf (recordTests narrow base (allAddresses g)) ≡ verdictOf (recordTests narrow base (addresses 0 n))
+all-checked g base n e = ap (λ (l : List ℕ). verdictOf (recordTests narrow base l)) (sym (addresses-all n ∙ ap (λ (k : ℕ). upTo k (λ a. a)) e))

@@ -8,11 +8,9 @@ use lib.IntN.{ℤ, pos}
 use lib.ListN.{length, take, drop, getD, set}
 use lib.Seq.{sets, sets-eq, drop-drop, length-take-le, take-suc}
 use Rattle.definitions.specs.declared.Motion.{Motion}
-use Rattle.definitions.specs.Basics.{four}
-use Rattle.definitions.specs.Record.{recordWords, laidOut}
-use Rattle.definitions.specs.Inheriting.{motionAt}
+use Rattle.definitions.specs.Record.{recordWords, laidOut, allOne}
 use Rattle.definitions.proofs.Parts.{sets-append}
-use Rattle.definitions.proofs.Records.{laid-length, laid-alike}
+use Rattle.definitions.proofs.Records.{laid-length}
 
 -- k words are stored, and the next is
 pub stored-more :
@@ -31,6 +29,6 @@ module _ (out : List ℤ) (from : ℕ) (fits : from + recordWords ≤ length out
       rw k (ap (λ (o : List ℤ). take from out ++ (w ++ o)) (drop-drop (length w) from out) ∙ sym (append-assoc (take from out) w (drop (from + length w) out)) ∙ sym (sets-eq w out from (omega arith)))
 
   pub record-put :
-      (kind : ℕ) (m : Motion) (part : List ℤ) → part ≡ laidOut kind (λ q. getD (0 ∷ 0 ∷ 0 ∷ 0 ∷ []) q 0) (motionAt (four (λ q. four (λ k. m))))
-      → take from out ++ (part ++ drop (from + 77 - from) (drop from out)) ≡ sets out from (laidOut kind (λ q. 0) (λ b. m))
-  record-put kind m part e = rw (e ∙ laid-alike kind m) (part-put (laidOut kind (λ q. 0) (λ b. m)) (laid-length kind (λ q. 0) (λ b. m)))
+      (kind : ℕ) (m : Motion) (part : List ℤ) → part ≡ laidOut (allOne kind m)
+      → take from out ++ (part ++ drop (from + 77 - from) (drop from out)) ≡ sets out from (laidOut (allOne kind m))
+  record-put kind m part e = rw e (part-put (laidOut (allOne kind m)) (laid-length (allOne kind m)))

@@ -5,7 +5,7 @@ ghost use lib.ListN.{length, getD};
 ghost use lib.Seq.{sets};
 ghost use mathlib.Core.List.{List, _∷_};
 ghost use mathlib.Core.Path.{_≡_};
-ghost use Rattle.definitions.specs.Record.{recordWords, laidOut};
+ghost use Rattle.definitions.specs.Record.{allOne, recordWords, laidOut};
 ghost use Rattle.definitions.specs.Text.{intra, whole, mb, wordsFor};
 ghost use Rattle.grammar.specs.Machine.{Sym, field, gap};
 ghost use Rattle.grammar.specs.Promises.{fields, RecordTo, StoresTo, TailTo, ThenStores, ThenWord, Within};
@@ -14,9 +14,11 @@ use definitions::Prediction;
 use definitions::RECORD_WORDS;
 use grammar::Got;
 use grammar::Num;
+use records::layout;
+use records::layout::NO_MOTION;
+use records::write::write_one;
 use sync_notes::word_at;
 use sync_numbers::field;
-use write::write_record;
 
 // The most numbers in one pair of brackets: the vector words of a record.
 const MOST_FIELDS: usize = 64;
@@ -111,13 +113,10 @@ fn then_field(s: &[u8], r: Got, out: &mut [i16], from: usize) -> Got
 // A record of one motion in all blocks.
 fn put_record(out: &mut [i16], from: usize, kind: u8, m: Motion)
     requires { ⌜ from + recordWords ≤ length (now out) ⌝ }
-    ensures { λ _. ⌜ now (out .exit) ≡ sets (now (out .entry)) from (laidOut kind (λ q. 0) (λ b. m)) ⌝ }
+    ensures { λ _. ⌜ now (out .exit) ≡ sets (now (out .entry)) from (laidOut (allOne kind m)) ⌝ }
 {
     let to = from + RECORD_WORDS;
-    let sub = [0u8; 4];
-    let quadrant = [m; 4];
-    let all = [quadrant; 4];
-    write_record(&mut out[from..to], kind, sub, all);
+    write_one(&mut out[from..to], kind, m);
 }
 
 // The record of a line (whole (R0 R1) (X0 Y0 X1 Y1)) with these numbers.
@@ -160,20 +159,7 @@ fn intra_tail(s: &[u8], at: usize, out: &mut [i16], from: usize) -> Got
     let r = word_at(s, at, b"ntra)\n");
     match r {
         Got::At(e) => {
-            let unused = Prediction {
-                reference: -1,
-                x: 0,
-                y: 0,
-            };
-            put_record(
-                out,
-                from,
-                0,
-                Motion {
-                    list0: unused,
-                    list1: unused,
-                },
-            );
+            put_record(out, from, layout::INTRA, NO_MOTION);
             Got::At(e)
         }
         Got::Bad(p) => Got::Bad(p),
@@ -207,13 +193,13 @@ fn mb_tail(s: &[u8], at: usize, out: &mut [i16], from: usize) -> Got
 {
     let mut own = [0i16; RECORD_WORDS];
     let a = then_word(s, Got::At(at), b"b ");
-    let b = then_field(s, a, &mut own, 0);
+    let b = then_field(s, a, &mut own, layout::TYPE);
     let c = then_word(s, b, b"(");
-    let d = then_fields(s, c, 3, &mut own, 1);
+    let d = then_fields(s, c, 3, &mut own, layout::SUB_TYPES);
     let e = then_word(s, d, b" (");
-    let f = then_fields(s, e, 7, &mut own, 5);
+    let f = then_fields(s, e, 7, &mut own, layout::REFERENCES);
     let g = then_word(s, f, b" (");
-    let h = then_fields(s, g, 63, &mut own, 13);
+    let h = then_fields(s, g, 63, &mut own, layout::VECTORS);
     let r = then_word(s, h, b")\n");
     match r {
         Got::At(q) => {

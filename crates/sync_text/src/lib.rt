@@ -5,8 +5,10 @@ ghost use lib.ListN.{length};
 ghost use Rattle.definitions.specs.Record.{recordWords};
 ghost use Rattle.definitions.specs.Text.{ReadExactly, TextAnswer, textRecords};
 ghost use Rattle.grammar.specs.Promises.{AllStored, Room};
+use common::refusals;
+use common::refusals::refused;
+use common::refusals::refused_at;
 use definitions::RECORD_WORDS;
-use definitions::Refusal;
 use definitions::TextRead;
 use definitions::TextReply;
 use grammar::Got;
@@ -21,15 +23,6 @@ const RECORDS: usize = 99;
 pub const TEXT_WORDS: usize = RECORD_WORDS * RECORDS;
 
 const BYTES: usize = 65536;
-
-// The refusals, in the order in which they are tested.
-const WRONG_WORDS: u32 = 6;
-
-const TOO_LONG: u32 = 10;
-
-const BROKEN: u32 = 9;
-
-const TOO_MANY: u32 = 10;
 
 // The words of the record lines of a text that was judged, from where they begin. No line is bad any more.
 fn store_records(s: &[u8], at: usize, words: &mut [i16])
@@ -66,16 +59,6 @@ fn store_records(s: &[u8], at: usize, words: &mut [i16])
     }
 }
 
-fn refused(number: u32, place: u32) -> TextReply
-    ensures { λ r. ⌜ r ≡ TextReply.Refused (record { number = number; place = place; rule = 0 }) ⌝ }
-{
-    TextReply::Refused(Refusal {
-        number: number,
-        place: place,
-        rule: 0,
-    })
-}
-
 // Text: the bytes, and the words of 99 records to write. It tests 6, then 10 by length, 9, and 10 by lines, and refused leaves every word. Else it
 // gives the geometry's numbers and the count of record lines, whose words stand first, the rest unchanged.
 pub fn read_text(bytes: &[u8], words: &mut [i16]) -> TextReply
@@ -83,16 +66,16 @@ pub fn read_text(bytes: &[u8], words: &mut [i16]) -> TextReply
     ensures demand2 { λ r. ⌜ (length (now (words .entry)) ≡ recordWords * textRecords → ReadExactly (now (bytes .entry)) (now (words .entry)) r (now (words .exit))) ⌝ }
 {
     if words.len() != TEXT_WORDS {
-        return refused(WRONG_WORDS, 0);
+        return TextReply::Refused(refused(refusals::OUTPUT_LENGTH));
     }
     if bytes.len() > BYTES {
-        return refused(TOO_LONG, 0);
+        return TextReply::Refused(refused(refusals::TEXT_SIZE));
     }
     let t = judge(bytes);
     match t {
         Judged::Right(numbers, at, lines) => {
             if lines > RECORDS {
-                return refused(TOO_MANY, 0);
+                return TextReply::Refused(refused(refusals::TEXT_SIZE));
             }
             let count = lines as u32;
             store_records(bytes, at, words);
@@ -101,6 +84,6 @@ pub fn read_text(bytes: &[u8], words: &mut [i16]) -> TextReply
                 lines: count,
             })
         }
-        Judged::Wrong(p) => refused(BROKEN, p as u32),
+        Judged::Wrong(p) => TextReply::Refused(refused_at(refusals::GRAMMAR, p as u32)),
     }
 }

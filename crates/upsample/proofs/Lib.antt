@@ -3,3 +3,4 @@ pub mod Readiness
 pub mod Staging
 pub mod Within
 pub mod Promises
+pub mod Addresses

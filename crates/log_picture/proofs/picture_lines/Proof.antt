@@ -1,11 +1,12 @@
 -- `log_picture::picture_lines` meets its contract. Assumes nothing.
-use Prim.Native.Nat.{_-_, _*_, _≤_}
+use Prim.Native.Nat.{_-_, _*_, _≤_, _<_}
 use mathlib.Core.Path.{_≡_, refl, _∙_}
 use native.Mathlib.Omega.{arith}
 use borrow.Author.Needs.{needs}
 use Rattle.definitions.specs.Basics.{upTo}
 use Rattle.definitions.specs.Calls.{madeAt, countsOf}
-use Rattle.picture.proofs.Filling.{Located, located, counts-none, counts-next, counts-low}
+use Rattle.definitions.specs.Raster.{fullCount}
+use Rattle.common.proofs.Counted.{counts-none, counts-next, counts-low}
 use Rattle.log_lines.specs.Put.{Put}
 use Rattle.log_lines.proofs.Putting.{put-length}
 use Rattle.log_picture.proofs.Growing.{firstLines, first-short, none-put, line-more, line-last}
@@ -13,63 +14,55 @@ use Rattle.log_picture.proofs.picture_lines.Statement.{statement}
 use Rattle.log_picture.proofs.picture_lines.Tie as tie
 
 abbrev Inv-loop : tie.InvT-loop
-Inv-loop g base out₀ width total counts₀ at₀ a₀ out counts at a = (a ≤ total) × Put out₀ 0 (firstLines g base a) out at × (counts ≡ countsOf (upTo a (madeAt g base)))
+Inv-loop g base out₀ total counts₀ at₀ a₀ out counts at a = (a ≤ total) × Put out₀ 0 (firstLines g base a) out at × (counts ≡ countsOf (upTo a (madeAt g base)))
 
 abbrev μ-loop : tie.MeasureT-loop
-μ-loop g base out₀ width total counts₀ at₀ a₀ out counts at a = total - a
-
-cast-width : tie.Need-cast-width Inv-loop μ-loop
-cast-width c = search needs
+μ-loop g base out₀ total counts₀ at₀ a₀ out counts at a = total - a
 
 full-count-requires : tie.Need-full-count-requires Inv-loop μ-loop
-full-count-requires c κs = c .before .before .pre .0 .placed .axes
+full-count-requires c κs = c .before .pre .0 .right .axes
 
 loop-holds : tie.Need-loop-holds Inv-loop μ-loop
 loop-holds c =
-    let s = c .before .before .before in
+    let s = c .before .before in
     (omega arith, none-put (s .args .g) (s .args .base .now) (s .args .out .now), counts-none (madeAt (s .args .g) (s .args .base .now)))
 
--- where macroblock a stands
-there : (c : tie.In-loop Inv-loop μ-loop) → Located (c .before .before .before .before .before .args .g) (c .before .loop .a)
-there c =
-    let s = c .before .before .before .before .before in
-    located (s .args .g) (s .pre .0 .placed .axes) (c .before .loop .a) (c .before .before .full-count .result) (c .before .before .full-count .ensures .0) (omega arith)
+-- in the loop: the start, macroblock a is one of the picture's, and the bytes so far
+module _ (c : tie.In-loop Inv-loop μ-loop) where
+  abbrev start : tie.Start Inv-loop μ-loop
+  start = c .before .before .before .before
 
--- the bytes so far
-at-low : (c : tie.In-loop Inv-loop μ-loop) → c .before .loop .at ≤ 18 * c .before .loop .a
-at-low c =
-    let s = c .before .before .before .before .before in
-    let t = c .before .before .full-count .ensures .0 in
-    let p = c .before .loop .inv .1 .after in
-    omega (arith, first-short (s .args .g) (s .args .base .now) (s .pre .0 .placed .axes) (c .before .loop .a) (omega arith))
+  below : c .before .loop .a < fullCount (start .args .g)
+  below = omega (arith, c .before .before .full-count .ensures .0)
+
+  at-low : c .before .loop .at ≤ 18 * c .before .loop .a
+  at-low =
+      let p = c .before .loop .inv .1 .after in
+      let b = below in
+      omega (arith, first-short (start .args .g) (start .args .base .now) (start .pre .0 .right .axes) (c .before .loop .a) (omega arith))
 
 answer-at-requires : tie.Need-answer-at-requires Inv-loop μ-loop
-answer-at-requires c κs = (c .before .before .before .before .before .pre .0, omega (arith, c .before .before .full-count .ensures .0))
+answer-at-requires c κs = (start c .pre .0, below c)
 
 count-requires : tie.Need-count-requires Inv-loop μ-loop
 count-requires c κs =
-    let s = c .before .before .before .before .before .before in
+    let s = start (c .before) in
     let l = c .before .before .loop in
     omega (arith, counts-low (madeAt (s .args .g) (s .args .base .now)) (l .a) (l .counts) (l .inv .2), c .before .before .before .full-count .ensures .1)
 
-rem-macroblock-line : tie.Need-rem-macroblock-line Inv-loop μ-loop
-rem-macroblock-line c = omega (arith, there (c .before .before .before))
+column-at-requires : tie.Need-column-at-requires Inv-loop μ-loop
+column-at-requires c κs =
+    let i = c .before .before .before in
+    (start i .pre .0 .right .axes, omega (arith, i .before .before .full-count .ensures .1))
 
-cast-macroblock-line : tie.Need-cast-macroblock-line Inv-loop μ-loop
-cast-macroblock-line c = omega (arith, there (c .before .before .before))
-
-div-macroblock-line : tie.Need-div-macroblock-line Inv-loop μ-loop
-div-macroblock-line c = omega (arith, there (c .before .before .before))
-
-cast-macroblock-line-2 : tie.Need-cast-macroblock-line-2 Inv-loop μ-loop
-cast-macroblock-line-2 c = omega (arith, there (c .before .before .before))
+row-at-requires : tie.Need-row-at-requires Inv-loop μ-loop
+row-at-requires c κs = let i = c .before .before .before .before in (start i .pre .0 .right .axes, below i)
 
 macroblock-line-requires : tie.Need-macroblock-line-requires Inv-loop μ-loop
 macroblock-line-requires c κs =
-    let l = c .before .before .before in
-    let s = l .before .before .before .before .before in
-    let e = put-length (l .before .loop .inv .1) in
-    (there l .column, there l .row, omega (arith, at-low l, s .pre .1, l .before .before .full-count .ensures .1))
+    let i = c .before .before .before .before .before in
+    let e = put-length (i .before .loop .inv .1) in
+    (c .before .column-at .ensures .1, c .row-at .ensures .1, omega (arith, at-low i, start i .pre .1, i .before .before .full-count .ensures .1))
 
 add-a : tie.Need-add-a Inv-loop μ-loop
 add-a c = search needs
@@ -79,12 +72,13 @@ loop-less c = search needs
 
 loop-again : tie.Need-loop-again Inv-loop μ-loop
 loop-again c =
-    let l = c .before .before .before .before .before .before .before .loop in
-    let s = c .before .before .before .before .before .before .before .before .before .before .before in
-    let answer = c .before .before .before .before .before .answer-at .ensures in (
+    let i = c .before .before .before .before .before .before .before .before in
+    let s = start i in
+    let l = i .before .loop in
+    let answer = c .before .before .before .before .before .before .before .answer-at .ensures in (
       omega arith,
-      line-more (s .args .g) (s .args .base .now) (l .a) (l .inv .1) _ _ _ refl refl answer (c .before .before .macroblock-line .ensures),
-      counts-next (madeAt (s .args .g) (s .args .base .now)) (l .a) (l .counts) (c .before .before .before .before .count .result) _ (l .inv .2) answer (c .before .before .before .before .count .ensures),
+      line-more (s .args .g) (s .args .base .now) (l .a) (l .inv .1) _ _ _ (c .before .before .before .before .column-at .ensures .0) (c .before .before .before .row-at .ensures .0) answer (c .before .before .macroblock-line .ensures),
+      counts-next (madeAt (s .args .g) (s .args .base .now)) (l .a) (l .counts) (c .before .before .before .before .before .before .count .result) _ (l .inv .2) answer (c .before .before .before .before .before .before .count .ensures),
     )
 
 cast-sync-line : tie.Need-cast-sync-line Inv-loop μ-loop
@@ -93,13 +87,13 @@ cast-sync-line c = search needs
 sync-line-requires : tie.Need-sync-line-requires Inv-loop μ-loop
 sync-line-requires c κs =
     let l = c .before .before .loop in
-    let s = c .before .before .before .before .before .before in
+    let s = c .before .before .before .before .before in
     let t = c .before .before .before .full-count .ensures .0 in
     let few = c .before .before .before .full-count .ensures .1 in
     let k = counts-low (madeAt (s .args .g) (s .args .base .now)) (l .a) (l .counts) (l .inv .2) in
     let e = put-length (l .inv .1) in
     let p = l .inv .1 .after in
-    let f = first-short (s .args .g) (s .args .base .now) (s .pre .0 .placed .axes) (l .a) (omega arith) in
+    let f = first-short (s .args .g) (s .args .base .now) (s .pre .0 .right .axes) (l .a) (omega arith) in
     (few, omega arith, omega arith, omega arith, omega (arith, s .pre .1))
 
 same-length : tie.Need-same-length Inv-loop μ-loop
@@ -108,7 +102,7 @@ same-length c = put-length (c .before .before .sync-line .ensures) ∙ put-lengt
 returns : tie.Need-returns Inv-loop μ-loop
 returns c =
     let l = c .before .before .before .before .before .loop in
-    let s = c .before .before .before .before .before .before .before .before .before in
+    let s = c .before .before .before .before .before .before .before .before in
     let t = c .before .before .before .before .before .before .full-count .ensures .0 in
     line-last (s .args .g) (s .args .base .now) (l .a) (l .inv .1) (c .before .before .before .before .before .before .full-count .result) (l .counts) (omega arith) t (l .inv .2) (c .before .before .sync-line .ensures)
 
@@ -118,15 +112,12 @@ picture-lines-spec =
     (tie.spec
     Inv-loop
     μ-loop
-    cast-width
     full-count-requires
     loop-holds
     answer-at-requires
     count-requires
-    rem-macroblock-line
-    cast-macroblock-line
-    div-macroblock-line
-    cast-macroblock-line-2
+    column-at-requires
+    row-at-requires
     macroblock-line-requires
     add-a
     loop-less

@@ -1,5 +1,6 @@
 -- `picture::accepted_picture` meets its contract. Assumes nothing.
-use Rattle.picture.proofs.Stages.{wrong-base, wrong-output, wrong-record, all-right, all-checked}
+use Rattle.picture.proofs.Stages.{wrong-base, wrong-output, wrong-record, all-right}
+use Rattle.records.proofs.Addresses.{all-checked}
 use Rattle.definitions.proofs.RecordLists.{all-formed, index-member}
 use Rattle.definitions.specs.Refusals.{verdictOf, recordTests, allAddresses}
 use Rattle.definitions.specs.Record.{recordWords, narrow}

@@ -13,7 +13,10 @@ use Rattle.definitions.proofs.Demand.{made-length}
 use Rattle.definitions.proofs.Parts.{parts, parts-none, parts-all, part-back}
 use Rattle.macroblock.specs.Made.{readOf}
 use Rattle.picture.specs.Reads.{noRead}
-use Rattle.picture.proofs.Filling.{row-below, makeable, made-there, counts-none, counts-next, counts-low, words-of}
+use Rattle.common.proofs.Located.{row-below}
+use Rattle.common.proofs.Counted.{counts-none, counts-next, counts-low}
+use Rattle.upsample.proofs.Addresses.{makeable, made-there}
+use Rattle.picture.proofs.Filling.{words-of}
 use borrow.Author.Needs.{needs}
 use Rattle.picture.proofs.fill.Statement.{statement}
 use Rattle.picture.proofs.fill.Tie as tie

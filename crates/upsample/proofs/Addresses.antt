@@ -1,0 +1,30 @@
+-- What is made of the macroblock at an address of the picture, by the readings of its two axes. Assumes nothing.
+use Prim.Native.Nat.{ℕ, _+_, _*_, _<_}
+use mathlib.Core.Path.{_≡_, sym, subst, _∙_}
+use mathlib.Core.List.{List, List·Memᴰ}
+use native.Mathlib.Omega.{arith}
+use lib.IntN.{ℤ}
+use Rattle.definitions.specs.declared.Axes.{Axes}
+use Rattle.definitions.specs.Geometry.{fullSize, macroblocks}
+use Rattle.definitions.specs.Record.{narrow}
+use Rattle.definitions.specs.Answer.{madeOf}
+use Rattle.definitions.specs.Calls.{madeAt}
+use Rattle.common.specs.Bases.{BaseFormed}
+use Rattle.common.proofs.Located.{its-column, its-row}
+use Rattle.macroblock.specs.declared.AxisRead.{AxisRead}
+use Rattle.macroblock.specs.Made.{readOf, madeBy, Makeable}
+use Rattle.macroblock.proofs.Paper.{placed-by}
+use Rattle.upsample.proofs.Readiness.{Known, known-of}
+
+module _ (g : Axes) (address column row : ℕ) (c : column < macroblocks (fullSize (g .horizontal))) (is : row * macroblocks (fullSize (g .horizontal)) + column ≡ address) where
+  module _ (base : List ℤ) (f : BaseFormed narrow g base) (h v : AxisRead) (p : h ≡ readOf (g .horizontal) column) (q : v ≡ readOf (g .vertical) row) where
+    known : Known g base (f .right) column row h v
+    known = known-of g base (f .right) column row h v p q
+
+    pub makeable : Makeable g h v base
+    makeable t =
+        known .made-ready t (λ a m. f .formed a (omega (arith, known .named-below t a (subst (List·Memᴰ a) (known .named t) m) .0, f .right .base-length)))
+
+    pub made-there : madeBy g h v base ≡ madeAt g base address
+    unfolding madeAt
+    made-there = (λ i. madeBy g (p i) (q i) base) ∙ (sym (placed-by g column row base) ∙ (λ i. madeOf g base (sym (its-column g address column row c is) i) (sym (its-row g address column row c is) i)))
