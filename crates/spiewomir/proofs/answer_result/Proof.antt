@@ -1,59 +1,82 @@
 -- `spiewomir::answer_result` meets its contract. Assumes nothing.
-use Rattle.spiewomir.specs.Results.{answered, answerResult}
-use mathlib.Core.Path.{sym, ap, _∙_}
+use Prim.Native.Nat.{ℕ}
+use mathlib.Core.Path.{ap, _∙_}
+use mathlib.Core.List.{List}
+use lib.ListN.{getD}
+use Rattle.definitions.specs.declared.Origin.{Origin}
+use Rattle.spiewomir.specs.Results.{classNumber}
 use borrow.Author.Needs.{needs}
 use Rattle.spiewomir.proofs.answer_result.Statement.{statement}
 use Rattle.spiewomir.proofs.answer_result.Tie as tie
 
-enum-told : tie.Need-enum-told
-enum-told c = search needs
+sub-types-of-requires : tie.Need-sub-types-of-requires
+sub-types-of-requires c κs = search needs
 
-named-result-requires : tie.Need-named-result-requires
-named-result-requires c κs = search needs
+origin-of-requires : tie.Need-origin-of-requires
+origin-of-requires c κs = search needs
 
-enum-known-a : tie.Need-enum-known-a
-enum-known-a c = search needs
+answer-type-requires : tie.Need-answer-type-requires
+answer-type-requires c κs = search needs
 
-named-result-requires-2 : tie.Need-named-result-requires-2
-named-result-requires-2 c κs = search needs
+wide-requires : tie.Need-wide-requires
+wide-requires c κs = search needs
 
-enum-known-a-2 : tie.Need-enum-known-a-2
-enum-known-a-2 c = search needs
+array-read-wide : tie.Need-array-read-wide
+array-read-wide c = search needs
 
-type-number-requires : tie.Need-type-number-requires
-type-number-requires c κs = search needs
+wide-requires-2 : tie.Need-wide-requires-2
+wide-requires-2 c κs = search needs
 
-sub-types-requires : tie.Need-sub-types-requires
-sub-types-requires c κs = search needs
+array-read-wide-2 : tie.Need-array-read-wide-2
+array-read-wide-2 c = search needs
 
-named-result-requires-3 : tie.Need-named-result-requires-3
-named-result-requires-3 c κs = search needs
+wide-requires-3 : tie.Need-wide-requires-3
+wide-requires-3 c κs = search needs
+
+array-read-wide-3 : tie.Need-array-read-wide-3
+array-read-wide-3 c = search needs
+
+wide-requires-4 : tie.Need-wide-requires-4
+wide-requires-4 c κs = search needs
+
+array-read-wide-4 : tie.Need-array-read-wide-4
+array-read-wide-4 c = search needs
+
+wide-requires-5 : tie.Need-wide-requires-5
+wide-requires-5 c κs = search needs
+
+class-number-requires : tie.Need-class-number-requires
+class-number-requires c κs = search needs
 
 returns : tie.Need-returns
-returns c = c .named-result .ensures ∙ sym (ap answerResult (c .before .enum-told .given .1))
-
-returns-2 : tie.Need-returns-2
-returns-2 c = c .named-result2 .ensures ∙ sym (ap answerResult (c .before .before .a .given .1))
-
-returns-3 : tie.Need-returns-3
-returns-3 c =
-    let n = c .before .before .before .before .a2 .given .0 .0 in
-    let t = c .before .before .type-number .ensures in
-    let s = c .before .sub-types .ensures in
-    c .named-result3 .ensures ∙ ((λ i. answered (t i) (s i) (n .class) (n .column) (n .row)) ∙ sym (ap answerResult (c .before .before .before .before .a2 .given .1)))
+returns c =
+    let w = c .before .before .before .before .before in
+    let o = w .before .before in
+    let sub = o .before .sub-types-of .ensures in
+    let origin = o .origin-of .ensures in
+    let kind = w .wide .ensures ∙ w .before .answer-type .ensures in
+    let s0 = c .before .before .before .before .wide2 .ensures ∙ ap (λ (l : List ℕ). getD l 0 0) sub in
+    let s1 = c .before .before .before .wide3 .ensures ∙ ap (λ (l : List ℕ). getD l 1 0) sub in
+    let s2 = c .before .before .wide4 .ensures ∙ ap (λ (l : List ℕ). getD l 2 0) sub in
+    let s3 = c .before .wide5 .ensures ∙ ap (λ (l : List ℕ). getD l 3 0) sub in
+    let class = c .class-number .ensures ∙ ap (λ (x : Origin). classNumber (x .class)) origin in
+    λ i. record { refusal = 0; place = 0; rule = 0; kind = kind i; sub0 = s0 i; sub1 = s1 i; sub2 = s2 i; sub3 = s3 i; class = class i; column = origin i .column; row = origin i .row }
 
 pub answer-result-spec : {M : Type 1} → statement M
 answer-result-spec =
     tie.close
     (tie.spec
-    enum-told
-    named-result-requires
-    enum-known-a
-    named-result-requires-2
-    enum-known-a-2
-    type-number-requires
-    sub-types-requires
-    named-result-requires-3
-    returns
-    returns-2
-    returns-3)
+    sub-types-of-requires
+    origin-of-requires
+    answer-type-requires
+    wide-requires
+    array-read-wide
+    wide-requires-2
+    array-read-wide-2
+    wide-requires-3
+    array-read-wide-3
+    wide-requires-4
+    array-read-wide-4
+    wide-requires-5
+    class-number-requires
+    returns)

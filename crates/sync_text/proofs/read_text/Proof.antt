@@ -48,15 +48,15 @@ store-records-requires c κs =
 enum-known-t-2 : tie.Need-enum-known-t-2
 enum-known-t-2 c = search needs
 
-cast-refused : tie.Need-cast-refused
-cast-refused c =
+cast-refused-at : tie.Need-cast-refused-at
+cast-refused-at c =
     let j = rw (c .before .t2 .given .1) at (c .before .before .before .judge .ensures) in
     let l = c .before .before .before .before .if2 .left in
     let w = j .within in
     search needs
 
-refused-requires-4 : tie.Need-refused-requires-4
-refused-requires-4 c κs = search needs
+refused-at-requires : tie.Need-refused-at-requires
+refused-at-requires c κs = search needs
 
 same-length : tie.Need-same-length
 same-length c = search needs
@@ -74,7 +74,7 @@ returns-5 c =
     let j = rw (c .before .before .t2 .given .1) at (c .before .before .before .before .judge .ensures) in
     let e = c .before .before .before .before .before .before .if1 .left in
     let l = c .before .before .before .before .before .if2 .left in
-    rw (c .refused4 .ensures) (answered (refused e (broken l j)))
+    rw (c .refused-at .ensures) (answered (refused e (broken l j)))
 
 pub read-text-spec : {M : Type 1} → statement M
 read-text-spec =
@@ -91,8 +91,8 @@ read-text-spec =
     cast-count
     store-records-requires
     enum-known-t-2
-    cast-refused
-    refused-requires-4
+    cast-refused-at
+    refused-at-requires
     same-length
     returns-4
     returns-5)
