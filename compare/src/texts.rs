@@ -283,13 +283,13 @@ pub fn edges(calls: &mut Calls) {
     }
 }
 
-/// Lists to depth 10 in notes at every place for a note, closed or not, with
+/// Lists to depth 10 in notes wherever a note may stand, closed or not, with
 /// an item or nothing in the innermost.
 pub fn depths(calls: &mut Calls) {
     let texts = &mut Texts::new(calls);
     let lines: Vec<&str> = WHOLE_CASE.split_inclusive('\n').collect();
-    for place in 0..=lines.len() {
-        let (before, after) = (lines[..place].concat(), lines[place..].concat());
+    for at in 0..=lines.len() {
+        let (before, after) = (lines[..at].concat(), lines[at..].concat());
         for depth in 1..=10 {
             let open = "(".repeat(depth - 1);
             for inner in ["", "a", "-1", "a 0", "a ", " a", "A", "32768", "()"] {
