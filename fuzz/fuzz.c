@@ -7,7 +7,7 @@
  * input: a refused call leaves every lent word and byte, and what is only read stays;
  * a text's log, its picture, its macroblocks one by one and its session say the same;
  * an answer says what its record says, and names base macroblocks that are there. The
- * last line tells how many inputs were tried and how often each refusal came; the exit
+ * last line says how many inputs were tried and how often each refusal came; the exit
  * status is 0 if all held. */
 #define _DEFAULT_SOURCE
 #include "spiewomir.h"

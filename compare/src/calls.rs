@@ -2,8 +2,8 @@
 
 use crate::coverage::{map_row, Counts, Coverage, Inside};
 use crate::lent::Lent;
-use crate::sessions::Happened;
-use crate::texts::Met;
+use crate::session_coverage::SessionCoverage;
+use crate::text_coverage::TextCoverage;
 use compare::generate::{library, Eight};
 use second::geometry::{Axis, Geometry};
 use second::map::{reading, Reading};
@@ -21,16 +21,18 @@ const SHOWN: u64 = 20;
 
 pub struct Calls {
     pub coverage: Coverage,
-    /// What happened in sessions.
-    pub happened: Happened,
-    /// What happened to texts.
-    pub met: Met,
+    pub session_coverage: SessionCoverage,
+    pub text_coverage: TextCoverage,
     /// What is being tried, for messages.
     pub at: String,
+    /// How many of each were made.
     pub pictures: u64,
     pub singles: u64,
     pub sessions: u64,
+    pub texts: u64,
+    /// Written words and bytes of logs that were compared.
     pub words: u64,
+    pub log_bytes: u64,
     pub differences: u64,
 }
 
@@ -175,13 +177,15 @@ impl Calls {
     pub fn new() -> Calls {
         Calls {
             coverage: Coverage::new(),
-            happened: Happened::default(),
-            met: Met::default(),
+            session_coverage: SessionCoverage::default(),
+            text_coverage: TextCoverage::default(),
             at: String::new(),
             pictures: 0,
             singles: 0,
             sessions: 0,
+            texts: 0,
             words: 0,
+            log_bytes: 0,
             differences: 0,
         }
     }

@@ -11,8 +11,10 @@ mod calls;
 mod coverage;
 mod lent;
 mod pictures;
+mod session_coverage;
 mod sessions;
 mod sweeps;
+mod text_coverage;
 mod texts;
 
 use calls::Calls;
@@ -29,6 +31,44 @@ const FORGED: u64 = 100_000;
 /// Random texts, each with six others made of it.
 const TEXTS: u64 = 4_000;
 
+/// Every test, a line each: its name, and what makes its calls.
+#[rustfmt::skip]
+const TESTS: [(&str, fn(&mut Calls)); 24] = [
+    ("bench example: S 2B passes, 2B + 2 is refused", sweeps::bench_scaled),
+    ("bench example: offset -8,192 passes, -8,194 is refused", sweeps::bench_offset),
+    ("each of the 259 splits", sweeps::splits),
+    ("every window of bases to 128", sweeps::windows),
+    ("windows of bases to 4096", sweeps::long_windows),
+    ("every two rows of the block map with every intra pattern", sweeps::intra_patterns),
+    ("each word of a record at every limit", sweeps::words),
+    ("each number of a geometry at every limit", sweeps::numbers),
+    ("every set of faults in the order of their refusals", sweeps::faults),
+    ("large pictures", pictures::large),
+    ("random pictures", |calls| numbered(calls, "random picture", PICTURES, pictures::random)),
+    ("random lists of session calls", |calls| numbered(calls, "random list", LISTS, sessions::list)),
+    ("whole pictures made by a session", |calls| sessions::pictures(calls, SESSION_PICTURES)),
+    ("sessions that no list of calls makes", |calls| numbered(calls, "forged session", FORGED, sessions::forged)),
+    ("texts with a byte replaced", texts::replaced),
+    ("texts with bytes or lines removed, doubled, moved, or ended early", texts::moved),
+    ("texts with each number at the edges of its range", texts::edges),
+    ("texts with lists to depth 10", texts::depths),
+    ("texts of 98 to 101 record lines", texts::counts),
+    ("texts of 65,535 to 65,537 bytes", texts::lengths),
+    ("texts with words and bytes of wrong length lent", texts::buffers),
+    ("texts with a geometry's numbers at their limits", texts::numbers_at_limits),
+    ("texts of the largest pictures", texts::largest),
+    ("random texts", |calls| texts::random(calls, TEXTS)),
+];
+
+/// A test made for each number below `count`.
+fn numbered(calls: &mut Calls, name: &str, count: u64, test: fn(&mut Calls, u64)) {
+    for number in 0..count {
+        calls.at = format!("{name} {number}");
+        test(calls, number);
+    }
+    println!("{count} {name}s");
+}
+
 /// Counts each test as passed or failed.
 struct Tests {
     calls: Calls,
@@ -44,7 +84,7 @@ impl Tests {
                 (calls.pictures, "picture calls"),
                 (calls.singles, "one-macroblock calls"),
                 (calls.sessions, "session calls"),
-                (calls.met.texts, "texts"),
+                (calls.texts, "texts"),
             ]
         };
         let (before, differences) = (made(&self.calls), self.calls.differences);
@@ -92,83 +132,20 @@ fn again(tests: &mut Tests, number: &str) {
 }
 
 fn everything(tests: &mut Tests) {
-    tests.compare(
-        "bench example: S 2B passes, 2B + 2 is refused",
-        sweeps::bench_scaled,
-    );
-    tests.compare(
-        "bench example: offset -8,192 passes, -8,194 is refused",
-        sweeps::bench_offset,
-    );
-    tests.compare("each of the 259 splits", sweeps::splits);
-    tests.compare("every window of bases to 128", sweeps::windows);
-    tests.compare("windows of bases to 4096", sweeps::long_windows);
-    tests.compare(
-        "every two rows of the block map with every intra pattern",
-        sweeps::intra_patterns,
-    );
-    tests.compare("each word of a record at every limit", sweeps::words);
-    tests.compare("each number of a geometry at every limit", sweeps::numbers);
-    tests.compare(
-        "every set of faults in the order of their refusals",
-        sweeps::faults,
-    );
-    tests.compare("large pictures", pictures::large);
-    tests.compare("random pictures", |calls| {
-        for number in 0..PICTURES {
-            calls.at = format!("random picture {number}");
-            pictures::random(calls, number);
-        }
-        println!("{PICTURES} random pictures");
-    });
-    tests.compare("random lists of session calls", |calls| {
-        for number in 0..LISTS {
-            calls.at = format!("list {number} of session calls");
-            sessions::list(calls, number);
-        }
-        println!("{LISTS} lists");
-    });
-    tests.compare("whole pictures made by a session", |calls| {
-        sessions::pictures(calls, SESSION_PICTURES);
-    });
-    tests.compare("sessions that no list of calls makes", |calls| {
-        for number in 0..FORGED {
-            calls.at = format!("forged session {number}");
-            sessions::forged(calls, number);
-        }
-    });
-    tests.compare("texts with a byte replaced", texts::replaced);
-    tests.compare(
-        "texts with bytes or lines removed, doubled, moved, or ended early",
-        texts::moved,
-    );
-    tests.compare(
-        "texts with each number at the edges of its range",
-        texts::edges,
-    );
-    tests.compare("texts with lists to depth 10", texts::depths);
-    tests.compare("texts of 98 to 101 record lines", texts::counts);
-    tests.compare("texts of 65,535 to 65,537 bytes", texts::lengths);
-    tests.compare(
-        "texts with words and bytes of wrong length lent",
-        texts::buffers,
-    );
-    tests.compare(
-        "texts with a geometry's numbers at their limits",
-        texts::numbers_at_limits,
-    );
-    tests.compare("texts of the largest pictures", texts::largest);
-    tests.compare("random texts", |calls| texts::random(calls, TEXTS));
+    for (name, test) in TESTS {
+        tests.compare(name, test);
+    }
 
     println!();
     println!("Coverage, in calls that were compared:");
-    for (name, good) in tests.calls.coverage.report() {
-        tests.verdict(name, good);
-    }
-    for (name, good) in tests.calls.happened.report() {
-        tests.verdict(name, good);
-    }
-    for (name, good) in tests.calls.met.report() {
+    let calls = &tests.calls;
+    let tables = [
+        &calls.coverage.report()[..],
+        &calls.session_coverage.report(),
+        &calls.text_coverage.report(),
+    ]
+    .concat();
+    for (name, good) in tables {
         tests.verdict(name, good);
     }
     println!();
@@ -178,9 +155,9 @@ fn everything(tests: &mut Tests) {
         calls.pictures,
         calls.singles,
         calls.sessions,
-        calls.met.texts,
+        calls.texts,
         calls.words,
-        calls.met.log_bytes,
+        calls.log_bytes,
         calls.differences
     );
 }

@@ -10,18 +10,19 @@ use second::geometry::Geometry;
 use second::map::reading;
 use second::{Numbers, WORDS};
 
-type Place = (i32, i32);
+/// Column and row of a macroblock.
+type Position = (i32, i32);
 
-/// All places of a picture in raster order.
-pub fn places(eight: &Eight) -> Vec<Place> {
+/// All positions of a picture in raster order.
+pub fn positions(eight: &Eight) -> Vec<Position> {
     let (columns, rows) = (eight[6] / 16, eight[7] / 16);
     (0..rows)
         .flat_map(|row| (0..columns).map(move |column| (column, row)))
         .collect()
 }
 
-/// A place of the picture; if it is outside the window, a second try is made.
-fn random_place(random: &mut Random, eight: &Eight) -> Place {
+/// A position of the picture; if it is outside the window, a second try is made.
+fn random_position(random: &mut Random, eight: &Eight) -> Position {
     let mut any = || {
         (
             random.within(0, eight[6] / 16 - 1),
@@ -37,8 +38,8 @@ fn random_place(random: &mut Random, eight: &Eight) -> Place {
 }
 
 /// The picture call on what must be accepted, and the one-macroblock call for
-/// some places, whose words must be the picture's.
-pub fn whole_and_single(calls: &mut Calls, eight: &Eight, base: &Lent, singly: &[Place]) {
+/// some positions, whose words must be the picture's.
+pub fn whole_and_single(calls: &mut Calls, eight: &Eight, base: &Lent, singly: &[Position]) {
     match calls.picture(eight, base, full_macroblocks(eight) * WORDS) {
         Err(number) => calls.differs(|| format!("picture {eight:?}: refused by {number}")),
         Ok(words) => {
@@ -56,7 +57,7 @@ pub fn whole_and_single(calls: &mut Calls, eight: &Eight, base: &Lent, singly: &
 }
 
 /// The addresses of the base records that a macroblock reads.
-fn named(eight: &Eight, (column, row): Place) -> Vec<usize> {
+fn named(eight: &Eight, (column, row): Position) -> Vec<usize> {
     let geometry = Geometry::new(Numbers::from_array(*eight)).expect("accepted");
     let (x, y) = match (
         reading(&geometry.x, column as usize),
@@ -105,9 +106,9 @@ pub fn random(calls: &mut Calls, number: u64) {
     let lent = Lent::of(&base);
     let macroblocks = full_macroblocks(&eight);
     let sample = if macroblocks <= 10 || (macroblocks <= 256 && random.one_in(16)) {
-        places(&eight)
+        positions(&eight)
     } else {
-        (0..8).map(|_| random_place(random, &eight)).collect()
+        (0..8).map(|_| random_position(random, &eight)).collect()
     };
     whole_and_single(calls, &eight, &lent, &sample);
     malformed(calls, random, &eight, &base, &sample);
@@ -124,13 +125,13 @@ fn malformed(
     random: &mut Random,
     eight: &Eight,
     base: &[i16],
-    sample: &[Place],
+    sample: &[Position],
 ) {
     let (base, broken) = with_broken_records(random, base);
     let lent = Lent::of(&base);
     let _ = calls.picture(eight, &lent, full_macroblocks(eight) * WORDS);
-    for &place in sample {
-        let _ = calls.single(eight, &lent, place, WORDS, &broken);
+    for &position in sample {
+        let _ = calls.single(eight, &lent, position, WORDS, &broken);
     }
 }
 
@@ -150,29 +151,29 @@ fn with_broken_records(random: &mut Random, base: &[i16]) -> (Vec<i16>, Vec<usiz
 /// Every record but those that one macroblock names is overwritten with any
 /// words: its answer and words stay.
 fn not_named(calls: &mut Calls, random: &mut Random, eight: &Eight, base: &[i16]) {
-    let place = random_place(random, eight);
-    let before = calls.single(eight, &Lent::of(base), place, WORDS, &[]);
-    let named = named(eight, place);
+    let position = random_position(random, eight);
+    let before = calls.single(eight, &Lent::of(base), position, WORDS, &[]);
+    let named = named(eight, position);
     let mut other = base.to_vec();
     for (address, record) in other.chunks_mut(WORDS).enumerate() {
         if !named.contains(&address) {
             record.iter_mut().for_each(|word| *word = random.word());
         }
     }
-    let after = calls.single(eight, &Lent::of(&other), place, WORDS, &[]);
+    let after = calls.single(eight, &Lent::of(&other), position, WORDS, &[]);
     if before != after {
         calls.differs(|| {
-            format!("macroblock {place:?} of {eight:?}: records not named change the words")
+            format!("macroblock {position:?} of {eight:?}: records not named change the words")
         });
     }
 }
 
-/// Some of: numbers of the geometry, lengths and place wrong, a record broken.
+/// Some of: numbers of the geometry, lengths and position wrong, a record broken.
 fn refused(calls: &mut Calls, random: &mut Random, eight: &Eight, base: &[i16]) {
     let mut eight = *eight;
     let (mut base, mut broken) = (base.to_vec(), Vec::new());
     let (mut single_length, mut picture_length) = (WORDS, full_macroblocks(&eight) * WORDS);
-    let mut place = random_place(random, &eight);
+    let mut position = random_position(random, &eight);
     let faults = 1 + random.below(31);
     if faults & 1 != 0 {
         let made = with_broken_records(random, &base);
@@ -192,9 +193,9 @@ fn refused(calls: &mut Calls, random: &mut Random, eight: &Eight, base: &[i16]) 
         ]);
         let beside = [eight[6] / 16, eight[7] / 16, -1, far];
         match random.below(3) {
-            0 => place.0 = random.pick(&beside),
-            1 => place.1 = random.pick(&beside),
-            _ => place = (random.pick(&beside), random.pick(&beside)),
+            0 => position.0 = random.pick(&beside),
+            1 => position.1 = random.pick(&beside),
+            _ => position = (random.pick(&beside), random.pick(&beside)),
         }
     }
     if faults & 4 != 0 {
@@ -224,7 +225,7 @@ fn refused(calls: &mut Calls, random: &mut Random, eight: &Eight, base: &[i16]) 
     }
     let lent = Lent::of(&base);
     let _ = calls.picture(&eight, &lent, picture_length);
-    let _ = calls.single(&eight, &lent, place, single_length, &broken);
+    let _ = calls.single(&eight, &lent, position, single_length, &broken);
 }
 
 fn wrong_length(random: &mut Random, length: usize) -> usize {
@@ -255,7 +256,7 @@ pub fn large(calls: &mut Calls) {
         let random = &mut Random::new(number as u64);
         let mood = Mood::mixed(random);
         let base = Lent::of(&mood.base(random, base_macroblocks(eight)));
-        let mut sample: Vec<Place> = (0..100).map(|_| random_place(random, eight)).collect();
+        let mut sample: Vec<Position> = (0..100).map(|_| random_position(random, eight)).collect();
         sample.extend([(0, 0), (255, 0), (0, 255), (255, 255)]);
         whole_and_single(calls, eight, &base, &sample);
     }

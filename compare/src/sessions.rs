@@ -2,90 +2,13 @@
 //! against the picture call, and session values that no list of calls makes.
 
 use crate::calls::{answered, macroblock_numbers, same_answer, Calls, FILL, FILL_SECOND};
-use crate::coverage::line;
 use crate::lent::Lent;
+use crate::session_coverage::sort;
 use compare::generate::{base_macroblocks, break_record, full_macroblocks, library, Eight, Mood};
 use compare::random::Random;
 use second::geometry::Geometry;
 use second::{Numbers, WORDS};
 use spiewomir::numbers;
-
-/// How often what can happen did happen, in session calls that were compared.
-/// Refusals are counted by their number, accepted calls under 0.
-#[derive(Default)]
-pub struct Happened {
-    begin: [u64; 23],
-    next: [u64; 23],
-    abandon: [u64; 23],
-    /// Rules of refusal 8.
-    rules: [u64; 7],
-    /// Accepted next calls: inherited, intra, outside.
-    sorts: [u64; 3],
-    forged: [u64; 7],
-}
-
-/// What a forged session can be.
-const FORGED: [&str; 7] = [
-    "not begun, rest not 0",
-    "begun not 0 or 1",
-    "geometry refused",
-    "too many counted",
-    "sum above 2^32",
-    "as if unfinished",
-    "as if finished",
-];
-
-impl Happened {
-    /// Prints the tables. For each, its name and whether everything that it
-    /// lists did happen.
-    pub fn report(&self) -> [(&'static str, bool); 3] {
-        println!("session calls by refusal (0: accepted): begin, next, abandon");
-        let mut refusals = true;
-        for number in (0..9).chain(20..23) {
-            let counts = [self.begin[number], self.next[number], self.abandon[number]];
-            let possible = [
-                matches!(number, 0..=4 | 22),
-                matches!(number, 0 | 5 | 6 | 8 | 20 | 21),
-                matches!(number, 0 | 20 | 21),
-            ];
-            line(&number.to_string(), &counts);
-            refusals &= (0..3).all(|call| (counts[call] > 0) == possible[call]);
-        }
-        println!("rule that refusal 8 gives in a session");
-        for rule in 1..7 {
-            line(&rule.to_string(), &[self.rules[rule]]);
-            refusals &= self.rules[rule] > 0;
-        }
-        println!("accepted next calls by sort");
-        for (name, &count) in ["inherited", "intra", "outside"].iter().zip(&self.sorts) {
-            line(name, &[count]);
-        }
-        println!("forged sessions");
-        for (name, &count) in FORGED.iter().zip(&self.forged) {
-            line(name, &[count]);
-        }
-        [
-            ("each refusal of each session call", refusals),
-            (
-                "each sort of answer in sessions",
-                self.sorts.iter().all(|&count| count > 0),
-            ),
-            (
-                "each sort of forged session",
-                self.forged.iter().all(|&count| count > 0),
-            ),
-        ]
-    }
-}
-
-/// The sort of an accepted answer by its kind: inherited, intra, outside.
-fn sort(kind: u32) -> usize {
-    match kind {
-        0 => 1,
-        5 => 2,
-        _ => 0,
-    }
-}
 
 /// A geometry of few macroblocks.
 fn small(random: &mut Random) -> Eight {
@@ -214,7 +137,7 @@ impl Both {
             wrapped,
             second,
         );
-        calls.happened.begin[number as usize] += 1;
+        calls.session_coverage.begin(number);
         number == 0
     }
 
@@ -223,7 +146,7 @@ impl Both {
         let wrapped = self.wrapped.abandon();
         let second = self.second.clone().abandon();
         let number = self.judged(calls, || "abandon".to_string(), judged, wrapped, second);
-        calls.happened.abandon[number as usize] += 1;
+        calls.session_coverage.abandon(number);
     }
 
     /// The words that were written, or the number of the refusal.
@@ -256,14 +179,9 @@ impl Both {
         if result.is_err() && advanced.session != self.library {
             calls.differs(|| format!("{}: refused, but the session changed", call()));
         }
-        calls.happened.next[numbers.refusal as usize] += 1;
-        match numbers.refusal {
-            0 => {
-                self.since[sort(numbers.kind)] += 1;
-                calls.happened.sorts[sort(numbers.kind)] += 1;
-            }
-            8 => calls.happened.rules[numbers.rule as usize] += 1,
-            _ => {}
+        calls.session_coverage.next(&numbers);
+        if numbers.refusal == 0 {
+            self.since[sort(numbers.kind)] += 1;
         }
         self.library = advanced.session;
         self.wrapped = wrapped.0;
@@ -414,14 +332,15 @@ pub fn forged(calls: &mut Calls, number: u64) {
     };
     let stands = session.begun == 1 && accepted && sum <= real;
     let (unfinished, finished) = (stands && sum < real, stands && sum == real);
-    let happened = &mut calls.happened.forged;
-    happened[0] += (session.begun == 0 && sum > 0) as u64;
-    happened[1] += (session.begun > 1) as u64;
-    happened[2] += (session.begun == 1 && !accepted) as u64;
-    happened[3] += (session.begun == 1 && accepted && sum > real) as u64;
-    happened[4] += (session.begun == 1 && accepted && sum > u32::MAX as u64) as u64;
-    happened[5] += unfinished as u64;
-    happened[6] += finished as u64;
+    calls.session_coverage.forged([
+        session.begun == 0 && sum > 0,
+        session.begun > 1,
+        session.begun == 1 && !accepted,
+        session.begun == 1 && accepted && sum > real,
+        session.begun == 1 && accepted && sum > u32::MAX as u64,
+        unfinished,
+        finished,
+    ]);
     let onward = match (unfinished, finished) {
         (true, _) => 0,
         (_, true) => 21,

@@ -3,7 +3,7 @@
 use crate::calls::Calls;
 use crate::coverage::map_row;
 use crate::lent::Lent;
-use crate::pictures::{places, whole_and_single};
+use crate::pictures::{positions, whole_and_single};
 use compare::generate::{base_macroblocks, distinct, full_macroblocks, intra, Eight, Mood, Record};
 use compare::random::Random;
 use second::geometry::{Axis, Geometry};
@@ -165,7 +165,7 @@ pub fn long_windows(calls: &mut Calls) {
         let offset = -2 * random.within(0, (scaled - 16) / 2);
         let lent = Lent::of(&words[..base as usize / 16 * WORDS]);
         let full = 16 * random.within(1, 256);
-        // A place inside the window, if the picture has it.
+        // A position inside the window, if the picture has it.
         let inside = random
             .within(0, (scaled + offset) / 16 - 1)
             .min(full / 16 - 1)
@@ -283,8 +283,8 @@ pub fn numbers(calls: &mut Calls) {
                     if accepted && base_macroblocks(&eight).max(full_macroblocks(&eight)) <= 768 {
                         let mood = Mood::mixed(random);
                         let base = Lent::of(&mood.base(random, base_macroblocks(&eight)));
-                        let places = places(&eight);
-                        let some = [random.pick(&places), random.pick(&places)];
+                        let positions = positions(&eight);
+                        let some = [random.pick(&positions), random.pick(&positions)];
                         whole_and_single(calls, &eight, &base, &some);
                     }
                 }
@@ -313,19 +313,19 @@ pub fn faults(calls: &mut Calls) {
             }
             let base = Lent::of(&base);
             let off = has(6) as usize;
-            let place = match (has(7), axis) {
+            let position = match (has(7), axis) {
                 (false, _) => (1, 1),
                 (true, 0) => (3, 1),
                 (true, _) => (1, -1),
             };
             let picture = calls.picture(&eight, &base, 9 * WORDS - off);
-            let single = calls.single(&eight, &base, place, WORDS - off, &[]);
+            let single = calls.single(&eight, &base, position, WORDS - off, &[]);
             let lowest = |not: u32| {
                 (1..=8)
                     .find(|&number| number != not && has(number))
                     .unwrap_or(0)
             };
-            // A picture has no place to judge by 7.
+            // A picture has no position to judge by 7.
             for (found, number) in [(picture, lowest(7)), (single, lowest(0))] {
                 let found = found.err().unwrap_or(0);
                 if found != number {

@@ -23,13 +23,13 @@ pub fn head(eight: &Eight) -> [String; 4] {
     ]
 }
 
-fn parted(words: &[i16]) -> String {
+fn spaced(words: &[i16]) -> String {
     let words: Vec<String> = words.iter().map(|word| word.to_string()).collect();
     words.join(" ")
 }
 
 pub fn whole(references: &[i16], vectors: &[i16]) -> String {
-    format!("(whole ({}) ({}))\n", parted(references), parted(vectors))
+    format!("(whole ({}) ({}))\n", spaced(references), spaced(vectors))
 }
 
 pub fn mb(record: &[i16]) -> String {
@@ -37,9 +37,9 @@ pub fn mb(record: &[i16]) -> String {
     format!(
         "(mb {} ({}) ({}) ({}))\n",
         record[0],
-        parted(subs),
-        parted(references),
-        parted(vectors)
+        spaced(subs),
+        spaced(references),
+        spaced(vectors)
     )
 }
 

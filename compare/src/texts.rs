@@ -10,7 +10,7 @@ use compare::sync::{
 };
 use second::{TEXT_WORDS, WORDS};
 use spiewomir::numbers;
-use spiewomir::{LOG_BYTES, TEXT_BYTES};
+use spiewomir::LOG_BYTES;
 
 /// What the bytes for the log hold before a call. No log has such a byte.
 const FILL_BYTE: u8 = 0xc3;
@@ -61,125 +61,6 @@ const LIMITS: [i32; 20] = [
 
 const WHOLE_CASE: &str =
     "(base 16 16)\n(scaled 32 32)\n(at 0 0)\n(full 48 32)\n(whole (0 -1) (4 -8 0 0))\n";
-
-/// How often what can happen to a text did happen.
-#[derive(Default)]
-pub struct Met {
-    pub texts: u64,
-    pub log_bytes: u64,
-    /// Of the text call: read, then its refusals.
-    text: [u64; 6],
-    /// Refusals of the log: 1 to 5, 8, then those of the text, and 6.
-    log: [u64; 12],
-    /// Lines of texts that were read.
-    forms: [u64; 4],
-    /// Lines of logs by the type of their macroblock.
-    types: [u64; 6],
-}
-
-const TEXT_MET: [&str; 6] = [
-    "read",
-    "6",
-    "10 by length",
-    "9 within",
-    "9 at the end",
-    "10 by lines",
-];
-const LOG_MET: [&str; 12] = [
-    "made",
-    "1",
-    "2",
-    "3",
-    "4",
-    "5",
-    "6",
-    "8",
-    "10 by length",
-    "9 within",
-    "9 at the end",
-    "10 by lines",
-];
-const FORMS: [&str; 4] = ["(intra)", "(whole ..)", "(mb ..)", "(note ..)"];
-const TYPES: [&str; 6] = ["0", "1", "2", "3", "4", "5"];
-
-impl Met {
-    /// Prints the tables. For each, its name and whether everything that it
-    /// lists did happen.
-    pub fn report(&self) -> [(&'static str, bool); 4] {
-        [
-            (
-                "each refusal of the text call",
-                print("text call", &TEXT_MET, &self.text),
-            ),
-            ("each refusal of the log", print("log", &LOG_MET, &self.log)),
-            (
-                "each form of a line in texts that are read",
-                print("lines of texts that are read", &FORMS, &self.forms),
-            ),
-            (
-                "each type of macroblock in logs",
-                print("lines of logs, by type", &TYPES, &self.types),
-            ),
-        ]
-    }
-
-    /// Where refusal 9 or 10 of a text stands among the last four of a table.
-    fn by_text(number: u32, place: u32, text: &[u8]) -> usize {
-        match number {
-            10 if text.len() > TEXT_BYTES => 0,
-            9 if (place as usize) < text.len() => 1,
-            9 => 2,
-            _ => 3,
-        }
-    }
-
-    fn read(&mut self, text: &[u8]) {
-        for line in text.split(|&byte| byte == b'\n') {
-            match line.get(1) {
-                Some(b'i') => self.forms[0] += 1,
-                Some(b'w') => self.forms[1] += 1,
-                Some(b'm') => self.forms[2] += 1,
-                Some(b'n') => self.forms[3] += 1,
-                _ => {}
-            }
-        }
-    }
-
-    fn logged(&mut self, text: &[u8], log: &[u8]) {
-        self.log_bytes += log.len() as u64;
-        if let Some(refusal) = log.strip_prefix(b"(refused ") {
-            let refusal = std::str::from_utf8(refusal).expect("a line of a log");
-            let mut numbers = refusal.split([' ', ')']).map(|number| number.parse());
-            let mut next = || numbers.next().and_then(Result::ok).expect("a number");
-            let (number, place) = (next(), next());
-            let at = match number {
-                1..=5 => number as usize,
-                8 => 7,
-                _ => 8 + Met::by_text(number, place, text),
-            };
-            self.log[at] += 1;
-            return;
-        }
-        self.log[0] += 1;
-        for line in log.split(|&byte| byte == b'\n') {
-            if line.starts_with(b"(mb ") {
-                let kind = line.split(|&byte| byte == b' ').nth(3);
-                let kind = kind.and_then(|kind| kind.first()).expect("a type");
-                self.types[(kind - b'0') as usize] += 1;
-            }
-        }
-    }
-}
-
-fn print(name: &str, names: &[&str], counts: &[u64]) -> bool {
-    let cells: Vec<String> = names
-        .iter()
-        .zip(counts)
-        .map(|(name, count)| format!("{name}: {count}"))
-        .collect();
-    println!("{name}: {}", cells.join(", "));
-    counts.iter().all(|&count| count > 0)
-}
 
 /// The beginning of a text, for messages.
 fn shown(text: &[u8]) -> String {
@@ -243,7 +124,7 @@ impl Texts<'_> {
     fn compare(&mut self, text: impl AsRef<[u8]>) {
         let text = text.as_ref();
         let lent = Lent::of(text);
-        self.calls.met.texts += 1;
+        self.calls.texts += 1;
         self.text(text, &lent);
         self.log(text, &lent);
         if !lent.untouched() {
@@ -273,15 +154,7 @@ impl Texts<'_> {
         self.words.restore(written);
         self.by_second[..written].fill(FILL_SECOND);
         self.calls.words += written as u64;
-        let met = &mut self.calls.met;
-        match second.refusal {
-            0 => {
-                met.text[0] += 1;
-                met.read(text);
-            }
-            6 => met.text[1] += 1,
-            number => met.text[2 + Met::by_text(number, second.place, text)] += 1,
-        }
+        self.calls.text_coverage.text(text, &second);
     }
 
     fn log(&mut self, text: &[u8], lent: &Lent<u8>) {
@@ -295,7 +168,7 @@ impl Texts<'_> {
             if library != refused || !self.log.untouched() {
                 self.differs(text, &format!("log: library {library:?}, not refused by 6"));
             }
-            self.calls.met.log[6] += 1;
+            self.calls.text_coverage.log_refused();
             return;
         }
         let second = second::log(text);
@@ -313,7 +186,8 @@ impl Texts<'_> {
             self.differs(text, "a byte that is no log's was written");
         }
         self.log.restore(second.len());
-        self.calls.met.logged(text, &second);
+        self.calls.log_bytes += second.len() as u64;
+        self.calls.text_coverage.log(text, &second);
     }
 }
 
@@ -409,13 +283,13 @@ pub fn edges(calls: &mut Calls) {
     }
 }
 
-/// Lists to depth 10 in notes at every place for a note, closed or not, with
+/// Lists to depth 10 in notes wherever a note may stand, closed or not, with
 /// an item or nothing in the innermost.
 pub fn depths(calls: &mut Calls) {
     let texts = &mut Texts::new(calls);
     let lines: Vec<&str> = WHOLE_CASE.split_inclusive('\n').collect();
-    for place in 0..=lines.len() {
-        let (before, after) = (lines[..place].concat(), lines[place..].concat());
+    for at in 0..=lines.len() {
+        let (before, after) = (lines[..at].concat(), lines[at..].concat());
         for depth in 1..=10 {
             let open = "(".repeat(depth - 1);
             for inner in ["", "a", "-1", "a 0", "a ", " a", "A", "32768", "()"] {

@@ -76,7 +76,7 @@ static void records(void) {
     IS(p.rule, 4);
 }
 
-/* ---- kinds and sub-types: at ratio 1 the motions of the base's sixteen blocks, told apart by a digit each */
+/* ---- kinds and sub-types: at ratio 1 the motions of the base's sixteen blocks, a digit for each motion */
 static SpiewomirMacroblock split(const char *motions) {
     base[0] = 4;
     for (int i = 1; i < 5; i++) base[i] = 3;

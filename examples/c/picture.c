@@ -64,7 +64,7 @@ int main(int argc, char **argv) {
     if (p.refusal != SPIEWOMIR_ANSWERED) return refused(p.refusal, p.place, p.rule);
 
     /* one record: the words that the picture has from 77 * (row * columns + column) on. The
-     * call judges the place. */
+     * call judges column and row. */
     SpiewomirMacroblock m = spiewomir_macroblock(g, base, base_words, column, row, record, SPIEWOMIR_WORDS);
     if (m.refusal != SPIEWOMIR_ANSWERED) return refused(m.refusal, m.place, m.rule);
     printf("inherited %u intra %u outside %u\n", p.inherited, p.intra, p.outside);

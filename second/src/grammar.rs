@@ -103,7 +103,7 @@ impl Machine {
         number
     }
 
-    /// As many numbers, parted by spaces.
+    /// As many numbers, separated by spaces.
     fn numbers(&mut self, count: u32, then: State) -> State {
         let last = self.number(then);
         (1..count).fold(last, |next, _| {

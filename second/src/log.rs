@@ -13,8 +13,8 @@ fn write_line(out: &mut Vec<u8>, name: &str, numbers: &[u32]) {
     for number in numbers {
         out.push(b' ');
         let digits = number.checked_ilog10().unwrap_or(0);
-        for place in (0..=digits).rev() {
-            out.push(b'0' + (number / 10u32.pow(place) % 10) as u8);
+        for digit in (0..=digits).rev() {
+            out.push(b'0' + (number / 10u32.pow(digit) % 10) as u8);
         }
     }
     out.extend_from_slice(b")\n");

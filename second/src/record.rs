@@ -3,7 +3,7 @@
 /// Words of a record.
 pub const WORDS: usize = 77;
 
-/// Place of the first reference and of the first vector word.
+/// Index of the first reference and of the first vector word.
 pub const REFERENCES: usize = 5;
 pub const VECTORS: usize = 13;
 
@@ -60,7 +60,7 @@ pub fn write_without_motion(record: &mut Record, kind: i16) {
 
 /// The first block of the piece that block `b` lies in. A block's number has
 /// its row in bits 2 and 3 and its column in bits 0 and 1; what is kept of
-/// them here tells pieces apart.
+/// them here distinguishes the pieces.
 fn lead(record: &Record, b: usize) -> usize {
     let keep = match record[0] {
         1 => 0b0000,

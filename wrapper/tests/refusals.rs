@@ -31,70 +31,27 @@ fn is(given: Result<(), Refusal>, number: u32, said: &str) {
 
 #[test]
 fn of_records() {
+    let base = intra();
+    let mut malformed = base;
+    malformed[5] = 0;
     let at = |geometry, base: &[i16], column, out| {
         macroblock(geometry, base, column, 0, &mut vec![0; out]).map(|_| ())
     };
-    let base = intra();
     assert_eq!(at(GEOMETRY, &base, 0, WORDS), Ok(()));
-    let size = "size no multiple of 16 in 16..4096";
-    let wrong = Geometry {
-        base_width: 24,
-        ..GEOMETRY
-    };
-    is(
-        at(wrong, &base, 0, WORDS),
-        refused::BASE_SIZE,
-        &format!("base {size}"),
-    );
-    let wrong = Geometry {
-        full_height: 0,
-        ..GEOMETRY
-    };
-    is(
-        at(wrong, &base, 0, WORDS),
-        refused::FULL_SIZE,
-        &format!("full {size}"),
-    );
-    let wrong = Geometry {
-        scaled_width: 34,
-        ..GEOMETRY
-    };
-    is(
-        at(wrong, &base, 0, WORDS),
-        refused::SCALED_SIZE,
-        "scaled size odd, below the base's or above twice that",
-    );
-    let wrong = Geometry {
-        offset_y: 1,
-        ..GEOMETRY
-    };
-    is(
-        at(wrong, &base, 0, WORDS),
-        refused::OFFSET,
-        "offset odd or outside -8192..8190",
-    );
-    is(
-        at(GEOMETRY, &base[1..], 0, WORDS),
-        refused::BASE_LENGTH,
-        "base length does not fit the base picture",
-    );
-    is(
-        at(GEOMETRY, &base, 0, WORDS + 1),
-        refused::OUTPUT_LENGTH,
-        "output length is not what the call writes",
-    );
-    is(
-        at(GEOMETRY, &base, 3, WORDS),
-        refused::POSITION,
-        "column or row outside the picture",
-    );
-    let mut base = base;
-    base[5] = 0;
-    is(
-        at(GEOMETRY, &base, 0, WORDS),
-        refused::RECORD,
-        "malformed record, place 0, rule 4",
-    );
+    #[rustfmt::skip]
+    let wrong = [
+        (Geometry { base_width: 24, ..GEOMETRY }, &base[..], 0, WORDS, refused::BASE_SIZE, "base size no multiple of 16 in 16..4096"),
+        (Geometry { full_height: 0, ..GEOMETRY }, &base, 0, WORDS, refused::FULL_SIZE, "full size no multiple of 16 in 16..4096"),
+        (Geometry { scaled_width: 34, ..GEOMETRY }, &base, 0, WORDS, refused::SCALED_SIZE, "scaled size odd, below the base's or above twice that"),
+        (Geometry { offset_y: 1, ..GEOMETRY }, &base, 0, WORDS, refused::OFFSET, "offset odd or outside -8192..8190"),
+        (GEOMETRY, &base[1..], 0, WORDS, refused::BASE_LENGTH, "base length does not fit the base picture"),
+        (GEOMETRY, &base, 0, WORDS + 1, refused::OUTPUT_LENGTH, "output length is not what the call writes"),
+        (GEOMETRY, &base, 3, WORDS, refused::POSITION, "column or row outside the picture"),
+        (GEOMETRY, &malformed, 0, WORDS, refused::RECORD, "malformed record, place 0, rule 4"),
+    ];
+    for (geometry, base, column, out, number, said) in wrong {
+        is(at(geometry, base, column, out), number, said);
+    }
 }
 
 #[test]

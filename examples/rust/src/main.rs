@@ -22,22 +22,22 @@ fn picture(text: &[u8], column: i32, row: i32) -> Result<(Counts, [i16; WORDS]),
     let counts = spiewomir::picture(geometry, &base, &mut out)?;
 
     // One record: the words that the picture has from 77 * (row * columns + column)
-    // on. The call judges the place.
+    // on. The call judges column and row.
     let mut record = [0; WORDS];
     spiewomir::macroblock(geometry, &base, column, row, &mut record)?;
     Ok((counts, record))
 }
 
 /// Two arguments, each wholly a number.
-fn place() -> Option<(i32, i32)> {
+fn position() -> Option<(i32, i32)> {
     let mut arguments = std::env::args_os().skip(1);
     let mut number = || arguments.next()?.to_str()?.parse().ok();
-    let place = (number()?, number()?);
-    arguments.next().is_none().then_some(place)
+    let position = (number()?, number()?);
+    arguments.next().is_none().then_some(position)
 }
 
 fn main() -> ExitCode {
-    let Some((column, row)) = place() else {
+    let Some((column, row)) = position() else {
         eprintln!("usage: picture COLUMN ROW < TEXT");
         return ExitCode::from(2);
     };

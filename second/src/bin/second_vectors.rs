@@ -91,7 +91,7 @@ fn main() -> ExitCode {
     };
     let folder = Path::new(&folder);
     let (mut tried, mut failed) = (0, 0);
-    let mut tell = |path: &Path, result: Result<(), String>| {
+    let mut report = |path: &Path, result: Result<(), String>| {
         tried += 1;
         if let Err(what) = result {
             failed += 1;
@@ -103,10 +103,10 @@ fn main() -> ExitCode {
         let found = String::from_utf8_lossy(&second::log(&bytes)).into_owned();
         let expected = read(&path.with_extension("log"));
         let same = if found == expected { Ok(()) } else { Err(format!("found {found:?}, expected {expected:?}")) };
-        tell(&path, same);
+        report(&path, same);
     }
     for path in files(&folder.join("pictures"), "in") {
-        tell(&path, try_picture(&read(&path), &read(&path.with_extension("out"))));
+        report(&path, try_picture(&read(&path), &read(&path.with_extension("out"))));
     }
     println!("{tried} tried, {failed} differ");
     if failed == 0 && tried > 0 {

@@ -1,0 +1,140 @@
+//! How often what can happen to a text did happen, in calls that were compared.
+
+use spiewomir::numbers::Text;
+use spiewomir::TEXT_BYTES;
+
+#[derive(Default)]
+pub struct TextCoverage {
+    /// By TEXT_ANSWERS.
+    text: [u64; 6],
+    /// By LOG_ANSWERS.
+    log: [u64; 12],
+    /// Lines of texts that were read, by FORMS.
+    forms: [u64; 4],
+    /// Lines of logs by the type of their macroblock.
+    types: [u64; 6],
+}
+
+const TEXT_ANSWERS: [&str; 6] = [
+    "read",
+    "6",
+    "10 by length",
+    "9 within",
+    "9 at the end",
+    "10 by lines",
+];
+const LOG_ANSWERS: [&str; 12] = [
+    "made",
+    "1",
+    "2",
+    "3",
+    "4",
+    "5",
+    "6",
+    "8",
+    "10 by length",
+    "9 within",
+    "9 at the end",
+    "10 by lines",
+];
+const FORMS: [&str; 4] = ["(intra)", "(whole ..)", "(mb ..)", "(note ..)"];
+const TYPES: [&str; 6] = ["0", "1", "2", "3", "4", "5"];
+
+impl TextCoverage {
+    /// Prints the tables. For each, its name and whether everything that it
+    /// lists did happen.
+    pub fn report(&self) -> [(&'static str, bool); 4] {
+        [
+            (
+                "each refusal of the text call",
+                print("text call", &TEXT_ANSWERS, &self.text),
+            ),
+            (
+                "each refusal of the log",
+                print("log", &LOG_ANSWERS, &self.log),
+            ),
+            (
+                "each form of a line in texts that are read",
+                print("lines of texts that are read", &FORMS, &self.forms),
+            ),
+            (
+                "each type of macroblock in logs",
+                print("lines of logs, by type", &TYPES, &self.types),
+            ),
+        ]
+    }
+
+    /// What the text call gave.
+    pub fn text(&mut self, text: &[u8], answer: &Text) {
+        match answer.refusal {
+            0 => {
+                self.text[0] += 1;
+                self.read(text);
+            }
+            6 => self.text[1] += 1,
+            number => self.text[2 + by_text(number, answer.place, text)] += 1,
+        }
+    }
+
+    fn read(&mut self, text: &[u8]) {
+        for line in text.split(|&byte| byte == b'\n') {
+            match line.get(1) {
+                Some(b'i') => self.forms[0] += 1,
+                Some(b'w') => self.forms[1] += 1,
+                Some(b'm') => self.forms[2] += 1,
+                Some(b'n') => self.forms[3] += 1,
+                _ => {}
+            }
+        }
+    }
+
+    /// The log call was refused for the bytes lent to it.
+    pub fn log_refused(&mut self) {
+        self.log[6] += 1;
+    }
+
+    /// The log that was made of a text.
+    pub fn log(&mut self, text: &[u8], log: &[u8]) {
+        if let Some(refusal) = log.strip_prefix(b"(refused ") {
+            let refusal = std::str::from_utf8(refusal).expect("a line of a log");
+            let mut numbers = refusal.split([' ', ')']).map(|number| number.parse());
+            let mut next = || numbers.next().and_then(Result::ok).expect("a number");
+            let (number, place) = (next(), next());
+            let at = match number {
+                1..=5 => number as usize,
+                8 => 7,
+                _ => 8 + by_text(number, place, text),
+            };
+            self.log[at] += 1;
+            return;
+        }
+        self.log[0] += 1;
+        for line in log.split(|&byte| byte == b'\n') {
+            if line.starts_with(b"(mb ") {
+                let kind = line.split(|&byte| byte == b' ').nth(3);
+                let kind = kind.and_then(|kind| kind.first()).expect("a type");
+                self.types[(kind - b'0') as usize] += 1;
+            }
+        }
+    }
+}
+
+/// Where refusal 9 or 10 of a text stands among the last four of a table.
+fn by_text(number: u32, place: u32, text: &[u8]) -> usize {
+    match number {
+        10 if text.len() > TEXT_BYTES => 0,
+        9 if (place as usize) < text.len() => 1,
+        9 => 2,
+        _ => 3,
+    }
+}
+
+fn print(name: &str, names: &[&str], counts: &[u64]) -> bool {
+    let cells: Vec<String> = names
+        .iter()
+        .zip(counts)
+        .map(|(name, count)| format!("{name}: {count}"))
+        .collect();
+    println!("{name}: {}", cells.join(", "));
+    counts.iter().all(|&count| count > 0)
+}
