@@ -40,7 +40,8 @@ fn read_lines(t: TextRead, base: &[i16], out: &mut [u8]) -> LogReply
             if !base_right(axes, base.len()) {
                 return LogReply::Refused(refused(refusals::BASE_LENGTH));
             }
-            match check(base, 0, base_count(axes)) {
+            let records = base_count(axes);
+            match check(base, 0, records) {
                 Verdict::Accepted => LogReply::Written(picture_lines(axes, base, out)),
                 Verdict::Refused(r) => LogReply::Refused(r),
             }
