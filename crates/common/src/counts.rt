@@ -35,6 +35,7 @@ pub fn count(c: Counts, a: Answer) -> Counts
     }
 }
 
+// The macroblocks counted.
 pub fn sum(c: Counts) -> u64
     ensures { λ r. ⌜ r ≡ sumOf c ⌝ }
 {

@@ -19,6 +19,7 @@ pub fn full_width(g: Axes) -> usize
     (g.horizontal.full.0 / 16) as usize
 }
 
+// The macroblocks of the base, and of the picture.
 pub fn base_count(g: Axes) -> usize
     requires { ⌜ AcceptedAxes g ⌝ }
     ensures { λ r. ⌜ (r ≡ baseCount g) × (r ≤ 65536) ⌝ }

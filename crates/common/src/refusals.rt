@@ -38,6 +38,7 @@ pub fn refused(number: u32) -> Refusal
     refused_at(number, 0)
 }
 
+// A refusal with its place.
 pub fn refused_at(number: u32, place: u32) -> Refusal
     ensures { λ r. ⌜ r ≡ record { number = number; place = place; rule = 0 } ⌝ }
 {

@@ -37,6 +37,7 @@ fn is_within(size: EnhancementSample, x: i32) -> bool
     (0 <= x) & (x < (size.0 / 16) as i32)
 }
 
+// Column and row are.
 pub fn position_right(g: Axes, column: i32, row: i32) -> bool
     requires { ⌜ AcceptedAxes g ⌝ }
     ensures { λ r. ⌜ r ≡ (withinAxis (fullSize (g .horizontal)) column && withinAxis (fullSize (g .vertical)) row) ⌝ }

@@ -5,7 +5,6 @@ use mathlib.Core.Bool.{Bool, true}
 use mathlib.Core.List.{List, [], _∷_}
 use lib.IntN.{ℤ}
 use lib.ListN.{length, getD}
-use Rattle.gather.specs.declared.Corners.{Corners}
 use Rattle.definitions.specs.declared.Motion.{Motion}
 use Rattle.definitions.specs.Basics.{four, pick}
 use Rattle.definitions.specs.BlockMap.{columnOf, blockIn}
@@ -56,14 +55,12 @@ rowSet on = bitOf (on 0) + 2 * bitOf (on 1) + 4 * bitOf (on 2) + 8 * bitOf (on 3
 abbrev pub Readable : ℕ → List ℕ → List ℕ → List ℤ → Type 0
 Readable width across down base = (i : ℕ) → i < 16 → ReadableAt width base (getD across (i % 4) 0) (getD down (i / 4) 0)
 
--- those of a quadrant's blocks, and the motions that they read
-abbrev pub QuadrantReadable : ℕ → List ℤ → Corners → Type 0
-QuadrantReadable width base at =
-    ReadableAt width base (at .x0) (at .y0) × ReadableAt width base (at .x1) (at .y0) × ReadableAt width base (at .x0) (at .y1) × ReadableAt width base (at .x1) (at .y1)
+-- those of a quadrant's blocks, whose columns read x0 and x1 and whose rows y0 and y1, and the motions that they read
+abbrev pub QuadrantReadable : ℕ → List ℤ → ℕ → ℕ → ℕ → ℕ → Type 0
+QuadrantReadable width base x0 x1 y0 y1 = ReadableAt width base x0 y0 × ReadableAt width base x1 y0 × ReadableAt width base x0 y1 × ReadableAt width base x1 y1
 
-abbrev pub quadrantRead : ℕ → List ℤ → Corners → List Motion
-quadrantRead width base at =
-    motionRead width base (at .x0) (at .y0) ∷ motionRead width base (at .x1) (at .y0) ∷ motionRead width base (at .x0) (at .y1) ∷ motionRead width base (at .x1) (at .y1) ∷ []
+abbrev pub quadrantRead : ℕ → List ℤ → ℕ → ℕ → ℕ → ℕ → List Motion
+quadrantRead width base x0 x1 y0 y1 = motionRead width base x0 y0 ∷ motionRead width base x1 y0 ∷ motionRead width base x0 y1 ∷ motionRead width base x1 y1 ∷ []
 
 -- those of a row of four blocks
 abbrev pub RowReadable : ℕ → List ℤ → List ℕ → ℕ → Type 0

@@ -23,6 +23,7 @@ fn address_of(width: usize, x: u16, y: u16) -> usize
     raster::address_of(width, (x / 4) as usize, (y / 4) as usize)
 }
 
+// The motion that the block with coordinates x and y reads.
 pub fn motion_read(base: &[i16], width: usize, x: u16, y: u16) -> Motion
     requires { ⌜ ReadableAt width (now base) x y × (width ≤ 256) ⌝ }
     ensures { λ r. ⌜ r ≡ motionRead width (now (base .entry)) x y ⌝ }
@@ -32,22 +33,15 @@ pub fn motion_read(base: &[i16], width: usize, x: u16, y: u16) -> Motion
     motion_of(base, a, b)
 }
 
-// What the blocks of a quadrant read: its columns the coordinates x0 and x1, its rows y0 and y1.
-pub struct Corners {
-    pub x0: u16,
-    pub x1: u16,
-    pub y0: u16,
-    pub y1: u16,
-}
-
-pub fn quadrant_read(base: &[i16], width: usize, at: Corners) -> [Motion; 4]
-    requires { ⌜ QuadrantReadable width (now base) at × (width ≤ 256) ⌝ }
-    ensures { λ r. ⌜ r ≡ quadrantRead width (now (base .entry)) at ⌝ }
+// The blocks of a quadrant: its columns read x0 and x1, its rows y0 and y1.
+pub fn quadrant_read(base: &[i16], width: usize, x0: u16, x1: u16, y0: u16, y1: u16) -> [Motion; 4]
+    requires { ⌜ QuadrantReadable width (now base) x0 x1 y0 y1 × (width ≤ 256) ⌝ }
+    ensures { λ r. ⌜ r ≡ quadrantRead width (now (base .entry)) x0 x1 y0 y1 ⌝ }
 {
-    let a = motion_read(base, width, at.x0, at.y0);
-    let b = motion_read(base, width, at.x1, at.y0);
-    let c = motion_read(base, width, at.x0, at.y1);
-    let d = motion_read(base, width, at.x1, at.y1);
+    let a = motion_read(base, width, x0, y0);
+    let b = motion_read(base, width, x1, y0);
+    let c = motion_read(base, width, x0, y1);
+    let d = motion_read(base, width, x1, y1);
     [a, b, c, d]
 }
 
@@ -75,6 +69,7 @@ pub fn reads_single(base: &[i16], width: usize, x: u16, y: u16) -> bool
     is_single(base, address_of(width, x, y), q)
 }
 
+// 1 if it reads an intra macroblock.
 fn intra_bit(base: &[i16], width: usize, x: u16, y: u16) -> u16
     requires { ⌜ ReadableAt width (now base) x y × (width ≤ 256) ⌝ }
     ensures { λ r. ⌜ (r ≡ bitOf (isIntra (recordRead width (now (base .entry)) x y))) × (r ≤ 1) ⌝ }
@@ -82,6 +77,7 @@ fn intra_bit(base: &[i16], width: usize, x: u16, y: u16) -> u16
     if reads_intra(base, width, x, y) { 1 } else { 0 }
 }
 
+// The set of a row of four blocks, which all read row y.
 fn row_set(base: &[i16], width: usize, across: [u16; 4], y: u16) -> u16
     requires { ⌜ RowReadable width (now base) across y × (width ≤ 256) ⌝ }
     ensures { λ r. ⌜ (r ≡ rowSet (λ i. isIntra (recordRead width (now (base .entry)) (getD across i 0) y))) × (r ≤ 15) ⌝ }

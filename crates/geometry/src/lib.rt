@@ -46,6 +46,7 @@ impl Geometry {
 
     pub const OFFSET_MAX: i32 = 8190;
 
+    // The geometry of the numbers, or why they are refused.
     pub fn new(n: Numbers) -> Checked
         ensures { λ r. ⌜ r ≡ checkedOf n ⌝ }
     {
@@ -55,6 +56,7 @@ impl Geometry {
         }
     }
 
+    // Its two axes, with sizes that are not below 0.
     pub fn axes(self) -> Axes
         ensures { λ r. ⌜ r ≡ self .axes ⌝ }
     {
@@ -81,18 +83,21 @@ fn verdict_on(n: Numbers) -> Verdict
     Verdict::Accepted
 }
 
+// The verdict of a refusal.
 fn refused_by(number: u32) -> Verdict
     ensures { λ r. ⌜ r ≡ Verdict.Refused (refusal number) ⌝ }
 {
     Verdict::Refused(refused(number))
 }
 
+// Refusal 1 does not apply.
 fn bases_right(n: Numbers) -> bool
     ensures { λ r. ⌜ r ≡ (sizeRight (n .horizontal .base) && sizeRight (n .vertical .base)) ⌝ }
 {
     size_right(n.horizontal.base) & size_right(n.vertical.base)
 }
 
+// Refusal 2 does not apply.
 fn fulls_right(n: Numbers) -> bool
     ensures { λ r. ⌜ r ≡ (sizeRight (n .horizontal .full) && sizeRight (n .vertical .full)) ⌝ }
 {
@@ -108,6 +113,7 @@ fn scaleds_right(n: Numbers) -> bool
         & scaled_right(n.vertical.base, n.vertical.scaled)
 }
 
+// Refusal 4 does not apply.
 fn offsets_right(n: Numbers) -> bool
     ensures { λ r. ⌜ r ≡ (offsetRight (n .horizontal .offset) && offsetRight (n .vertical .offset)) ⌝ }
 {
@@ -143,6 +149,7 @@ fn offset_right(o: i32) -> bool
     (o % 2 == 0) & between(Geometry::OFFSET_MIN, Geometry::OFFSET_MAX, o)
 }
 
+// The axes of accepted numbers.
 fn axes_of(n: Numbers) -> Axes
     requires { ⌜ geometryVerdict n ≡ Verdict.Accepted ⌝ }
     ensures { λ r. ⌜ r ≡ axesOf n ⌝ }

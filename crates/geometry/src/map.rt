@@ -30,6 +30,7 @@ const ROWS: [[[u32; 5]; 5]; 2] = [
     ],
 ];
 
+// A row of the map at k % 2, |M| / 4 and |N| / 4, as the number that its four digits make.
 fn table() -> [[[u32; 5]; 5]; 2]
     ensures { λ r. ⌜ Complete r ⌝ }
 {

@@ -65,6 +65,7 @@ struct Distances {
     d2: EnhancementOffset,
 }
 
+// k, and both distances rounded.
 fn distances_at(b: BaseSample, s: EnhancementSample, c: EnhancementSample) -> Distances
     requires { ⌜ Inside (b .0) (s .0) (c .0) ⌝ }
     ensures k { λ r. ⌜ r .k ≡ kOf (b .0) (s .0) (c .0) ⌝ }
@@ -108,6 +109,7 @@ fn grid_sample(b: BaseSample, s: EnhancementSample, j: u32) -> EnhancementSample
     EnhancementSample((8 * j * s.0 + b.0 / 2) / b.0)
 }
 
+// d = p − c.
 fn distance(p: EnhancementSample, c: EnhancementSample) -> EnhancementOffset
     requires { ⌜ (p .0 < 65536) × (c .0 < 65536) ⌝ }
     ensures { λ r. ⌜ r .0 ≡ subℕ (p .0) (c .0) ⌝ }

@@ -9,12 +9,14 @@ use definitions::Motion;
 // From this count on the answer is intra.
 const MOSTLY: u32 = 9;
 
+// Nine or more blocks read intra macroblocks: the answer is intra.
 pub fn mostly_intra(set: u16) -> bool
     ensures { λ r. ⌜ r ≡ mostlyIntra set ⌝ }
 {
     u16::count_ones(set) >= MOSTLY
 }
 
+// Block i is in the set.
 fn is_marked(set: u16, i: u32) -> bool
     requires { ⌜ i < 16 ⌝ }
     ensures { λ r. ⌜ r ≡ marked set i ⌝ }
@@ -55,6 +57,7 @@ fn some_of(b: [bool; 4]) -> bool
     b[3]
 }
 
+// The quadrants that are not all intra.
 fn live_of(set: u16) -> [bool; 4]
     ensures { λ r. ⌜ r ≡ liveOf set ⌝ }
 {
@@ -66,6 +69,7 @@ fn live_of(set: u16) -> [bool; 4]
     ]
 }
 
+// The quadrant that quadrant q copies: itself if it is live.
 fn copied_from(live: [bool; 4], q: usize) -> usize
     requires { ⌜ q < 4 ⌝ }
     ensures { λ r. ⌜ (r ≡ copiedFrom live q) × (r < 4) ⌝ }
@@ -81,6 +85,7 @@ fn copied_from(live: [bool; 4], q: usize) -> usize
     v
 }
 
+// Each quadrant as it is copied.
 fn copy_some(live: [bool; 4], m: [[Motion; 4]; 4]) -> [[Motion; 4]; 4]
     ensures { λ r. ⌜ r ≡ copied live m ⌝ }
 {
@@ -91,6 +96,7 @@ fn copy_some(live: [bool; 4], m: [[Motion; 4]; 4]) -> [[Motion; 4]; 4]
     [a, b, c, d]
 }
 
+// With an empty set nothing is to copy.
 pub fn copy(set: u16, m: [[Motion; 4]; 4]) -> [[Motion; 4]; 4]
     ensures { λ r. ⌜ r ≡ copied (liveOf set) m ⌝ }
 {

@@ -5,6 +5,7 @@ ghost use mathlib.Core.List.{[], _∷_};
 ghost use mathlib.Core.Path.{_≡_};
 ghost use Prim.Native.Nat.{_+_, _<_};
 
+// One byte.
 fn put_byte(out: &mut [u8], at: usize, b: u8) -> usize
     requires { ⌜ Fits (now out) at (b ∷ []) ⌝ }
     ensures { λ r. ⌜ Put (now (out .entry)) at (b ∷ []) (now (out .exit)) r ⌝ }
@@ -21,6 +22,7 @@ fn digit(d: u32) -> u8
     b'0' + d as u8
 }
 
+// A number in decimal.
 fn put_number(out: &mut [u8], at: usize, n: u32) -> usize
     requires { ⌜ Fits (now out) at (decimal n) ⌝ }
     ensures { λ r. ⌜ Put (now (out .entry)) at (decimal n) (now (out .exit)) r ⌝ }
@@ -32,6 +34,7 @@ fn put_number(out: &mut [u8], at: usize, n: u32) -> usize
     put_byte(out, next, digit(n % 10))
 }
 
+// The bytes of a word.
 fn put_word(out: &mut [u8], at: usize, word: &[u8]) -> usize
     requires { ⌜ Fits (now out) at (now word) ⌝ }
     ensures { λ r. ⌜ Put (now (out .entry)) at (now (word .entry)) (now (out .exit)) r ⌝ }

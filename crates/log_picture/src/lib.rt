@@ -31,6 +31,7 @@ fn wide(n: u8) -> u32
     n as u32
 }
 
+// The pieces of an answer's split, 0 where it has none.
 fn pieces_of(a: Answer) -> u32
     ensures { λ r. ⌜ r ≡ answerPieces a ⌝ }
 {

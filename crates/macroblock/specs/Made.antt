@@ -47,18 +47,21 @@ onePart d reads = (eqb (getD reads 1 0 / d) (getD reads 0 0 / d) && eqb (getD re
 abbrev pub originBy : AxisRead → AxisRead → Origin
 originBy h v = record { class = classOf (h .two) (v .two); column = h .first; row = v .first }
 
+-- the intra set
+abbrev pub intraBy : Axes → AxisRead → AxisRead → List ℤ → ℕ
+intraBy g h v base = setBy (macroblocks (baseSize (g .horizontal))) (h .reads) (v .reads) base
+
 -- after steps 1 to 3, and after step 4
 unfoldable pub resolvedBy : Axes → AxisRead → AxisRead → List ℤ → List (List Motion)
 resolvedBy g h v base =
-    let width = macroblocks (baseSize (g .horizontal)) in
-    resolved (setBy width (h .reads) (v .reads) base) (gatheredBy width (h .reads) (v .reads) base)
+    resolved (intraBy g h v base) (gatheredBy (macroblocks (baseSize (g .horizontal))) (h .reads) (v .reads) base)
 
 unfoldable pub motionsBy : Axes → AxisRead → AxisRead → List ℤ → List (List Motion)
 motionsBy g h v base = four (λ q. four (λ k. scaledMotion g (at (resolvedBy g h v base) q k)))
 
 unfoldable pub answerBy : Axes → AxisRead → AxisRead → List ℤ → Answer
 answerBy g h v base =
-    pick (mostlyIntra (setBy (macroblocks (baseSize (g .horizontal))) (h .reads) (v .reads) base)) (Intra (originBy h v)) (Inherited (originBy h v) (chosen (motionsBy g h v base)))
+    pick (mostlyIntra (intraBy g h v base)) (Intra (originBy h v)) (Inherited (originBy h v) (chosen (motionsBy g h v base)))
 
 unfoldable pub madeInside : Axes → AxisRead → AxisRead → List ℤ → Made
 madeInside g h v base = record { answer = answerBy g h v base; written = writtenFor (answerBy g h v base) (motionsBy g h v base) }

@@ -2,11 +2,10 @@
 ghost use Prim.Native.Nat.{_<_, _≤_};
 ghost use Rattle.definitions.specs.Accepted.{AcceptedAxis};
 ghost use Rattle.definitions.specs.Answer.{subTypes, withoutMotion};
-ghost use Rattle.definitions.specs.Geometry.{baseSize, macroblocks};
 ghost use Rattle.definitions.specs.Inheriting.{chosen, clearOf, filled, merged, motionAt};
 ghost use Rattle.definitions.specs.Record.{laidOut, recordWords, subTypeNumber, typeNumber};
-ghost use Rattle.gather.specs.Reads.{QuadrantReadable, quadrantRead, setBy};
-ghost use Rattle.macroblock.specs.Made.{Makeable, Ready, Small, inheritedBy, madeInside, motionsBy, originBy, nowhere, onePart, madeBy, readIn, readOf, resolvedBy};
+ghost use Rattle.gather.specs.Reads.{QuadrantReadable, quadrantRead};
+ghost use Rattle.macroblock.specs.Made.{Makeable, Ready, Small, inheritedBy, intraBy, madeInside, motionsBy, originBy, nowhere, onePart, madeBy, readIn, readOf, resolvedBy};
 ghost use lib.ListN.{getD, length};
 ghost use mathlib.Core.Bool.{_&&_, true};
 ghost use mathlib.Core.List.{[], _∷_};
@@ -19,7 +18,6 @@ use definitions::EnhancementSample;
 use definitions::Motion;
 use definitions::Origin;
 use definitions::Split;
-use gather::Corners;
 use gather::intra_set;
 use gather::motion_read;
 use gather::quadrant_read;
@@ -48,6 +46,7 @@ pub struct AxisRead {
     pub inside: bool,
 }
 
+// An axis inside, in sixteen bits.
 fn read_in(s: AxisStep) -> AxisRead
     requires { ⌜ Small s ⌝ }
     ensures { λ r. ⌜ r ≡ readIn s ⌝ }
@@ -65,6 +64,7 @@ fn read_in(s: AxisStep) -> AxisRead
     }
 }
 
+// An axis outside.
 pub fn read_nowhere() -> AxisRead
     ensures { λ r. ⌜ r ≡ nowhere ⌝ }
 {
@@ -107,17 +107,31 @@ fn origin_of(h: AxisRead, v: AxisRead) -> Origin
     }
 }
 
-// Steps 1 and 2: the motions of quadrant q, whose blocks read these coordinates.
-fn quadrant_made(base: &[i16], width: usize, at: Corners, set: u16, q: usize) -> [Motion; 4]
-    requires { ⌜ QuadrantReadable width (now base) at × (width ≤ 256) × (q < 4) ⌝ }
-    ensures { λ r. ⌜ r ≡ merged (filled (clearOf set q) (quadrantRead width (now (base .entry)) at)) ⌝ }
+// A quadrant of the macroblock, and the set of the blocks that read intra macroblocks.
+struct Quadrant {
+    set: u16,
+    q: usize,
+}
+
+// Steps 1 and 2: the motions of a quadrant, whose columns read x0 and x1 and whose rows y0 and y1.
+fn quadrant_made(
+    base: &[i16],
+    width: usize,
+    x0: u16,
+    x1: u16,
+    y0: u16,
+    y1: u16,
+    of: Quadrant,
+) -> [Motion; 4]
+    requires { ⌜ QuadrantReadable width (now base) x0 x1 y0 y1 × (width ≤ 256) × (of .q < 4) ⌝ }
+    ensures { λ r. ⌜ r ≡ merged (filled (clearOf (of .set) (of .q)) (quadrantRead width (now (base .entry)) x0 x1 y0 y1)) ⌝ }
 {
-    inherit::resolve(set, quadrant_read(base, width, at), q)
+    inherit::resolve(of.set, quadrant_read(base, width, x0, x1, y0, y1), of.q)
 }
 
 // Steps 1 to 3: the motions of the blocks.
 fn motions_made(g: Axes, base: &[i16], h: AxisRead, v: AxisRead, set: u16) -> [[Motion; 4]; 4]
-    requires { ⌜ Ready g h v (now base) × (set ≡ setBy (macroblocks (baseSize (g .horizontal))) (h .reads) (v .reads) (now base)) ⌝ }
+    requires { ⌜ Ready g h v (now base) × (set ≡ intraBy g h v (now base)) ⌝ }
     ensures { λ r. ⌜ r ≡ resolvedBy g h v (now (base .entry)) ⌝ }
 {
     let width = (g.horizontal.base.0 / 16) as usize;
@@ -129,29 +143,10 @@ fn motions_made(g: Axes, base: &[i16], h: AxisRead, v: AxisRead, set: u16) -> [[
     let y1 = v.reads[1];
     let y2 = v.reads[2];
     let y3 = v.reads[3];
-    let above_left = Corners { x0, x1, y0, y1 };
-    let above_right = Corners {
-        x0: x2,
-        x1: x3,
-        y0,
-        y1,
-    };
-    let below_left = Corners {
-        x0,
-        x1,
-        y0: y2,
-        y1: y3,
-    };
-    let below_right = Corners {
-        x0: x2,
-        x1: x3,
-        y0: y2,
-        y1: y3,
-    };
-    let a = quadrant_made(base, width, above_left, set, 0);
-    let b = quadrant_made(base, width, above_right, set, 1);
-    let c = quadrant_made(base, width, below_left, set, 2);
-    let d = quadrant_made(base, width, below_right, set, 3);
+    let a = quadrant_made(base, width, x0, x1, y0, y1, Quadrant { set, q: 0 });
+    let b = quadrant_made(base, width, x2, x3, y0, y1, Quadrant { set, q: 1 });
+    let c = quadrant_made(base, width, x0, x1, y2, y3, Quadrant { set, q: 2 });
+    let d = quadrant_made(base, width, x2, x3, y2, y3, Quadrant { set, q: 3 });
     inherit::copy(set, [a, b, c, d])
 }
 
@@ -164,7 +159,7 @@ fn make_inherited(
     set: u16,
     out: &mut [i16],
 ) -> Split
-    requires { ⌜ Ready g h v (now base) × (set ≡ setBy (macroblocks (baseSize (g .horizontal))) (h .reads) (v .reads) (now base)) × (length (now out) ≡ recordWords) ⌝ }
+    requires { ⌜ Ready g h v (now base) × (set ≡ intraBy g h v (now base)) × (length (now out) ≡ recordWords) ⌝ }
     ensures split { λ r. ⌜ r ≡ chosen (motionsBy g h v (now (base .entry))) ⌝ }
     ensures written { λ r. ⌜ now (out .exit) ≡ inheritedBy g h v (now (base .entry)) ⌝ }
 {
@@ -216,6 +211,7 @@ fn make_of_one(g: Axes, base: &[i16], h: AxisRead, v: AxisRead, out: &mut [i16])
     Answer::Inherited(origin, s)
 }
 
+// Where more macroblocks are read, or one of several motions.
 fn make_of_more(g: Axes, base: &[i16], h: AxisRead, v: AxisRead, out: &mut [i16]) -> Answer
     requires { ⌜ Ready g h v (now base) × (length (now out) ≡ recordWords) ⌝ }
     ensures answer { λ r. ⌜ r ≡ madeInside g h v (now (base .entry)) .answer ⌝ }

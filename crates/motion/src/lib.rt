@@ -6,7 +6,7 @@ ghost use Rattle.definitions.specs.Inheriting.{at, chosen, scaledMotion, scaled
 ghost use Rattle.definitions.specs.Record.{narrow};
 ghost use Rattle.definitions.specs.Splits.{sameMotion, samePrediction};
 ghost use Rattle.definitions.specs.Basics.{eqZ, four, signed};
-ghost use Rattle.motion.specs.Range.{InRange};
+ghost use Rattle.motion.specs.Range.{AllInRange, BothInRange, InRange, QuadrantInRange};
 ghost use Rattle.motion.specs.Scales.{AcceptedScale, motionScaled, predictionScaled, scaleOf};
 ghost use lib.IntN.{natAbs, pos};
 ghost use lib.ListN.{getD};
@@ -59,6 +59,7 @@ struct Scale {
     inverse: u64,
 }
 
+// An axis's scale.
 fn scale_of(a: Axis) -> Scale
     requires { ⌜ AcceptedAxis a ⌝ }
     ensures { λ r. ⌜ r ≡ scaleOf a ⌝ }
@@ -88,6 +89,7 @@ fn magnitude(v: i16) -> u32
     if v < 0 { (0 - v) as u32 } else { v as u32 }
 }
 
+// n with the sign of v.
 fn with_sign_of(v: i16, n: i16) -> i16
     requires { ⌜ pos 0 ≤ℤ n ⌝ }
     ensures { λ r. ⌜ r ≡ signed v (natAbs n) ⌝ }
@@ -95,6 +97,7 @@ fn with_sign_of(v: i16, n: i16) -> i16
     if v < 0 { 0 - n } else { n }
 }
 
+// A vector word, by its axis.
 fn scale_word(s: Scale, v: i16) -> i16
     requires { ⌜ (natAbs v ≤ narrow) × AcceptedScale s ⌝ }
     ensures { λ r. ⌜ r ≡ scaledWord (s .base) (s .scaled) v ⌝ }
@@ -102,6 +105,7 @@ fn scale_word(s: Scale, v: i16) -> i16
     with_sign_of(v, scale_size(s, magnitude(v)) as i16)
 }
 
+// A list's part: x by the horizontal scale, y by the vertical one.
 fn scale_prediction(h: Scale, v: Scale, p: Prediction) -> Prediction
     requires { ⌜ AcceptedScale h × AcceptedScale v × InRange p ⌝ }
     ensures { λ r. ⌜ r ≡ predictionScaled h v p ⌝ }
@@ -113,8 +117,9 @@ fn scale_prediction(h: Scale, v: Scale, p: Prediction) -> Prediction
     }
 }
 
+// Both lists.
 fn scale_with(h: Scale, v: Scale, m: Motion) -> Motion
-    requires { ⌜ AcceptedScale h × AcceptedScale v × (InRange (m .list0) × InRange (m .list1)) ⌝ }
+    requires { ⌜ AcceptedScale h × AcceptedScale v × BothInRange m ⌝ }
     ensures { λ r. ⌜ r ≡ motionScaled h v m ⌝ }
 {
     let p = m.list0;
@@ -124,8 +129,9 @@ fn scale_with(h: Scale, v: Scale, m: Motion) -> Motion
     Motion { list0: a, list1: b }
 }
 
+// Step 4 of one motion.
 pub fn scale_motion(g: Axes, m: Motion) -> Motion
-    requires { ⌜ AcceptedAxis (g .horizontal) × AcceptedAxis (g .vertical) × (InRange (m .list0) × InRange (m .list1)) ⌝ }
+    requires { ⌜ AcceptedAxis (g .horizontal) × AcceptedAxis (g .vertical) × BothInRange m ⌝ }
     ensures { λ r. ⌜ r ≡ scaledMotion g m ⌝ }
 {
     scale_with(scale_of(g.horizontal), scale_of(g.vertical), m)
@@ -133,7 +139,7 @@ pub fn scale_motion(g: Axes, m: Motion) -> Motion
 
 // Blocks of one piece have one motion: it is scaled once a piece. A quadrant by its shape:
 fn scale_quadrant(h: Scale, v: Scale, s: SubSplit, m: [Motion; 4]) -> [Motion; 4]
-    requires { ⌜ AcceptedScale h × AcceptedScale v × ((k : ℕ) → k < 4 → InRange (getD m k zeroMotion .list0) × InRange (getD m k zeroMotion .list1)) × (s ≡ quadrantShape m) ⌝ }
+    requires { ⌜ AcceptedScale h × AcceptedScale v × QuadrantInRange m × (s ≡ quadrantShape m) ⌝ }
     ensures { λ r. ⌜ r ≡ four (λ k. motionScaled h v (getD m k zeroMotion)) ⌝ }
 {
     let a = scale_with(h, v, m[0]);
@@ -158,7 +164,7 @@ fn scale_quadrant(h: Scale, v: Scale, s: SubSplit, m: [Motion; 4]) -> [Motion; 4
 
 // and the sixteen blocks, as four quadrants of four, by the split that is chosen of them.
 pub fn scale_by(g: Axes, s: Split, m: [[Motion; 4]; 4]) -> [[Motion; 4]; 4]
-    requires { ⌜ AcceptedAxis (g .horizontal) × AcceptedAxis (g .vertical) × ((q k : ℕ) → q < 4 → k < 4 → InRange (at m q k .list0) × InRange (at m q k .list1)) × (s ≡ chosen m) ⌝ }
+    requires { ⌜ AcceptedAxis (g .horizontal) × AcceptedAxis (g .vertical) × AllInRange m × (s ≡ chosen m) ⌝ }
     ensures { λ r. ⌜ r ≡ four (λ q. four (λ k. scaledMotion g (at m q k))) ⌝ }
 {
     let h = scale_of(g.horizontal);

@@ -60,7 +60,6 @@ module _ (g : Axes) (base words : List ℤ) where
       pub all-right : verdictOf (recordTests narrow base (allAddresses g)) ≡ Accepted → (counts : Counts) (out : List ℤ) → counts ≡ countsOf made → out ≡ forEach made (λ m. m .written) → Handed (Counted counts) out call
       all-right e counts out c w = handed _ _ _ (by-records Accepted e ∙ (λ i. record { reply = Counted (sym c i); words = sym w i }))
 
-
 -- ---- refusals 1 to 4
 module _ (n : Numbers) (base words : List ℤ) where
   pub wrong-geometry : (r : Refusal) → geometryVerdict n ≡ Refused r → Handed (NotMade r) words (pictureCall narrow n base words)

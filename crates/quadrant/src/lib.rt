@@ -19,6 +19,7 @@ pub const VERTICAL: [usize; 4] = [2, 3, 0, 1];
 
 const DIAGONAL: [usize; 4] = [3, 2, 1, 0];
 
+// The block that block k takes its motion from: itself if it is good, else the first good neighbour.
 fn source_of(good: [bool; 4], k: usize) -> usize
     requires { ⌜ k < 4 ⌝ }
     ensures { λ r. ⌜ (r ≡ source good k) × (r < 4) ⌝ }
@@ -52,6 +53,7 @@ fn fill_some(clear: [bool; 4], m: [Motion; 4]) -> [Motion; 4]
     [a, b, c, d]
 }
 
+// Where no block is intra there is nothing to fill.
 pub fn fill(clear: [bool; 4], m: [Motion; 4]) -> [Motion; 4]
     ensures { λ r. ⌜ r ≡ filled clear m ⌝ }
 {
@@ -69,6 +71,7 @@ fn is_used(p: Prediction) -> bool
     p.reference != UNUSED
 }
 
+// The reference of p is below that of q.
 fn is_lower(p: Prediction, q: Prediction) -> bool
     ensures { λ r. ⌜ r ≡ ltZ (p .reference) (q .reference) ⌝ }
 {
@@ -85,6 +88,7 @@ fn lower_of(p: Prediction, q: Prediction) -> Prediction
     p
 }
 
+// The reference of r with the vector of p.
 fn with_reference(r: Prediction, p: Prediction) -> Prediction
     ensures { λ b. ⌜ b ≡ withReference (r .reference) p ⌝ }
 {
@@ -101,6 +105,7 @@ struct Candidate {
     list: Prediction,
 }
 
+// p as a candidate for r.
 fn candidate_of(p: Prediction, r: Prediction) -> Candidate
     ensures { λ c. ⌜ c ≡ candidateFor p r ⌝ }
 {
@@ -129,6 +134,7 @@ fn taken(r: Prediction, own: Candidate, h: Candidate, v: Candidate, d: Candidate
     with_reference(r, own.list)
 }
 
+// One list of the four blocks.
 fn merge_list(p: Prediction, q: Prediction, s: Prediction, t: Prediction) -> [Prediction; 4]
     ensures { λ r. ⌜ r ≡ mergedList (p ∷ q ∷ s ∷ t ∷ []) ⌝ }
 {
@@ -147,6 +153,7 @@ fn merge_list(p: Prediction, q: Prediction, s: Prediction, t: Prediction) -> [Pr
     [UNUSED_LIST; 4]
 }
 
+// Block k of two lists.
 fn joined_at(p: [Prediction; 4], q: [Prediction; 4], k: usize) -> Motion
     requires { ⌜ k < 4 ⌝ }
     ensures { λ r. ⌜ r ≡ record { list0 = getD p k zeroPrediction; list1 = getD q k zeroPrediction } ⌝ }
@@ -156,6 +163,7 @@ fn joined_at(p: [Prediction; 4], q: [Prediction; 4], k: usize) -> Motion
     Motion { list0: a, list1: b }
 }
 
+// Both lists.
 fn merge_both(m: [Motion; 4]) -> [Motion; 4]
     ensures { λ r. ⌜ r ≡ merged m ⌝ }
 {
@@ -187,6 +195,7 @@ fn is_one(p: Prediction, q: Prediction, s: Prediction, t: Prediction) -> bool
     motion::same_reference(q, p) & motion::same_reference(s, p) & motion::same_reference(t, p)
 }
 
+// The four blocks have one reference in each list.
 fn is_settled(m: [Motion; 4]) -> bool
     ensures { λ r. ⌜ r ≡ oneReference m ⌝ }
 {

@@ -67,6 +67,7 @@ fn all_within(words: &[i16], first: usize, count: usize, range: Range) -> bool
     right
 }
 
+// Rule 2.
 fn sub_types_right(words: &[i16]) -> bool
     requires { ⌜ length (now words) ≡ recordWords ⌝ }
     ensures { λ t. ⌜ t ≡ rule2 (now (words .entry)) ⌝ }
@@ -89,6 +90,7 @@ fn quadrant_used(words: &[i16], q: usize) -> bool
     words[first + 1] != UNUSED
 }
 
+// Each quadrant has.
 fn quadrants_used(words: &[i16]) -> bool
     requires { ⌜ length (now words) ≡ recordWords ⌝ }
     ensures { λ t. ⌜ t ≡ allBelow 4 (quadrantUsed (now (words .entry))) ⌝ }
@@ -103,6 +105,7 @@ fn quadrants_used(words: &[i16]) -> bool
     true
 }
 
+// Rule 4.
 fn usage_right(words: &[i16]) -> bool
     requires { ⌜ length (now words) ≡ recordWords ⌝ }
     ensures { λ t. ⌜ t ≡ rule4 (now (words .entry)) ⌝ }
@@ -212,6 +215,7 @@ fn kept(words: &[i16], q: usize) -> usize
     sub_kept(words, q)
 }
 
+// Words v and w are the same.
 fn same_word(words: &[i16], v: usize, w: usize) -> bool
     requires { ⌜ (length (now words) ≡ recordWords) × (v < recordWords) × (w < recordWords) ⌝ }
     ensures { λ t. ⌜ t ≡ eqZ (wordOf (now (words .entry)) v) (wordOf (now (words .entry)) w) ⌝ }
@@ -219,6 +223,7 @@ fn same_word(words: &[i16], v: usize, w: usize) -> bool
     words[v] == words[w]
 }
 
+// Quadrants q and e have the same references.
 fn same_references(words: &[i16], q: usize, e: usize) -> bool
     requires { ⌜ (length (now words) ≡ recordWords) × (q < 4) × (e < 4) ⌝ }
     ensures { λ t. ⌜ t ≡ sameReferences (now (words .entry)) q e ⌝ }
@@ -228,6 +233,7 @@ fn same_references(words: &[i16], q: usize, e: usize) -> bool
     same_word(words, v, w) & same_word(words, v + 1, w + 1)
 }
 
+// Blocks b and d have the same vectors.
 fn same_vectors(words: &[i16], b: usize, d: usize) -> bool
     requires { ⌜ (length (now words) ≡ recordWords) × (b < 16) × (d < 16) ⌝ }
     ensures { λ t. ⌜ t ≡ sameVectors (now (words .entry)) b d ⌝ }

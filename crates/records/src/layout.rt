@@ -25,6 +25,7 @@ pub const INTRA: u8 = 0;
 
 pub const OUTSIDE: u8 = 5;
 
+// The number of a split's type.
 pub fn type_number(s: Split) -> u8
     ensures { λ r. ⌜ r ≡ typeNumber s ⌝ }
 {
@@ -47,6 +48,7 @@ fn sub_type_number(s: SubSplit) -> u8
     }
 }
 
+// The sub-types of its quadrants: 0 unless it is 8×8.
 pub fn sub_types(s: Split) -> [u8; 4]
     ensures { λ r. ⌜ r ≡ subTypes s ⌝ }
 {

@@ -23,6 +23,7 @@ pub fn record_at(base: &[i16], a: usize) -> &[i16]
     &base[from..to]
 }
 
+// List l's part of the motion of block b.
 fn prediction_in(words: &[i16], b: usize, l: usize) -> Prediction
     requires { ⌜ (length (now words) ≡ recordWords) × (b < 16) × (l < 2) ⌝ }
     ensures { λ p. ⌜ p ≡ predictionOf (now (words .entry)) b l ⌝ }
@@ -37,6 +38,7 @@ fn prediction_in(words: &[i16], b: usize, l: usize) -> Prediction
     }
 }
 
+// The motion of block b.
 fn motion_in(words: &[i16], b: usize) -> Motion
     requires { ⌜ (length (now words) ≡ recordWords) × (b < 16) ⌝ }
     ensures { λ m. ⌜ m ≡ motionOf (now (words .entry)) b ⌝ }
@@ -46,6 +48,7 @@ fn motion_in(words: &[i16], b: usize) -> Motion
     Motion { list0, list1 }
 }
 
+// Of type 0, intra.
 pub fn is_intra(base: &[i16], a: usize) -> bool
     requires { ⌜ ((a + 1) * recordWords ≤ length (now base)) × (a < 65536) ⌝ }
     ensures { λ t. ⌜ t ≡ isIntra (recordAt (now (base .entry)) a) ⌝ }
@@ -72,6 +75,7 @@ pub fn is_single(base: &[i16], a: usize, q: usize) -> bool
     words[SUB_TYPES + q] == 0
 }
 
+// The motion of block b of the record at address a.
 pub fn motion_of(base: &[i16], a: usize, b: usize) -> Motion
     requires { ⌜ ((a + 1) * recordWords ≤ length (now base)) × (a < 65536) × (b < 16) ⌝ }
     ensures { λ m. ⌜ m ≡ motionOf (recordAt (now (base .entry)) a) b ⌝ }

@@ -76,6 +76,7 @@ fn stage_in(g: Axes, c: Counts) -> Stage
     Stage::Unfinished(column_at(g, address), row_at(g, address))
 }
 
+// Where a session value stands; one that no list of calls makes stands at nothing.
 fn stage_of(s: Session) -> Stage
     ensures { λ r. ⌜ r ≡ stageOf (stateOf s) ⌝ }
 {
@@ -131,6 +132,7 @@ fn advance(s: Session, reply: MacroblockReply) -> Session
 }
 
 impl Session {
+    // Nothing begun.
     pub fn fresh() -> Session
         ensures { λ r. ⌜ r ≡ freshSession ⌝ }
     {

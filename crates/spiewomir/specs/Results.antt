@@ -16,8 +16,8 @@ use Rattle.spiewomir.specs.declared.GeometryNumbers.{GeometryNumbers}
 use Rattle.spiewomir.specs.declared.MacroblockResult.{MacroblockResult}
 use Rattle.spiewomir.specs.declared.PictureResult.{PictureResult}
 
-abbrev pub numbersOf : GeometryNumbers → Numbers
-numbersOf g = record {
+abbrev pub numbersFromC : GeometryNumbers → Numbers
+numbersFromC g = record {
   horizontal = record { base = g .bw; scaled = g .sw; offset = g .x; full = g .fw };
   vertical = record { base = g .bh; scaled = g .sh; offset = g .y; full = g .fh };
 }

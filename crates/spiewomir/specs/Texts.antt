@@ -15,13 +15,13 @@ use Rattle.log.specs.Promised.{LogPromised}
 use Rattle.spiewomir.specs.declared.GeometryNumbers.{GeometryNumbers}
 use Rattle.spiewomir.specs.declared.TextResult.{TextResult}
 use Rattle.spiewomir.specs.declared.LogResult.{LogResult}
-use Rattle.spiewomir.specs.Sessions.{numbersFor}
+use Rattle.spiewomir.specs.Sessions.{numbersToC}
 
 abbrev pub noGeometry : GeometryNumbers
 noGeometry = record { bw = pos 0; bh = pos 0; sw = pos 0; sh = pos 0; x = pos 0; y = pos 0; fw = pos 0; fh = pos 0 }
 
 abbrev pub textResult : TextReply → TextResult
-textResult (Read t) = record { refusal = 0; place = 0; rule = 0; geometry = numbersFor (t .numbers); lines = t .lines }
+textResult (Read t) = record { refusal = 0; place = 0; rule = 0; geometry = numbersToC (t .numbers); lines = t .lines }
 textResult (Refused r) = record { refusal = r .number; place = r .place; rule = r .rule; geometry = noGeometry; lines = 0 }
 
 abbrev pub logResult : LogReply → LogResult

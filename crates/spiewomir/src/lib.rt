@@ -2,11 +2,11 @@
 ghost use Rattle.definitions.specs.Record.{narrow};
 ghost use Rattle.definitions.specs.Answer.{answerOrigin};
 ghost use Rattle.definitions.specs.Calls.{macroblockCall, pictureCall};
-ghost use Rattle.definitions.specs.Session.{abandon, abandonVerdict, begin, beginVerdict, next, nextCall, totalsOf};
-ghost use Rattle.spiewomir.specs.Results.{answerResult, answerSubTypes, classNumber, macroblockResult, numbersOf, pictureResult};
-ghost use Rattle.spiewomir.specs.Sessions.{advancedResult, flag, judgedResult, numbersFor, sessionFor, sessionOf, totalsResult};
+ghost use Rattle.definitions.specs.Session.{nextCall};
+ghost use Rattle.spiewomir.specs.Results.{answerResult, answerSubTypes, classNumber, macroblockResult, numbersFromC, pictureResult};
+ghost use Rattle.spiewomir.specs.Sessions.{abandonGives, advancedResult, beginGives, flag, judgedResult, nextGives, numbersToC, sessionFromC, sessionToC, totalsGives};
 ghost use Rattle.spiewomir.specs.Texts.{LogGiven, TextGiven};
-ghost use Rattle.session.specs.Values.{freshSession, handedBack, stateOf};
+ghost use Rattle.session.specs.Values.{freshSession, stateOf};
 ghost use mathlib.Core.Path.{_≡_};
 use definitions::Answer;
 use definitions::AxisNumbers;
@@ -116,8 +116,9 @@ pub struct LogResult {
     pub bytes: usize,
 }
 
-fn numbers_of(g: GeometryNumbers) -> Numbers
-    ensures { λ r. ⌜ r ≡ numbersOf g ⌝ }
+// The numbers of the axes.
+fn numbers_from_c(g: GeometryNumbers) -> Numbers
+    ensures { λ r. ⌜ r ≡ numbersFromC g ⌝ }
 {
     Numbers {
         horizontal: AxisNumbers {
@@ -135,6 +136,7 @@ fn numbers_of(g: GeometryNumbers) -> Numbers
     }
 }
 
+// The header's numbers of the classes.
 fn class_number(c: Class) -> u32
     ensures { λ r. ⌜ r ≡ classNumber c ⌝ }
 {
@@ -167,6 +169,7 @@ fn origin_of(a: Answer) -> Origin
     }
 }
 
+// The sub-types of an answer, 0 where it has no 8×8 split.
 fn sub_types_of(a: Answer) -> [u8; 4]
     ensures { λ r. ⌜ r ≡ answerSubTypes a ⌝ }
 {
@@ -177,6 +180,7 @@ fn sub_types_of(a: Answer) -> [u8; 4]
     }
 }
 
+// An answer as its numbers.
 fn answer_result(a: Answer) -> MacroblockResult
     ensures { λ r. ⌜ r ≡ answerResult a ⌝ }
 {
@@ -198,6 +202,7 @@ fn answer_result(a: Answer) -> MacroblockResult
     }
 }
 
+// A reply as its numbers: a refusal gives no answer.
 fn reply_result(r: MacroblockReply) -> MacroblockResult
     ensures { λ o. ⌜ o ≡ macroblockResult r ⌝ }
 {
@@ -219,6 +224,7 @@ fn reply_result(r: MacroblockReply) -> MacroblockResult
     }
 }
 
+// The one-macroblock call.
 #[no_mangle]
 pub extern "C" fn spiewomir_macroblock(
     g: GeometryNumbers,
@@ -227,22 +233,23 @@ pub extern "C" fn spiewomir_macroblock(
     row: i32,
     out: &mut [i16],
 ) -> MacroblockResult
-    ensures result { λ r. ⌜ r ≡ macroblockResult (macroblockCall narrow (numbersOf g) (now (base .entry)) column row (now (out .entry)) .reply) ⌝ }
-    ensures words { λ r. ⌜ now (out .exit) ≡ macroblockCall narrow (numbersOf g) (now (base .entry)) column row (now (out .entry)) .words ⌝ }
+    ensures result { λ r. ⌜ r ≡ macroblockResult (macroblockCall narrow (numbersFromC g) (now (base .entry)) column row (now (out .entry)) .reply) ⌝ }
+    ensures words { λ r. ⌜ now (out .exit) ≡ macroblockCall narrow (numbersFromC g) (now (base .entry)) column row (now (out .entry)) .words ⌝ }
 {
-    reply_result(upsample_macroblock(numbers_of(g), base, column, row, out))
+    reply_result(upsample_macroblock(numbers_from_c(g), base, column, row, out))
 }
 
+// The picture call.
 #[no_mangle]
 pub extern "C" fn spiewomir_picture(
     g: GeometryNumbers,
     base: &[i16],
     out: &mut [i16],
 ) -> PictureResult
-    ensures result { λ r. ⌜ r ≡ pictureResult (pictureCall narrow (numbersOf g) (now (base .entry)) (now (out .entry)) .reply) ⌝ }
-    ensures words { λ r. ⌜ now (out .exit) ≡ pictureCall narrow (numbersOf g) (now (base .entry)) (now (out .entry)) .words ⌝ }
+    ensures result { λ r. ⌜ r ≡ pictureResult (pictureCall narrow (numbersFromC g) (now (base .entry)) (now (out .entry)) .reply) ⌝ }
+    ensures words { λ r. ⌜ now (out .exit) ≡ pictureCall narrow (numbersFromC g) (now (base .entry)) (now (out .entry)) .words ⌝ }
 {
-    match upsample_picture(numbers_of(g), base, out) {
+    match upsample_picture(numbers_from_c(g), base, out) {
         PictureReply::Counted(c) => PictureResult {
             refusal: 0,
             place: 0,
@@ -263,8 +270,8 @@ pub extern "C" fn spiewomir_picture(
 }
 
 // ---- The session. A refused call hands back the very numbers that it was handed.
-fn geometry_for(n: Numbers) -> GeometryNumbers
-    ensures { λ r. ⌜ r ≡ numbersFor n ⌝ }
+fn numbers_to_c(n: Numbers) -> GeometryNumbers
+    ensures { λ r. ⌜ r ≡ numbersToC n ⌝ }
 {
     GeometryNumbers {
         bw: n.horizontal.base,
@@ -278,19 +285,21 @@ fn geometry_for(n: Numbers) -> GeometryNumbers
     }
 }
 
+// 1 if it is begun.
 fn flag_of(b: bool) -> u32
     ensures { λ r. ⌜ r ≡ flag b ⌝ }
 {
     if b { 1 } else { 0 }
 }
 
-fn session_of(s: SessionNumbers) -> Session
-    ensures { λ r. ⌜ r ≡ sessionOf s ⌝ }
+// The session that the numbers stand for.
+fn session_from_c(s: SessionNumbers) -> Session
+    ensures { λ r. ⌜ r ≡ sessionFromC s ⌝ }
 {
     let geometry = s.geometry;
     Session {
         begun: s.begun == 1,
-        numbers: numbers_of(geometry),
+        numbers: numbers_from_c(geometry),
         counts: Counts {
             inherited: s.inherited,
             intra: s.intra,
@@ -299,19 +308,21 @@ fn session_of(s: SessionNumbers) -> Session
     }
 }
 
-fn session_for(v: Session) -> SessionNumbers
-    ensures { λ r. ⌜ r ≡ sessionFor v ⌝ }
+// The numbers of a session.
+fn session_to_c(v: Session) -> SessionNumbers
+    ensures { λ r. ⌜ r ≡ sessionToC v ⌝ }
 {
     let numbers = v.numbers;
     SessionNumbers {
         begun: flag_of(v.begun),
-        geometry: geometry_for(numbers),
+        geometry: numbers_to_c(numbers),
         inherited: v.counts.inherited,
         intra: v.counts.intra,
         outside: v.counts.outside,
     }
 }
 
+// What begin and abandon give.
 fn judged_result(s: SessionNumbers, j: Judged) -> JudgedResult
     ensures { λ r. ⌜ r ≡ judgedResult s (j .verdict) (j .session) ⌝ }
 {
@@ -319,7 +330,7 @@ fn judged_result(s: SessionNumbers, j: Judged) -> JudgedResult
     let after = j.session;
     match verdict {
         Verdict::Accepted => JudgedResult {
-            session: session_for(after),
+            session: session_to_c(after),
             refusal: 0,
             place: 0,
             rule: 0,
@@ -333,6 +344,7 @@ fn judged_result(s: SessionNumbers, j: Judged) -> JudgedResult
     }
 }
 
+// What next gives.
 fn advanced_result(s: SessionNumbers, a: Advanced) -> AdvancedResult
     ensures { λ r. ⌜ r ≡ advancedResult s (a .reply) (a .session) ⌝ }
 {
@@ -341,7 +353,7 @@ fn advanced_result(s: SessionNumbers, a: Advanced) -> AdvancedResult
     let macroblock = reply_result(reply);
     match reply {
         MacroblockReply::Answered(_) => AdvancedResult {
-            session: session_for(after),
+            session: session_to_c(after),
             macroblock,
         },
         MacroblockReply::Refused(_) => AdvancedResult {
@@ -351,47 +363,52 @@ fn advanced_result(s: SessionNumbers, a: Advanced) -> AdvancedResult
     }
 }
 
+// A fresh session.
 #[no_mangle]
 pub extern "C" fn spiewomir_session_fresh() -> SessionNumbers
-    ensures { λ r. ⌜ r ≡ sessionFor freshSession ⌝ }
+    ensures { λ r. ⌜ r ≡ sessionToC freshSession ⌝ }
 {
-    session_for(Session::fresh())
+    session_to_c(Session::fresh())
 }
 
+// Begins a picture.
 #[no_mangle]
 pub extern "C" fn spiewomir_session_begin(s: SessionNumbers, g: GeometryNumbers) -> JudgedResult
-    ensures { λ r. ⌜ r ≡ judgedResult s (beginVerdict (stateOf (sessionOf s)) (numbersOf g)) (handedBack (sessionOf s) (begin (numbersOf g))) ⌝ }
+    ensures { λ r. ⌜ r ≡ beginGives s g ⌝ }
 {
-    let v = session_of(s);
-    judged_result(s, v.begin(numbers_of(g)))
+    let v = session_from_c(s);
+    judged_result(s, v.begin(numbers_from_c(g)))
 }
 
+// Makes the next macroblock.
 #[no_mangle]
 pub extern "C" fn spiewomir_session_next(
     s: SessionNumbers,
     base: &[i16],
     out: &mut [i16],
 ) -> AdvancedResult
-    ensures result { λ r. ⌜ r ≡ advancedResult s (nextCall (stateOf (sessionOf s)) (now (base .entry)) (now (out .entry)) .reply) (handedBack (sessionOf s) (next (now (base .entry)) (now (out .entry)))) ⌝ }
-    ensures words { λ r. ⌜ now (out .exit) ≡ nextCall (stateOf (sessionOf s)) (now (base .entry)) (now (out .entry)) .words ⌝ }
+    ensures result { λ r. ⌜ r ≡ nextGives s (now (base .entry)) (now (out .entry)) ⌝ }
+    ensures words { λ r. ⌜ now (out .exit) ≡ nextCall (stateOf (sessionFromC s)) (now (base .entry)) (now (out .entry)) .words ⌝ }
 {
-    let v = session_of(s);
+    let v = session_from_c(s);
     advanced_result(s, v.next(base, out))
 }
 
+// Makes the session fresh.
 #[no_mangle]
 pub extern "C" fn spiewomir_session_abandon(s: SessionNumbers) -> JudgedResult
-    ensures { λ r. ⌜ r ≡ judgedResult s (abandonVerdict (stateOf (sessionOf s))) (handedBack (sessionOf s) abandon) ⌝ }
+    ensures { λ r. ⌜ r ≡ abandonGives s ⌝ }
 {
-    let v = session_of(s);
+    let v = session_from_c(s);
     judged_result(s, v.abandon())
 }
 
+// The counts of its accepted next calls.
 #[no_mangle]
 pub extern "C" fn spiewomir_session_totals(s: SessionNumbers) -> TotalsResult
-    ensures { λ r. ⌜ r ≡ totalsResult s (totalsOf (stateOf (sessionOf s))) ⌝ }
+    ensures { λ r. ⌜ r ≡ totalsGives s ⌝ }
 {
-    let v = session_of(s);
+    let v = session_from_c(s);
     let t = v.totals();
     TotalsResult {
         session: s,
@@ -413,7 +430,7 @@ pub extern "C" fn spiewomir_text(text: &[u8], words: &mut [i16]) -> TextResult
                 refusal: 0,
                 place: 0,
                 rule: 0,
-                geometry: geometry_for(numbers),
+                geometry: numbers_to_c(numbers),
                 lines: t.lines,
             }
         }

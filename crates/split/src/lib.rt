@@ -9,6 +9,7 @@ use definitions::Split;
 use definitions::SubSplit;
 use definitions::SubSplits;
 
+// a and b have one motion, and so have c and d.
 fn same_pairs(a: Motion, b: Motion, c: Motion, d: Motion) -> bool
     ensures { λ r. ⌜ r ≡ samePairs a b c d ⌝ }
 {
@@ -36,12 +37,14 @@ fn shape(a: Motion, b: Motion, c: Motion, d: Motion) -> SubSplit
     SubSplit::S4x4
 }
 
+// The sub-split of a quadrant.
 fn quadrant_shape(q: [Motion; 4]) -> SubSplit
     ensures { λ r. ⌜ r ≡ quadrantShape q ⌝ }
 {
     shape(q[0], q[1], q[2], q[3])
 }
 
+// The sub-splits of the four quadrants.
 fn shapes_of(m: [[Motion; 4]; 4]) -> SubSplits
     ensures { λ r. ⌜ r ≡ shapesOf m ⌝ }
 {
@@ -52,6 +55,7 @@ fn shapes_of(m: [[Motion; 4]; 4]) -> SubSplits
     SubSplits { a, b, c, d }
 }
 
+// The quadrant has one motion.
 fn is_whole(s: SubSplit) -> bool
     ensures { λ r. ⌜ r ≡ isWhole s ⌝ }
 {
@@ -63,6 +67,7 @@ fn is_whole(s: SubSplit) -> bool
     }
 }
 
+// All four quadrants have.
 fn all_whole(t: SubSplits) -> bool
     ensures { λ r. ⌜ r ≡ allWhole t ⌝ }
 {

@@ -54,6 +54,7 @@ fn log_of(text: &[u8], out: &mut [u8]) -> usize
     }
 }
 
+// Reads a text, and writes its log; what fails is reported on standard error.
 fn main() {
     let mut text = [0u8; TEXT_ROOM];
     let mut out = log_room();

@@ -44,6 +44,7 @@ fn check_row(g: Axes, base: &[i16], first: u32, two: bool, row: u32) -> Verdict
     check(base, a, a + 1)
 }
 
+// The records that a macroblock reads: one row of them, or two.
 fn check_read(g: Axes, base: &[i16], h: AxisRead, v: AxisRead) -> Verdict
     requires { ⌜ (baseSize (g .horizontal) ≤ 4096) × (v .first < 65536) × InBase (now base) (addressesOf g (originBy h v)) ⌝ }
     ensures { λ r. ⌜ r ≡ verdictOf (recordTests narrow (now (base .entry)) (addressesOf g (originBy h v))) ⌝ }

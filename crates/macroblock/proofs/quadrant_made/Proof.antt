@@ -23,7 +23,7 @@ resolve-requires c κs =
 returns : tie.Need-returns
 returns c =
     let a = c .before .before .args in
-    c .resolve .ensures ∙ ap (λ (m : List Motion). merged (filled (clearOf (a .set) (a .q)) m)) (c .before .quadrant-read .ensures)
+    c .resolve .ensures ∙ ap (λ (m : List Motion). merged (filled (clearOf (a .of .set) (a .of .q)) m)) (c .before .quadrant-read .ensures)
 
 pub quadrant-made-spec : {M : Type 1} → statement M
 quadrant-made-spec = tie.close (tie.spec quadrant-read-requires resolve-requires returns)

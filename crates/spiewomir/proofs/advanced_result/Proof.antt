@@ -12,8 +12,8 @@ reply-result-requires c κs = search needs
 enum-told : tie.Need-enum-told
 enum-told c = search needs
 
-session-for-requires : tie.Need-session-for-requires
-session-for-requires c κs = search needs
+session-to-c-requires : tie.Need-session-to-c-requires
+session-to-c-requires c κs = search needs
 
 enum-told-2 : tie.Need-enum-told-2
 enum-told-2 c = search needs
@@ -21,7 +21,7 @@ enum-told-2 c = search needs
 returns : tie.Need-returns
 returns c =
     let a = c .before .before .before .before .before .args in
-    let e = c .session-for .ensures ∙ sym (ap (λ (r : MacroblockReply). sessionAfter (a .s) r (a .a .session)) (c .before .enum-told .given .1)) in
+    let e = c .session-to-c .ensures ∙ sym (ap (λ (r : MacroblockReply). sessionAfter (a .s) r (a .a .session)) (c .before .enum-told .given .1)) in
     λ i. record { session = e i; macroblock = c .before .before .before .reply-result .ensures i }
 
 returns-2 : tie.Need-returns-2
@@ -33,4 +33,4 @@ returns-2 c =
 pub advanced-result-spec : {M : Type 1} → statement M
 advanced-result-spec =
     tie.close
-    (tie.spec reply-result-requires enum-told session-for-requires enum-told-2 returns returns-2)
+    (tie.spec reply-result-requires enum-told session-to-c-requires enum-told-2 returns returns-2)

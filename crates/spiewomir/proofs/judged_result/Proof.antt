@@ -9,8 +9,8 @@ use Rattle.spiewomir.proofs.judged_result.Tie as tie
 enum-told : tie.Need-enum-told
 enum-told c = search needs
 
-session-for-requires : tie.Need-session-for-requires
-session-for-requires c κs = search needs
+session-to-c-requires : tie.Need-session-to-c-requires
+session-to-c-requires c κs = search needs
 
 enum-known-verdict : tie.Need-enum-known-verdict
 enum-known-verdict c = search needs
@@ -18,7 +18,7 @@ enum-known-verdict c = search needs
 returns : tie.Need-returns
 returns c =
     let a = c .before .before .before .before .args in
-    (λ i. record { session = c .session-for .ensures i; refusal = 0; place = 0; rule = 0 })
+    (λ i. record { session = c .session-to-c .ensures i; refusal = 0; place = 0; rule = 0 })
     ∙ sym (ap (λ (v : Verdict). judgedResult (a .s) v (a .j .session)) (c .before .enum-told .given .1))
 
 returns-2 : tie.Need-returns-2
@@ -26,4 +26,4 @@ returns-2 c = let a = c .before .before .before .before .args in sym (ap (λ (v 
 
 pub judged-result-spec : {M : Type 1} → statement M
 judged-result-spec =
-    tie.close (tie.spec enum-told session-for-requires enum-known-verdict returns returns-2)
+    tie.close (tie.spec enum-told session-to-c-requires enum-known-verdict returns returns-2)

@@ -8,8 +8,8 @@ use borrow.Author.Needs.{needs}
 use Rattle.spiewomir.proofs.spiewomir_macroblock.Statement.{statement}
 use Rattle.spiewomir.proofs.spiewomir_macroblock.Tie as tie
 
-numbers-of-requires : tie.Need-numbers-of-requires
-numbers-of-requires c κs = search needs
+numbers-from-c-requires : tie.Need-numbers-from-c-requires
+numbers-from-c-requires c κs = search needs
 
 upsample-macroblock-requires : tie.Need-upsample-macroblock-requires
 upsample-macroblock-requires c κs = search needs
@@ -24,7 +24,7 @@ returns : tie.Need-returns
 returns c =
     let s = c .before .before .before .before .before in
     let u = c .before .before .upsample-macroblock in
-    let n = c .before .before .before .before .numbers-of .ensures in
+    let n = c .before .before .before .before .numbers-from-c .ensures in
     let p = toZ-ofZ (s .fits .column) in
     let q = toZ-ofZ (s .fits .row) in (
       c .reply-result .ensures ∙ ap macroblockResult (u .ensures .0 ∙ (λ i. macroblockCall narrow (n i) (s .args .base .now) (p i) (q i) (s .args .out .now) .reply)),
@@ -35,7 +35,7 @@ pub spiewomir-macroblock-spec : {M : Type 1} → statement M
 spiewomir-macroblock-spec =
     tie.close
     (tie.spec
-    numbers-of-requires
+    numbers-from-c-requires
     upsample-macroblock-requires
     reply-result-requires
     same-length

@@ -7,8 +7,8 @@ use borrow.Author.Needs.{needs}
 use Rattle.spiewomir.proofs.spiewomir_picture.Statement.{statement}
 use Rattle.spiewomir.proofs.spiewomir_picture.Tie as tie
 
-numbers-of-requires : tie.Need-numbers-of-requires
-numbers-of-requires c κs = search needs
+numbers-from-c-requires : tie.Need-numbers-from-c-requires
+numbers-from-c-requires c κs = search needs
 
 upsample-picture-requires : tie.Need-upsample-picture-requires
 upsample-picture-requires c κs = search needs
@@ -27,7 +27,7 @@ returns c =
     let o = c .before .before .before in
     let u = o .before .upsample-picture in
     let s = o .before .before .before .before in
-    let n = o .before .before .before .numbers-of .ensures in (
+    let n = o .before .before .before .numbers-from-c .ensures in (
       ap pictureResult (sym (c .before .c .given .1) ∙ (u .ensures .0 ∙ (λ i. pictureCall narrow (n i) (s .args .base .now) (s .args .out .now) .reply))),
       u .ensures .1 .0 ∙ (λ i. pictureCall narrow (n i) (s .args .base .now) (s .args .out .now) .words),
     )
@@ -40,7 +40,7 @@ returns-2 c =
     let o = c .before .before .before in
     let u = o .before .upsample-picture in
     let s = o .before .before .before .before in
-    let n = o .before .before .before .numbers-of .ensures in (
+    let n = o .before .before .before .numbers-from-c .ensures in (
       ap pictureResult (sym (c .before .r .given .1) ∙ (u .ensures .0 ∙ (λ i. pictureCall narrow (n i) (s .args .base .now) (s .args .out .now) .reply))),
       u .ensures .1 .0 ∙ (λ i. pictureCall narrow (n i) (s .args .base .now) (s .args .out .now) .words),
     )
@@ -49,7 +49,7 @@ pub spiewomir-picture-spec : {M : Type 1} → statement M
 spiewomir-picture-spec =
     tie.close
     (tie.spec
-    numbers-of-requires
+    numbers-from-c-requires
     upsample-picture-requires
     enum-known-c
     enum-known-r

@@ -7,8 +7,8 @@ use borrow.Author.Needs.{needs}
 use Rattle.spiewomir.proofs.spiewomir_session_abandon.Statement.{statement}
 use Rattle.spiewomir.proofs.spiewomir_session_abandon.Tie as tie
 
-session-of-requires : tie.Need-session-of-requires
-session-of-requires c κs = search needs
+session-from-c-requires : tie.Need-session-from-c-requires
+session-from-c-requires c κs = search needs
 
 abandon-requires : tie.Need-abandon-requires
 abandon-requires c κs = search needs
@@ -19,10 +19,10 @@ judged-result-requires c κs = search needs
 returns : tie.Need-returns
 returns c =
     let s = c .before .before .before .args .s in
-    let v = c .before .before .session-of .ensures in
+    let v = c .before .before .session-from-c .ensures in
     let j = c .before .abandon .ensures in
     c .judged-result .ensures ∙ ((λ i. judgedResult s (j .0 i) (j .1 .value i)) ∙ (λ i. judgedResult s (abandonVerdict (stateOf (v i))) (handedBack (v i) abandon)))
 
 pub spiewomir-session-abandon-spec : {M : Type 1} → statement M
 spiewomir-session-abandon-spec =
-    tie.close (tie.spec session-of-requires abandon-requires judged-result-requires returns)
+    tie.close (tie.spec session-from-c-requires abandon-requires judged-result-requires returns)

@@ -7,11 +7,11 @@ use borrow.Author.Needs.{needs}
 use Rattle.spiewomir.proofs.spiewomir_session_begin.Statement.{statement}
 use Rattle.spiewomir.proofs.spiewomir_session_begin.Tie as tie
 
-session-of-requires : tie.Need-session-of-requires
-session-of-requires c κs = search needs
+session-from-c-requires : tie.Need-session-from-c-requires
+session-from-c-requires c κs = search needs
 
-numbers-of-requires : tie.Need-numbers-of-requires
-numbers-of-requires c κs = search needs
+numbers-from-c-requires : tie.Need-numbers-from-c-requires
+numbers-from-c-requires c κs = search needs
 
 begin-requires : tie.Need-begin-requires
 begin-requires c κs = search needs
@@ -22,8 +22,8 @@ judged-result-requires c κs = search needs
 returns : tie.Need-returns
 returns c =
     let s = c .before .before .before .before .args .s in
-    let v = c .before .before .before .session-of .ensures in
-    let n = c .before .before .numbers-of .ensures in
+    let v = c .before .before .before .session-from-c .ensures in
+    let n = c .before .before .numbers-from-c .ensures in
     let j = c .before .begin .ensures in
     c .judged-result .ensures
     ∙ ((λ i. judgedResult s (j .0 i) (j .1 .value i)) ∙ (λ i. judgedResult s (beginVerdict (stateOf (v i)) (n i)) (handedBack (v i) (begin (n i)))))
@@ -32,8 +32,8 @@ pub spiewomir-session-begin-spec : {M : Type 1} → statement M
 spiewomir-session-begin-spec =
     tie.close
     (tie.spec
-    session-of-requires
-    numbers-of-requires
+    session-from-c-requires
+    numbers-from-c-requires
     begin-requires
     judged-result-requires
     returns)

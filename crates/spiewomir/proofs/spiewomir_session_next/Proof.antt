@@ -7,8 +7,8 @@ use borrow.Author.Needs.{needs}
 use Rattle.spiewomir.proofs.spiewomir_session_next.Statement.{statement}
 use Rattle.spiewomir.proofs.spiewomir_session_next.Tie as tie
 
-session-of-requires : tie.Need-session-of-requires
-session-of-requires c κs = search needs
+session-from-c-requires : tie.Need-session-from-c-requires
+session-from-c-requires c κs = search needs
 
 next-requires : tie.Need-next-requires
 next-requires c κs = search needs
@@ -22,7 +22,7 @@ same-length c = search needs
 returns : tie.Need-returns
 returns c =
     let a = c .before .before .before .before .before .args in
-    let v = c .before .before .before .before .session-of .ensures in
+    let v = c .before .before .before .before .session-from-c .ensures in
     let k = c .before .before .next .ensures in (
       c .advanced-result .ensures
           ∙ ((λ i. advancedResult (a .s) (k .0 i) (k .1 .1 .value i))
@@ -33,4 +33,4 @@ returns c =
 pub spiewomir-session-next-spec : {M : Type 1} → statement M
 spiewomir-session-next-spec =
     tie.close
-    (tie.spec session-of-requires next-requires advanced-result-requires same-length returns)
+    (tie.spec session-from-c-requires next-requires advanced-result-requires same-length returns)

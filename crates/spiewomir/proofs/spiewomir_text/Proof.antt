@@ -11,8 +11,8 @@ read-text-requires c κs = search needs
 enum-known-t : tie.Need-enum-known-t
 enum-known-t c = search needs
 
-geometry-for-requires : tie.Need-geometry-for-requires
-geometry-for-requires c κs = search needs
+numbers-to-c-requires : tie.Need-numbers-to-c-requires
+numbers-to-c-requires c κs = search needs
 
 enum-known-r : tie.Need-enum-known-r
 enum-known-r c = search needs
@@ -23,7 +23,7 @@ same-length c = search needs
 returns : tie.Need-returns
 returns c =
     let n = c .before .before .before .t .given in
-    let g = c .geometry-for .ensures in
+    let g = c .numbers-to-c .ensures in
     record {
       reply = _;
       answer = c .before .before .before .before .before .before .read-text .ensures .0;
@@ -43,7 +43,7 @@ spiewomir-text-spec =
     (tie.spec
     read-text-requires
     enum-known-t
-    geometry-for-requires
+    numbers-to-c-requires
     enum-known-r
     same-length
     returns
