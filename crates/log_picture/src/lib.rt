@@ -1,9 +1,7 @@
 // The lines of a picture's log, on a geometry and records that were checked.
 ghost use Prim.Native.Nat.{_+_, _≤_, _<_};
-ghost use Rattle.definitions.specs.Answer.{answerType};
-ghost use Rattle.definitions.specs.Calls.{madeAt};
+ghost use Rattle.definitions.specs.Answer.{answerType, madeOf};
 ghost use Rattle.definitions.specs.Log.{answerPieces, lineOf, logBytes, mbWord, pictureLines, syncWord};
-ghost use Rattle.definitions.specs.Raster.{fullCount};
 ghost use Rattle.log_lines.specs.Put.{Put};
 ghost use Rattle.common.specs.Bases.{BaseFormed};
 ghost use Rattle.definitions.specs.Record.{narrow};
@@ -62,13 +60,13 @@ fn sync_line(out: &mut [u8], at: usize, total: u32, c: Counts) -> usize
 }
 
 // ---- The picture
-// The answer at an address of the picture. Its words are not logged.
-fn answer_at(g: Axes, base: &[i16], a: usize) -> Answer
-    requires { ⌜ BaseFormed narrow g (now base) × (a < fullCount g) ⌝ }
-    ensures { λ r. ⌜ r ≡ madeAt g (now (base .entry)) a .answer ⌝ }
+// The answer at a column and row of the picture. Its words are not logged.
+fn answer_at(g: Axes, base: &[i16], column: u32, row: u32) -> Answer
+    requires { ⌜ BaseFormed narrow g (now base) × (column < 256) × (row < 256) ⌝ }
+    ensures { λ r. ⌜ r ≡ madeOf g (now (base .entry)) column row .answer ⌝ }
 {
-    let h = axis_read(g.horizontal, column_at(g, a));
-    let v = axis_read(g.vertical, row_at(g, a));
+    let h = axis_read(g.horizontal, column);
+    let v = axis_read(g.vertical, row);
     let mut words = [0i16; RECORD_WORDS];
     make(g, base, h, v, &mut words)
 }
@@ -83,9 +81,11 @@ pub fn picture_lines(g: Axes, base: &[i16], out: &mut [u8]) -> usize
     let mut at: usize = 0;
     let mut a: usize = 0;
     while a < total {
-        let answer = answer_at(g, base, a);
+        let column = column_at(g, a);
+        let row = row_at(g, a);
+        let answer = answer_at(g, base, column, row);
         counts = count(counts, answer);
-        at = macroblock_line(out, at, column_at(g, a), row_at(g, a), answer);
+        at = macroblock_line(out, at, column, row, answer);
         a += 1;
     }
     sync_line(out, at, total as u32, counts)

@@ -1,4 +1,4 @@
--- What is made of the macroblock at an address of the picture, by the readings of its two axes. Assumes nothing.
+-- What is made of a macroblock of the picture, by the readings of its two axes. Assumes nothing.
 use Prim.Native.Nat.{ℕ, _+_, _*_, _<_}
 use mathlib.Core.Path.{_≡_, sym, subst, _∙_}
 use mathlib.Core.List.{List, List·Memᴰ}
@@ -16,15 +16,19 @@ use Rattle.macroblock.specs.Made.{readOf, madeBy, Makeable}
 use Rattle.macroblock.proofs.Paper.{placed-by}
 use Rattle.upsample.proofs.Readiness.{Known, known-of}
 
-module _ (g : Axes) (address column row : ℕ) (c : column < macroblocks (fullSize (g .horizontal))) (is : row * macroblocks (fullSize (g .horizontal)) + column ≡ address) where
-  module _ (base : List ℤ) (f : BaseFormed narrow g base) (h v : AxisRead) (p : h ≡ readOf (g .horizontal) column) (q : v ≡ readOf (g .vertical) row) where
-    known : Known g base (f .right) column row h v
-    known = known-of g base (f .right) column row h v p q
+module _ (g : Axes) (column row : ℕ) (base : List ℤ) (f : BaseFormed narrow g base) (h v : AxisRead) (p : h ≡ readOf (g .horizontal) column) (q : v ≡ readOf (g .vertical) row) where
+  known : Known g base (f .right) column row h v
+  known = known-of g base (f .right) column row h v p q
 
-    pub makeable : Makeable g h v base
-    makeable t =
-        known .made-ready t (λ a m. f .formed a (omega (arith, known .named-below t a (subst (List·Memᴰ a) (known .named t) m) .0, f .right .base-length)))
+  pub makeable : Makeable g h v base
+  makeable t =
+      known .made-ready t (λ a m. f .formed a (omega (arith, known .named-below t a (subst (List·Memᴰ a) (known .named t) m) .0, f .right .base-length)))
 
+  pub made-of : madeBy g h v base ≡ madeOf g base column row
+  made-of = (λ i. madeBy g (p i) (q i) base) ∙ sym (placed-by g column row base)
+
+  -- the macroblock at an address
+  module _ (address : ℕ) (c : column < macroblocks (fullSize (g .horizontal))) (is : row * macroblocks (fullSize (g .horizontal)) + column ≡ address) where
     pub made-there : madeBy g h v base ≡ madeAt g base address
     unfolding madeAt
-    made-there = (λ i. madeBy g (p i) (q i) base) ∙ (sym (placed-by g column row base) ∙ (λ i. madeOf g base (sym (its-column g address column row c is) i) (sym (its-row g address column row c is) i)))
+    made-there = made-of ∙ (λ i. madeOf g base (sym (its-column g address column row c is) i) (sym (its-row g address column row c is) i))

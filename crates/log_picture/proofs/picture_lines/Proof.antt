@@ -4,6 +4,7 @@ use mathlib.Core.Path.{_≡_, refl, _∙_}
 use native.Mathlib.Omega.{arith}
 use borrow.Author.Needs.{needs}
 use Rattle.definitions.specs.Basics.{upTo}
+use Rattle.definitions.specs.Answer.{madeOf}
 use Rattle.definitions.specs.Calls.{madeAt, countsOf}
 use Rattle.definitions.specs.Raster.{fullCount}
 use Rattle.common.proofs.Counted.{counts-none, counts-next, counts-low}
@@ -41,28 +42,36 @@ module _ (c : tie.In-loop Inv-loop μ-loop) where
       let b = below in
       omega (arith, first-short (start .args .g) (start .args .base .now) (start .pre .0 .right .axes) (c .before .loop .a) (omega arith))
 
+column-at-requires : tie.Need-column-at-requires Inv-loop μ-loop
+column-at-requires c κs = (start c .pre .0 .right .axes, omega (arith, c .before .before .full-count .ensures .1))
+
+row-at-requires : tie.Need-row-at-requires Inv-loop μ-loop
+row-at-requires c κs = (start (c .before) .pre .0 .right .axes, below (c .before))
+
 answer-at-requires : tie.Need-answer-at-requires Inv-loop μ-loop
-answer-at-requires c κs = (start c .pre .0, below c)
+answer-at-requires c κs = (start (c .before .before) .pre .0, c .before .column-at .ensures .1, c .row-at .ensures .1)
+
+-- its answer is that of address a
+answer : (c : tie.After-answer-at Inv-loop μ-loop)
+    → c .answer-at .result ≡ madeAt (start (c .before .before .before) .args .g) (start (c .before .before .before) .args .base .now) (c .before .before .before .before .loop .a) .answer
+unfolding madeAt
+answer c =
+    let s = start (c .before .before .before) in
+    c .answer-at .ensures ∙ (λ i. madeOf (s .args .g) (s .args .base .now) (c .before .before .column-at .ensures .0 i) (c .before .row-at .ensures .0 i) .answer)
 
 count-requires : tie.Need-count-requires Inv-loop μ-loop
 count-requires c κs =
-    let s = start (c .before) in
-    let l = c .before .before .loop in
-    omega (arith, counts-low (madeAt (s .args .g) (s .args .base .now)) (l .a) (l .counts) (l .inv .2), c .before .before .before .full-count .ensures .1)
-
-column-at-requires : tie.Need-column-at-requires Inv-loop μ-loop
-column-at-requires c κs =
     let i = c .before .before .before in
-    (start i .pre .0 .right .axes, omega (arith, i .before .before .full-count .ensures .1))
-
-row-at-requires : tie.Need-row-at-requires Inv-loop μ-loop
-row-at-requires c κs = let i = c .before .before .before .before in (start i .pre .0 .right .axes, below i)
+    let s = start i in
+    let l = i .before .loop in
+    omega (arith, counts-low (madeAt (s .args .g) (s .args .base .now)) (l .a) (l .counts) (l .inv .2), i .before .before .full-count .ensures .1)
 
 macroblock-line-requires : tie.Need-macroblock-line-requires Inv-loop μ-loop
 macroblock-line-requires c κs =
-    let i = c .before .before .before .before .before in
+    let r = c .before .before .before in
+    let i = r .before .before in
     let e = put-length (i .before .loop .inv .1) in
-    (c .before .column-at .ensures .1, c .row-at .ensures .1, omega (arith, at-low i, start i .pre .1, i .before .before .full-count .ensures .1))
+    (r .before .column-at .ensures .1, r .row-at .ensures .1, omega (arith, at-low i, start i .pre .1, i .before .before .full-count .ensures .1))
 
 add-a : tie.Need-add-a Inv-loop μ-loop
 add-a c = search needs
@@ -72,13 +81,14 @@ loop-less c = search needs
 
 loop-again : tie.Need-loop-again Inv-loop μ-loop
 loop-again c =
-    let i = c .before .before .before .before .before .before .before .before in
+    let a = c .before .before .before .before .before in
+    let r = a .before in
+    let i = r .before .before in
     let s = start i in
-    let l = i .before .loop in
-    let answer = c .before .before .before .before .before .before .before .answer-at .ensures in (
+    let l = i .before .loop in (
       omega arith,
-      line-more (s .args .g) (s .args .base .now) (l .a) (l .inv .1) _ _ _ (c .before .before .before .before .column-at .ensures .0) (c .before .before .before .row-at .ensures .0) answer (c .before .before .macroblock-line .ensures),
-      counts-next (madeAt (s .args .g) (s .args .base .now)) (l .a) (l .counts) (c .before .before .before .before .before .before .count .result) _ (l .inv .2) answer (c .before .before .before .before .before .before .count .ensures),
+      line-more (s .args .g) (s .args .base .now) (l .a) (l .inv .1) _ _ _ (r .before .column-at .ensures .0) (r .row-at .ensures .0) (answer a) (c .before .before .macroblock-line .ensures),
+      counts-next (madeAt (s .args .g) (s .args .base .now)) (l .a) (l .counts) (c .before .before .before .before .count .result) _ (l .inv .2) (answer a) (c .before .before .before .before .count .ensures),
     )
 
 cast-sync-line : tie.Need-cast-sync-line Inv-loop μ-loop
@@ -114,10 +124,10 @@ picture-lines-spec =
     μ-loop
     full-count-requires
     loop-holds
-    answer-at-requires
-    count-requires
     column-at-requires
     row-at-requires
+    answer-at-requires
+    count-requires
     macroblock-line-requires
     add-a
     loop-less

@@ -90,7 +90,7 @@ make-requires : tie.Need-make-requires Inv-loop μ-loop
 make-requires c κs =
     let l = c .before .before .before .before .before in
     let s = c .before .before .before .before .before .before .before .before .before .before in
-    (makeable (s .args .g) (l .loop .a) (l .loop .at .column) (l .loop .at .row) (l .loop .inv .5) (l .loop .inv .4) (s .args .base .now) (s .pre .0) _ _ (column-there (c .before .before .before .before)) (c .before .row-read .ensures), simp (length-take, length-drop) (omega arith))
+    (makeable (s .args .g) (l .loop .at .column) (l .loop .at .row) (s .args .base .now) (s .pre .0) _ _ (column-there (c .before .before .before .before)) (c .before .row-read .ensures), simp (length-take, length-drop) (omega arith))
 
 count-requires : tie.Need-count-requires Inv-loop μ-loop
 count-requires c κs =
@@ -113,7 +113,7 @@ loop-again c =
     let s = c .before .before .before .before .before .before .before .before .before .before .before .before .before .before in
     let f = madeAt (s .args .g) (s .args .base .now) in
     let n = l .loop .a in
-    let m = made-there (s .args .g) n (l .loop .at .column) (l .loop .at .row) (l .loop .inv .5) (l .loop .inv .4) (s .args .base .now) (s .pre .0) _ _ (column-there (c .before .before .before .before .before .before .before .before)) (c .before .before .before .before .before .row-read .ensures) in
+    let m = made-there (s .args .g) (l .loop .at .column) (l .loop .at .row) (s .args .base .now) (s .pre .0) _ _ (column-there (c .before .before .before .before .before .before .before .before)) (c .before .before .before .before .before .row-read .ensures) n (l .loop .inv .5) (l .loop .inv .4) in
     let p = c .before .before .before .make in (
       omega (arith, c .before .before .before .before .before .before .before .before .loop-test),
       c .before .before .out .given .1 ∙ l .loop .inv .1,
