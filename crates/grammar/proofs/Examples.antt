@@ -13,11 +13,10 @@ use Rattle.definitions.specs.Text.{readAs, read}
 use Rattle.definitions.specs.Log.{logFor, LogOf}
 use Rattle.definitions.specs.Examples.{wholeCase, wholeEntries, wholeText, wholeLog, whole-holds, Broken, broken, PlacesRight}
 use Rattle.definitions.proofs.Choices.{both-true}
-use Rattle.grammar.specs.Machine.{Cfg, dead, live, step, stepK, δ, classOf, runs, stateAt, Alive, Waiting}
-use Rattle.grammar.specs.Promises.{Ended}
+use Rattle.grammar.specs.Readers.{byteClassOf}
+use Rattle.grammar.proofs.Machine.{Cfg, dead, live, step, stepK, δ, runs, stateAt, Alive, Waiting}
 use Rattle.grammar.proofs.Runs.{ends-text-as}
-use Rattle.grammar.proofs.Openings.{waiting-alive}
-use Rattle.grammar.proofs.Whole.{ended-breaks}
+use Rattle.grammar.proofs.Places.{Ended, waiting-alive, ended-breaks}
 
 abbrev isDead : Cfg → Bool
 isDead dead = true
@@ -66,12 +65,12 @@ all-right (r ∷ rs) h =
     (ended-breaks (r .text) (r .place) (ended-by (r .text) (r .place) _ refl (both .0)), all-right rs (both .1))
 
 pub places-right : PlacesRight broken
-unfolding allOf stateAt runs step stepK δ classOf
+unfolding allOf stateAt runs step stepK δ byteClassOf
 places-right = all-right broken refl
 
 -- Whole case of document 01, from the text to the log
 pub whole-log : LogOf wholeText wholeLog
-unfolding runs step stepK δ classOf
+unfolding runs step stepK δ byteClassOf
 whole-log =
     record {
       reading = readAs wholeCase wholeEntries;

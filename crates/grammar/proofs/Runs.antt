@@ -14,7 +14,7 @@ use lib.Seq.{take-suc}
 use borrow.Author.Tests.{eqb-true, eq-eqb}
 use Rattle.definitions.specs.Text.{Note, note, Form, isByte, Kind, LineOf, Heads, noHead, head, RecordKind, kindOf, Entry, Records, noRecord, aNote, aRecord, Text, CanGoOn, headNumbers, Part, byte, spaced, ended, nothing, isSpaced, isEnded, tailOf, baseLine, scaledLine, atLine, fullLine}
 use Rattle.definitions.specs.declared.Numbers.{Numbers}
-use Rattle.grammar.specs.Machine.{Sym, line, entry, Ev, num, rec, Delta, halt, go, emit, push, δ, stepK, Cfg, dead, live, enter, step, runs, start, stateAt, Alive, nums, flat}
+use Rattle.grammar.proofs.Machine.{Sym, line, entry, Ev, num, rec, Delta, halt, go, emit, push, δ, stepK, Cfg, dead, live, enter, step, runs, start, stateAt, Alive, nums, flat}
 use Rattle.grammar.proofs.Cats.{no-cons}
 use Rattle.grammar.proofs.Residue.{Lang, Gives, EntryOf, L, Seq, Next}
 use Rattle.grammar.proofs.Forward.{forward, note-first}
@@ -27,7 +27,7 @@ record Base (ws : List Ev) (u : List ℕ) : Type 0 where
   is : ws ≡ flat entries
   lines : Records entries u
 
-seq-append : (t k : List Sym) (B : Lang) → Seq (t ++ k) B ≡ Seq t (Seq k B)
+pub seq-append : (t k : List Sym) (B : Lang) → Seq (t ++ k) B ≡ Seq t (Seq k B)
 seq-append [] k B = refl
 seq-append (s ∷ t) k B = ap (L s) (seq-append t k B)
 

@@ -1,5 +1,5 @@
 -- A machine that reads the text byte by byte: its state is what has yet to come, as a stack of symbols, and the numbers read so far.
--- The contracts of the inner functions cite it. That it goes by the grammar is proved in proofs/.
+-- No contract cites it: what it is good for is that one text has one reading (Runs), and that what closes itself ends in one place (Alone).
 use Prim.Native.Nat.{ℕ, zero, suc, _+_, _-_, _*_}
 use mathlib.Core.Bool.{Bool, true, false, cond}
 use mathlib.Core.List.{List, [], _∷_, _++_}
@@ -8,19 +8,9 @@ use lib.IntN.{ℤ, pos}
 use Rattle.definitions.specs.Tests.{minus}
 use Rattle.definitions.specs.Text.{Part, byte, spaced, ended, Kind, baseLine, scaledLine, atLine, fullLine, intraLine, wholeLine, mbLine, letter, tailOf, RecordKind, intra, whole, mb, Entry}
 use lib.Dec.{leb, eqb}
-use Rattle.grammar.specs.declared.Class.{Class}
-use Rattle.grammar.specs.declared.Class.the-variants.{Alpha, Nought, Nonzero, Dash, Open, Close, Space, Other}
-
--- what a byte is
-unfoldable pub classOf : ℕ → Class
-classOf b =
-    cond (leb 97 b) (cond (leb b 122) Alpha Other)
-    (cond (leb 49 b) (cond (leb b 57) Nonzero Other)
-    (cond (eqb b 48) Nought
-    (cond (eqb b 45) Dash
-    (cond (eqb b 40) Open
-    (cond (eqb b 41) Close
-    (cond (eqb b 32) Space Other))))))
+use Rattle.grammar.specs.Readers.{byteClassOf}
+use Rattle.grammar.specs.declared.ByteClass.{ByteClass}
+use Rattle.grammar.specs.declared.ByteClass.the-variants.{Alpha, Zero, Nonzero, Dash, Open, Close, Space, Other}
 
 -- what follows a number: a space, a closing bracket, or the rest of a list whose items nest d deep
 pub data Follow : Type 0 where
@@ -56,16 +46,16 @@ abbrev pub flat : List Entry → List Ev
 flat [] = []
 flat (e ∷ rs) = rec (e .kind) ∷ nums (e .fields) (flat rs)
 
--- what a byte does to the symbol on top: it may not come; symbols take its place; and something that stands in the text is told
+-- what a byte does to the symbol on top: it may not come; symbols take its place; and something that stands in the text is recorded
 pub data Delta : Type 0 where
   halt : Delta
   go : List Sym → Delta
   emit : Ev → List Sym → Delta
 
 -- by the class of the byte; any other byte may not come
-abbrev pub choose : Class → Delta → Delta → Delta → Delta → Delta → Delta → Delta → Delta
+abbrev pub choose : ByteClass → Delta → Delta → Delta → Delta → Delta → Delta → Delta → Delta
 choose Alpha a n z d o c s = a
-choose Nought a n z d o c s = n
+choose Zero a n z d o c s = n
 choose Nonzero a n z d o c s = z
 choose Dash a n z d o c s = d
 choose Open a n z d o c s = o
@@ -79,9 +69,9 @@ limit false = 32767
 limit true = 32768
 
 -- the number that digits worth n are, without and with a minus
-abbrev pub signed : Bool → ℕ → ℤ
-signed false n = pos n
-signed true n = minus n
+abbrev pub withMinus : Bool → ℕ → ℤ
+withMinus false n = pos n
+withMinus true n = minus n
 
 -- what a closing bracket does after a number z that f follows, and what a space does
 abbrev pub shuts : Follow → ℤ → Delta
@@ -115,7 +105,7 @@ syms (spaced ∷ ps) = field gap ∷ syms ps
 syms (ended ∷ ps) = field shut ∷ syms ps
 
 -- what a byte b of class c does to a symbol
-abbrev pub δc : Sym → ℕ → Class → Delta
+abbrev pub δc : Sym → ℕ → ByteClass → Delta
 δc (lit x) b c = cond (eqb b x) (go []) halt
 δc (first d) b c =
     choose c (go (letters d ∷ [])) (go (zeroed (inList d) ∷ [])) (go (figures false (b - 48) (inList d) ∷ [])) (go (dashed (inList d) ∷ [])) (opens d) halt halt
@@ -124,7 +114,7 @@ abbrev pub δc : Sym → ℕ → Class → Delta
 δc (field f) b c = choose c halt (go (zeroed f ∷ [])) (go (figures false (b - 48) f ∷ [])) (go (dashed f ∷ [])) halt halt halt
 δc (dashed f) b c = choose c halt halt (go (figures true (b - 48) f ∷ [])) halt halt halt halt
 δc (zeroed f) b c = choose c halt halt halt halt halt (shuts f (pos 0)) (gaps f (pos 0))
-δc (figures sg a f) b c = choose c halt (grow sg (10 * a + (b - 48)) f) (grow sg (10 * a + (b - 48)) f) halt halt (shuts f (signed sg a)) (gaps f (signed sg a))
+δc (figures sg a f) b c = choose c halt (grow sg (10 * a + (b - 48)) f) (grow sg (10 * a + (b - 48)) f) halt halt (shuts f (withMinus sg a)) (gaps f (withMinus sg a))
 δc (line k) b c = cond (eqb b 40) (go (opened k ∷ [])) halt
 δc (opened k) b c = cond (eqb b 110) (go (noteTail (line k ∷ []))) (cond (eqb b (letter k)) (go (syms (tailOf k))) halt)
 δc entry b c =
@@ -134,7 +124,7 @@ abbrev pub δc : Sym → ℕ → Class → Delta
     (cond (eqb b 109) (emit (rec mb) (syms (tailOf mbLine))) halt)))
 
 unfoldable pub δ : Sym → ℕ → Delta
-δ s b = δc s b (classOf b)
+δ s b = δc s b (byteClassOf b)
 
 -- a step, with the symbols k below
 abbrev pub push : Delta → List Sym → Delta
@@ -147,7 +137,7 @@ unfoldable pub stepK : List Sym → ℕ → Delta
 stepK [] b = cond (eqb b 40) (go (entry ∷ [])) halt
 stepK (s ∷ k) b = push (δ s b) k
 
--- a state: no text can go on; or what was told, and what has yet to come
+-- a state: no text can go on; or what was recorded, and what has yet to come
 pub data Cfg : Type 0 where
   dead : Cfg
   live : List Ev → List Sym → Cfg
