@@ -11,6 +11,7 @@ pub mod Places
 pub mod Pieces
 pub mod Reading
 pub mod Alone
+pub mod Numerals
 pub mod Signs
 pub mod Once
 pub mod OneLog

@@ -20,12 +20,6 @@ pub enum Got {
     Bad(usize),
 }
 
-// What digits are worth, and where they end.
-pub struct Digits {
-    worth: u32,
-    end: usize,
-}
-
 // A number, and where it ends.
 pub enum Num {
     Value(i16, usize),
