@@ -72,7 +72,7 @@ all-of f (each {c = c} p r) = each (f c p) (all-of f r)
 abbrev Tall : ℕ → Type 0
 Tall c = 42 ≤ c
 
-plain-tall : {n : ℕ} {t : List ℕ} → Plain n t → All Tall t
+plain-tall : {n : ℕ} {t : List ℕ} → Plain n t → All (λ c. 42 ≤ c) t
 plain-tall nought = each {c = 48} (omega arith) none
 plain-tall (digits {c = c} l m a) = each {c = c} (omega arith) (all-of {P = Digit} {Q = Tall} (λ c h. omega arith) a)
 
@@ -80,7 +80,7 @@ pub number-tall : {z : ℤ} {t : List ℕ} → Number z t → All (λ c. 42 ≤ 
 number-tall (unsigned l p) = plain-tall p
 number-tall (negative l p) = each {c = 45} (omega arith) (plain-tall p)
 
-simple-tall : {t : List ℕ} → Simple t → All Tall t
+pub simple-tall : {t : List ℕ} → Simple t → All (λ c. 42 ≤ c) t
 simple-tall (isWord (word {c = c} l a)) = each {c = c} (omega arith) (all-of {P = Letter} {Q = Tall} (λ c h. omega arith) a)
 simple-tall (isNumber h) = number-tall h
 

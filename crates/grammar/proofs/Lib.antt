@@ -12,6 +12,7 @@ pub mod Pieces
 pub mod Reading
 pub mod Alone
 pub mod Numerals
+pub mod Items
 pub mod Signs
 pub mod Once
 pub mod OneLog

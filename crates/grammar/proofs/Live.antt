@@ -30,7 +30,7 @@ zero-number = unsigned {n = 0} (omega arith) nought
 a-letter : Letter 97
 a-letter = omega arith
 
-one-plain : Plain 1 (49 ∷ [])
+pub one-plain : Plain 1 (49 ∷ [])
 one-plain = digits {c = 49} (omega arith) (omega arith) none
 
 fol-some : (B : Lang) → Some B → (f : Follow) (z : ℤ) → Some (Fol f z B)
@@ -60,7 +60,7 @@ parts-some (ended ∷ ps) B h =
     let k = fol-some (Seq (syms ps) B) (parts-some ps B h) shut (pos 0) in
     record { numbers = k .numbers; text = 48 ∷ k .text; is = (pos 0, record { left = 48 ∷ []; right = k .text; is = zero-number; then = k .is; cut = refl }) }
 
-a-word : (d : ℕ) → Item d (97 ∷ [])
+pub a-word : (d : ℕ) → Item d (97 ∷ [])
 a-word zero = isWord (word a-letter none)
 a-word (suc d) = inl (isWord (word a-letter none))
 

@@ -63,7 +63,7 @@ pub dash-of : (b : ℕ) (c : ByteClass) → c ≡ byteClassOf b → c ≡ Dash �
 dash-of b c e n = class-in b (sym e ∙ n)
 
 -- ---- digits
-all-more : {P : ℕ → Type 0} (t : List ℕ) (c : ℕ) → All P t → P c → All P (t ++ (c ∷ []))
+pub all-more : {P : ℕ → Type 0} (t : List ℕ) (c : ℕ) → All P t → P c → All P (t ++ (c ∷ []))
 all-more [] c h p = each p none
 all-more (b ∷ t) c h p = each (all-head h) (all-more t c (all-tail h) p)
 
