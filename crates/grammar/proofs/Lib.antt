@@ -13,6 +13,7 @@ pub mod Reading
 pub mod Alone
 pub mod Numerals
 pub mod Items
+pub mod Patterns
 pub mod Signs
 pub mod Once
 pub mod OneLog

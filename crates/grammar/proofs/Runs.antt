@@ -234,7 +234,7 @@ text-after {n} {rs} h =
     }
 
 -- how many numbers stand in a pattern, and in the lines of these kinds
-abbrev fieldsIn : List Part → ℕ
+abbrev pub fieldsIn : List Part → ℕ
 fieldsIn [] = 0
 fieldsIn (byte c ∷ ps) = fieldsIn ps
 fieldsIn (spaced ∷ ps) = suc (fieldsIn ps)
