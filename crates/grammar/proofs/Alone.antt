@@ -15,10 +15,10 @@ use Rattle.grammar.proofs.Runs.{seq-append}
 use Rattle.grammar.proofs.Reading.{Separate}
 
 -- nothing more
-abbrev End : Lang
+abbrev pub End : Lang
 End ws u = (ws ≡ []) × (u ≡ [])
 
-alone : (t y : List ℕ) (k : List Sym) (ws os : List Ev) → Seq k End ws t → Seq k End os (t ++ y) → y ≡ []
+pub alone : (t y : List ℕ) (k : List Sym) (ws os : List Ev) → Seq k End ws t → Seq k End os (t ++ y) → y ≡ []
 alone [] y [] ws os h g = g .1
 alone [] y (x ∷ k) ws os h g = absurd (not-none x (Seq k End) ws h)
 alone (b ∷ t) y [] ws os h g = no-cons (sym (h .1))

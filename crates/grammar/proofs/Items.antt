@@ -17,14 +17,16 @@ use Rattle.grammar.specs.declared.Num.the-variants.{Value, Bad as NoNumb
 use Rattle.grammar.specs.declared.Got.{Got}
 use Rattle.grammar.specs.declared.Got.the-variants.{At, Bad}
 use Rattle.grammar.specs.Readers.{byteClassOf, part, Begins, Stops, Stands, Breaks, ReadAt, Any, NumAt, Items, NoteTail, Exactly}
+use Rattle.grammar.proofs.Machine.{lit, rest}
 use Rattle.grammar.proofs.Cats.{Cat, no-cons}
+use Rattle.grammar.proofs.Residue.{Lit, Seq}
 use Rattle.grammar.proofs.Bytes.{class-in, class-alpha, class-zero, class-nonzero, class-dash, class-open, class-close, class-space}
 use Rattle.grammar.proofs.Forward.{rest-none, rest-cons, item-none, simple-none, number-none, all-head, all-tail}
 use Rattle.grammar.proofs.Backward.{simple-item}
 use Rattle.grammar.proofs.Live.{a-word}
 use Rattle.grammar.proofs.Pieces.{part-none, part-first, part-next}
 use Rattle.grammar.proofs.Reading.{bad-here, stops-after, read-after, read-as, breaks-as, Separate, breaks-first, then-read, stands-as-here, breaks-as-here}
-use Rattle.grammar.proofs.Alone.{rest-alone, listed-cat, cat-listed, simple-tall, all-at, item-separate}
+use Rattle.grammar.proofs.Alone.{End, alone, rest-alone, listed-cat, cat-listed, simple-tall, all-at, item-separate}
 use Rattle.grammar.proofs.Numerals.{tag, all-more, number-cons, exactly-separate, exactly-more, exactly-bad}
 
 -- ---- letters
@@ -285,3 +287,16 @@ module _ (s : List ℕ) (i : ℕ) where
 
     pub note-read : (e : ℕ) → Stands (Rest (Item 7)) s a e → (r : Got) → ReadAt (Exactly (10 ∷ [])) s e r → ReadAt NoteTail s i r
     note-read e k r m = note-then r (then-read (Rest (Item 7)) (Exactly (10 ∷ [])) s a (rest-separate 7 (Exactly (10 ∷ []))) e k r m)
+
+-- a note ends in one place
+pub note-tail-alone : (l : List ℕ) (c : ℕ) (y : List ℕ) → NoteTail l → NoteTail (l ++ (c ∷ y)) → ⊥
+note-tail-alone l c y h g =
+    no-cons (sym (alone l (c ∷ y) (lit 111 ∷ lit 116 ∷ lit 101 ∷ rest 7 ∷ lit 10 ∷ []) [] [] (as-lits (noted l h)) (as-lits (noted (l ++ (c ∷ y)) g))))
+  where
+    as-lits : {w : List ℕ} → Noted w → Seq (lit 111 ∷ lit 116 ∷ lit 101 ∷ rest 7 ∷ lit 10 ∷ []) End [] w
+    as-lits {w} h =
+        let r = h .then in
+        let a : w ≡ 111 ∷ 116 ∷ 101 ∷ h .right = h .cut ∙ ap (λ (x : List ℕ). x ++ h .right) (h .is) in
+        let b : Cat (Rest (Item 7)) (Lit 10 (End [])) (h .right) =
+        record { left = r .left; right = r .right; is = r .is; then = record { more = []; is = r .then; then = (refl, refl) }; cut = r .cut } in
+        record { more = _; is = a; then = record { more = _; is = refl; then = record { more = _; is = refl; then = b } } }

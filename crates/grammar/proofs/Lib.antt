@@ -14,6 +14,7 @@ pub mod Alone
 pub mod Numerals
 pub mod Items
 pub mod Patterns
+pub mod WholeText
 pub mod Signs
 pub mod Once
 pub mod OneLog

@@ -63,7 +63,7 @@ form-split (ended ∷ ps) qs w (vs, isEnded {z = z} {w = x} {vs = us} {t = t} n 
 form-join : (ps qs : List Part) (w : List ℕ) → Cat (Pattern ps) (Pattern qs) w → Pattern (ps ++ qs) w
 form-join ps qs w h = (h .is .0 ++ h .then .0, subst (Form (ps ++ qs) (h .is .0 ++ h .then .0)) (sym (h .cut)) (form-append (h .is .1) (h .then .1)))
 
-form-some : (ps : List Part) → Begins (Pattern ps) []
+pub form-some : (ps : List Part) → Begins (Pattern ps) []
 form-some [] = record { rest = []; is = ([], nothing) }
 form-some (byte c ∷ ps) = let k = form-some ps in record { rest = c ∷ k .rest; is = (k .is .0, isByte (k .is .1)) }
 form-some (spaced ∷ ps) = let k = form-some ps in record { rest = 48 ∷ 32 ∷ k .rest; is = (pos 0 ∷ k .is .0, isSpaced zero-number (k .is .1)) }

@@ -192,7 +192,7 @@ module _ (P Q : Bytes) (s : List ℕ) (i : ℕ) where
 
   module _ (sep : Separate P Q) (a : ℕ) (h : Stands P s i a) where
     -- a P and a Q that agree with the text as far as the first byte after the P: that P is the one that stands there
-    cut-here :
+    pub cut-here :
         (l r x : List ℕ) → P l → Q r → l ++ r ≡ part s i a ++ x → ((c : ℕ) (y : List ℕ) → x ≡ c ∷ y → (a < length s) × (getD s a 0 ≡ c)) → r ≡ x
     cut-here l r x p q e first = by-cut (compare l r (part s i a) x e)
       where
@@ -209,7 +209,7 @@ module _ (P Q : Bytes) (s : List ℕ) (i : ℕ) where
             }))
         by-cut (shorter c y u v) = absurd (sep .apart l c y (y ++ x) p (subst P u (h .is)) (subst Q v q))
 
-    then-stops : (p : ℕ) → Stops Q s a p → Stops (Cat P Q) s i p
+    pub then-stops : (p : ℕ) → Stops Q s a p → Stops (Cat P Q) s i p
     then-stops p k =
         let u : i ≤ a = h .stops .up in
         let v : a ≤ p = k .up in

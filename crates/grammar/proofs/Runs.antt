@@ -22,10 +22,10 @@ use Rattle.grammar.proofs.Backward.{backward}
 use Rattle.grammar.proofs.Live.{Sounds, SoundD, at-halt, at-go, at-emit, seq-some, not-none, sound-step}
 
 -- with nothing more asked: notes and record lines
-record Base (ws : List Ev) (u : List ℕ) : Type 0 where
-  entries : List Entry
-  is : ws ≡ flat entries
-  lines : Records entries u
+pub record Base (ws : List Ev) (u : List ℕ) : Type 0 where
+  pub entries : List Entry
+  pub is : ws ≡ flat entries
+  pub lines : Records entries u
 
 pub seq-append : (t k : List Sym) (B : Lang) → Seq (t ++ k) B ≡ Seq t (Seq k B)
 seq-append [] k B = refl
@@ -36,7 +36,7 @@ push-next halt k B ws u = refl
 push-next (go t) k B ws u = ap (λ (B : Lang). B ws u) (seq-append t k B)
 push-next (emit z t) k B ws u = ap (λ (B : Lang). Gives z B ws u) (seq-append t k B)
 
-records-cons : {rs : List Entry} {b : ℕ} {u : List ℕ} → Records rs (b ∷ u) → EntryOf Base (flat rs) (b ∷ u)
+pub records-cons : {rs : List Entry} {b : ℕ} {u : List ℕ} → Records rs (b ∷ u) → EntryOf Base (flat rs) (b ∷ u)
 records-cons {rs} {b} {u} h = by-text h refl
   where
     by-text : {rs : List Entry} {t : List ℕ} → Records rs t → t ≡ b ∷ u → EntryOf Base (flat rs) (b ∷ u)
@@ -56,7 +56,7 @@ records-cons {rs} {b} {u} h = by-text h refl
           cut = sym e;
         })
 
-entry-first : {B : Lang} {ws : List Ev} {b : ℕ} {u : List ℕ} → EntryOf B ws (b ∷ u) → b ≡ 40
+pub entry-first : {B : Lang} {ws : List Ev} {b : ℕ} {u : List ℕ} → EntryOf B ws (b ∷ u) → b ≡ 40
 entry-first (inl h) = note-first h
 entry-first {b = b} {u = u} (inr h) = by-form (h .this) (h .cut)
   where
@@ -178,11 +178,11 @@ pub nums-then : (vs : List ℤ) (os xs : List Ev) → nums vs os ++ xs ≡ nums 
 nums-then [] os xs = refl
 nums-then (z ∷ vs) os xs = ap (λ (o : List Ev). num z ∷ o) (nums-then vs os xs)
 
-abbrev lines : List Kind → List Sym
+abbrev pub lines : List Kind → List Sym
 lines [] = []
 lines (k ∷ ks) = line k ∷ lines ks
 
-heads-seq : {ks : List Kind} {g : List ℤ} {t : List ℕ} → Heads ks g t → (B : Lang) (os : List Ev) (r : List ℕ) → B os r → Seq (lines ks) B (nums g os) (t ++ r)
+pub heads-seq : {ks : List Kind} {g : List ℤ} {t : List ℕ} → Heads ks g t → (B : Lang) (os : List Ev) (r : List ℕ) → B os r → Seq (lines ks) B (nums g os) (t ++ r)
 heads-seq noHead B os r h = h
 heads-seq (head {vs = vs} {ws = ws} {n = n} {t = t} {u = u} ns f hs) B os r h =
     record {
@@ -240,7 +240,7 @@ fieldsIn (byte c ∷ ps) = fieldsIn ps
 fieldsIn (spaced ∷ ps) = suc (fieldsIn ps)
 fieldsIn (ended ∷ ps) = suc (fieldsIn ps)
 
-abbrev fieldsOf : List Kind → ℕ
+abbrev pub fieldsOf : List Kind → ℕ
 fieldsOf [] = 0
 fieldsOf (k ∷ ks) = fieldsIn (tailOf k) + fieldsOf ks
 
@@ -250,16 +250,16 @@ form-count (isByte f) = form-count f
 form-count (isSpaced n f) = ap suc (form-count f)
 form-count (isEnded n f) = ap suc (form-count f)
 
-heads-count : {ks : List Kind} {vs : List ℤ} {t : List ℕ} → Heads ks vs t → length vs ≡ fieldsOf ks
+pub heads-count : {ks : List Kind} {vs : List ℤ} {t : List ℕ} → Heads ks vs t → length vs ≡ fieldsOf ks
 heads-count noHead = refl
 heads-count (head {vs = vs} {ws = ws} n f h) = length-append vs ws ∙ (cc (form-count f, heads-count h))
 
 -- eight numbers are the geometry's
-record Eight (vs : List ℤ) : Type 0 where
-  numbers : Numbers
-  is : vs ≡ headNumbers numbers
+pub record Eight (vs : List ℤ) : Type 0 where
+  pub numbers : Numbers
+  pub is : vs ≡ headNumbers numbers
 
-eight : (vs : List ℤ) → length vs ≡ 8 → Eight vs
+pub eight : (vs : List ℤ) → length vs ≡ 8 → Eight vs
 eight [] e = absurd (omega arith)
 eight (a ∷ []) e = absurd (omega arith)
 eight (a ∷ b ∷ []) e = absurd (omega arith)

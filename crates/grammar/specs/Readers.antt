@@ -136,9 +136,17 @@ TailOf r = Form (tailOf (kindOf r))
 abbrev pub EntryTail : Entry → List ℕ → Type 0
 EntryTail e w = LineOf (kindOf (e .kind)) (e .fields) (40 ∷ w)
 
--- notes, and a line ( and w and two numbers
+-- the bytes of w, two numbers and the end of a line
+abbrev pub HeadTail : List ℕ → List ℤ → List ℕ → Type 0
+HeadTail w = Form (bytes w (numbers 1 (byte 10 ∷ [])))
+
+-- they do not begin as a note does after its bracket
+abbrev pub NoNote : List ℕ → Type 0
+NoNote w = (0 < length w) × (getD w 0 0 ≡ 110 → ⊥)
+
+-- notes, and a bracket with these bytes, numbers and end
 pub data HeadLine (w : List ℕ) : List ℤ → List ℕ → Type 0 where
-  headLine : {vs : List ℤ} {n t : List ℕ} → Notes n → Form (byte 40 ∷ bytes w (numbers 1 (byte 10 ∷ []))) vs t → HeadLine w vs (n ++ t)
+  headLine : {vs : List ℤ} {n t : List ℕ} → Notes n → HeadTail w vs t → HeadLine w vs (n ++ (40 ∷ t))
 
 -- ---- A reader after another. r is what the one before it handed back; where that is bad, so is what comes after it, and the words stay.
 abbrev pub InText : List ℕ → Got → Type 0
