@@ -310,7 +310,7 @@ pub intra-breaks :
 intra-breaks s i p t = word-pattern (110 ∷ 116 ∷ 114 ∷ 97 ∷ 41 ∷ 10 ∷ []) s i (Bad p) t
 
 -- ---- a record line after its bracket
-entry-cons :
+pub entry-cons :
     {b : ℕ} {w : List ℕ} {C : Type 0} → Any EntryTail (b ∷ w) → ((r : RecordKind) → b ≡ letter (kindOf r) → Any (TailOf r) w → C) → C
 entry-cons {b} {w} {C} (e, h) f = by-text h refl
   where
@@ -318,13 +318,13 @@ entry-cons {b} {w} {C} (e, h) f = by-text h refl
     by-text (isByte (isByte {t = t} g)) q =
         f (e .kind) (sym (heads (tails q))) (e .fields, subst (TailOf (e .kind) (e .fields)) (tails (tails q)) g)
 
-entry-none : Any EntryTail [] → ⊥
+pub entry-none : Any EntryTail [] → ⊥
 entry-none (e, h) = by-text h refl
   where
     by-text : {t : List ℕ} → LineOf (kindOf (e .kind)) (e .fields) t → t ≡ 40 ∷ [] → ⊥
     by-text (isByte (isByte g)) q = no-cons (sym (tails q))
 
-same-kind : (r q : RecordKind) → letter (kindOf r) ≡ letter (kindOf q) → r ≡ q
+pub same-kind : (r q : RecordKind) → letter (kindOf r) ≡ letter (kindOf q) → r ≡ q
 same-kind intra intra e = refl
 same-kind intra whole e = absurd (omega arith)
 same-kind intra mb e = absurd (omega arith)

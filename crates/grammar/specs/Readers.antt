@@ -176,6 +176,12 @@ abbrev pub WordsOf : List Entry → List ℤ → List ℤ → Type 0
 WordsOf entries old new =
     (length entries ≤ textRecords → new ≡ baseOf entries ++ drop (recordWords * length entries) old) × (textRecords < length entries → new ≡ old)
 
+-- what stands from i up to the end of s is no P, and p is the first byte at which none can go on, or the length
+pub record BreaksToEnd (P : List ℕ → Type 0) (s : List ℕ) (i p : ℕ) : Type 0 where
+  pub none : P (part s i (length s)) → ⊥
+  pub so-far : Begins P (part s i p)
+  pub stops : Stops P s i p
+
 -- from i up to the end of s stand notes and n record lines
 pub record LinesRead (s : List ℕ) (i : ℕ) (old new : List ℤ) (n : ℕ) : Type 0 where
   pub entries : List Entry
@@ -183,16 +189,9 @@ pub record LinesRead (s : List ℕ) (i : ℕ) (old new : List ℤ) (n : ℕ) : T
   pub is : Records entries (part s i (length s))
   pub words : WordsOf entries old new
 
--- what stands from i up to the end of s is no such thing, and p is the first byte at which none can go on, or the length; every word stays
-pub record LinesBroken (s : List ℕ) (i : ℕ) (old new : List ℤ) (p : ℕ) : Type 0 where
-  pub none : Any Records (part s i (length s)) → ⊥
-  pub so-far : Begins (Any Records) (part s i p)
-  pub stops : Stops (Any Records) s i p
-  pub words : new ≡ old
-
 abbrev pub LinesAt : List ℕ → ℕ → List ℤ → List ℤ → Lines → Type 0
 LinesAt s i old new (Count n) = LinesRead s i old new n
-LinesAt s i old new (NoLines p) = LinesBroken s i old new p
+LinesAt s i old new (NoLines p) = (new ≡ old) × BreaksToEnd (Any Records) s i p
 
 -- the whole text
 pub record TextIs (s : List ℕ) (old new : List ℤ) (n : Numbers) (count : ℕ) : Type 0 where
