@@ -212,6 +212,9 @@ pub fields-bytes : (w : List ℕ) (ps : List Part) → fieldsIn (bytes w ps) ≡
 fields-bytes [] ps = refl
 fields-bytes (c ∷ w) ps = fields-bytes w ps
 
+pub no-fields : (w : List ℕ) → 0 ≡ 0 + fieldsIn (bytes w [])
+no-fields w = let e = fields-bytes w [] in omega arith
+
 pub head-tail-chain :
     (w : List ℕ) {s : List ℕ} {i : ℕ} {old : List ℤ} {from : ℕ} {new : List ℤ} {r : Got} → Chain ((bytes w [] ++ numbers 1 []) ++ (byte 10 ∷ [])) s i old from new r
     → Chain (bytes w (numbers 1 (byte 10 ∷ []))) s i old from new r
@@ -515,6 +518,21 @@ lines-stored s at n own old new p h l m len e =
     }
 
 -- ---- the head lines, and the whole text
+-- eight numbers, one by one
+pub one-by-one :
+    (v : List ℤ) → length v ≡ 8
+    → getD v 0 (pos 0) ∷ getD v 1 (pos 0) ∷ getD v 2 (pos 0) ∷ getD v 3 (pos 0) ∷ getD v 4 (pos 0) ∷ getD v 5 (pos 0) ∷ getD v 6 (pos 0) ∷ getD v 7 (pos 0) ∷ [] ≡ v
+one-by-one [] e = absurd (omega arith)
+one-by-one (a ∷ []) e = absurd (omega arith)
+one-by-one (a ∷ b ∷ []) e = absurd (omega arith)
+one-by-one (a ∷ b ∷ c ∷ []) e = absurd (omega arith)
+one-by-one (a ∷ b ∷ c ∷ d ∷ []) e = absurd (omega arith)
+one-by-one (a ∷ b ∷ c ∷ d ∷ i ∷ []) e = absurd (omega arith)
+one-by-one (a ∷ b ∷ c ∷ d ∷ i ∷ j ∷ []) e = absurd (omega arith)
+one-by-one (a ∷ b ∷ c ∷ d ∷ i ∷ j ∷ k ∷ []) e = absurd (omega arith)
+one-by-one (a ∷ b ∷ c ∷ d ∷ i ∷ j ∷ k ∷ l ∷ []) e = refl
+one-by-one (a ∷ b ∷ c ∷ d ∷ i ∷ j ∷ k ∷ l ∷ m ∷ v) e = absurd (omega arith)
+
 -- a line of kind k is the one that begins with w
 pub record HeadKind (k : Kind) (w : List ℕ) : Type 0 where
   pub is : byte (letter k) ∷ tailOf k ≡ bytes w (numbers 1 (byte 10 ∷ []))
