@@ -1,24 +1,18 @@
-// The text call: it judges the whole text, and only then writes the words of its record lines.
+// The text call: it tests the lengths, reads the whole text, and tests the count of record lines.
 ghost use Prim.Native.Nat.{_*_};
 ghost use mathlib.Core.Path.{_≡_};
 ghost use lib.ListN.{length};
 ghost use Rattle.definitions.specs.Record.{recordWords};
 ghost use Rattle.definitions.specs.Text.{ReadExactly, TextAnswer, textRecords};
-ghost use Rattle.grammar.specs.Promises.{AllStored, Room};
-use definitions::RECORD_WORDS;
 use definitions::Refusal;
 use definitions::TextRead;
 use definitions::TextReply;
-use grammar::Got;
-use grammar::Judged;
-use sync_notes::note;
-use sync_read::judge;
-use sync_records::record_line;
+use grammar::TextParse;
+use sync_read::parse;
+use sync_read::RECORDS;
 
-// The records whose words are lent, and these words; and the bytes of the longest text.
-const RECORDS: usize = 99;
-
-pub const TEXT_WORDS: usize = RECORD_WORDS * RECORDS;
+// The words that are lent, and the bytes of the longest text.
+pub const TEXT_WORDS: usize = sync_read::TEXT_WORDS;
 
 const BYTES: usize = 65536;
 
@@ -30,41 +24,6 @@ const TOO_LONG: u32 = 10;
 const BROKEN: u32 = 9;
 
 const TOO_MANY: u32 = 10;
-
-// The words of the record lines of a text that was judged, from where they begin. No line is bad any more.
-fn store_records(s: &[u8], at: usize, words: &mut [i16])
-    requires { ⌜ Room (now s) at (now words) ⌝ }
-    ensures { λ _. ⌜ AllStored (now (s .entry)) at (now (words .entry)) (now (words .exit)) ⌝ }
-{
-    let mut p = at;
-    let mut from: usize = 0;
-    while p < s.len() {
-        let q = p + 1;
-        let b = s[q];
-        if b == b'n' {
-            let t = note(s, q + 1);
-            match t {
-                Got::At(e) => {
-                    p = e;
-                }
-                Got::Bad(_) => {
-                    return;
-                }
-            }
-        } else {
-            let t = record_line(s, q, b, words, from);
-            match t {
-                Got::At(e) => {
-                    p = e;
-                    from += RECORD_WORDS;
-                }
-                Got::Bad(_) => {
-                    return;
-                }
-            }
-        }
-    }
-}
 
 fn refused(number: u32, place: u32) -> TextReply
     ensures { λ r. ⌜ r ≡ TextReply.Refused (record { number = number; place = place; rule = 0 }) ⌝ }
@@ -88,19 +47,17 @@ pub fn read_text(bytes: &[u8], words: &mut [i16]) -> TextReply
     if bytes.len() > BYTES {
         return refused(TOO_LONG, 0);
     }
-    let t = judge(bytes);
+    let t = parse(bytes, words);
     match t {
-        Judged::Right(numbers, at, lines) => {
+        TextParse::Parsed(numbers, lines) => {
             if lines > RECORDS {
                 return refused(TOO_MANY, 0);
             }
-            let count = lines as u32;
-            store_records(bytes, at, words);
             TextReply::Read(TextRead {
                 numbers: numbers,
-                lines: count,
+                lines: lines as u32,
             })
         }
-        Judged::Wrong(p) => refused(BROKEN, p as u32),
+        TextParse::Bad(p) => refused(BROKEN, p as u32),
     }
 }
