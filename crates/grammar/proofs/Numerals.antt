@@ -150,48 +150,52 @@ digits-plain s i b top n e l m h = subst (λ (n : ℕ). Plain n (b ∷ part s i 
 
 module _ (s : List ℕ) (i : ℕ) (l : i < length s) where
   pub number-zero : getD s i 0 ≡ 48 → NumAt Number s i (Value (pos 0) (i + 1))
-  number-zero b =
-      (subst (Number (pos 0)) (sym (part-first s i (i + 1) (omega arith) l ∙ (cc (b, part-none s (i + 1) (i + 1) (omega arith))))) zero-number,
-      stops-after (Any Number) s i l (i + 1)
-      (record {
-        up = omega arith;
-        within = omega arith;
-        no-further = λ m h.
-            let f = part-first s (i + 1) (i + 1 + 1) (omega arith) m in
-            number-cons (h .is .1) (λ q r. no-cons (sym (ap (λ (w : List ℕ). w ++ h .rest) (sym f) ∙ r))) (λ m q r v w. omega arith) (λ q. omega arith);
-      }))
+  number-zero b = (
+    subst (Number (pos 0)) (sym (part-first s i (i + 1) (omega arith) l ∙ (cc (b, part-none s (i + 1) (i + 1) (omega arith))))) zero-number,
+    stops-after (Any Number) s i l (i + 1)
+        (record {
+          up = omega arith;
+          within = omega arith;
+          no-further = λ m h.
+              let f = part-first s (i + 1) (i + 1 + 1) (omega arith) m in
+              number-cons (h .is .1) (λ q r. no-cons (sym (ap (λ (w : List ℕ). w ++ h .rest) (sym f) ∙ r))) (λ m q r v w. omega arith) (λ q. omega arith);
+        }),
+  )
 
   module _ (low : 49 ≤ getD s i 0) (high : getD s i 0 ≤ 57) where
     pub number-digits : (n e : ℕ) → DigitsAt s (i + 1) (getD s i 0 - 48) 32767 n e → NumAt Number s i (Value (pos n) e)
     number-digits n e h =
-        let u : i + 1 ≤ e = h .up in
-        (subst (Number (pos n)) (sym (part-first s i e (omega arith) l)) (unsigned (h .most) (digits-plain s (i + 1) (getD s i 0) 32767 n e low high h)),
-        stops-after (Any Number) s i l e
-        (record {
-          up = h .up;
-          within = h .within;
-          no-further = λ m k.
-              number-cons (k .is .1) (λ q r. omega arith) (λ j q r v w. digits-stop s (i + 1) (getD s i 0 - 48) 32767 n e h m j (k .rest) v w) (λ q. omega arith);
-        }))
+        let u : i + 1 ≤ e = h .up in (
+          subst (Number (pos n)) (sym (part-first s i e (omega arith) l)) (unsigned (h .most) (digits-plain s (i + 1) (getD s i 0) 32767 n e low high h)),
+          stops-after (Any Number) s i l e
+              (record {
+                up = h .up;
+                within = h .within;
+                no-further = λ m k.
+                    number-cons (k .is .1) (λ q r. omega arith) (λ j q r v w. digits-stop s (i + 1) (getD s i 0 - 48) 32767 n e h m j (k .rest) v w) (λ q. omega arith);
+              }),
+        )
 
     pub minus-digits : (n e : ℕ) → DigitsAt s (i + 1) (getD s i 0 - 48) 32768 n e → NumAt AfterMinus s i (Value (minus n) e)
     minus-digits n e h =
         let u : i + 1 ≤ e = h .up in
         let v = valued-grows (getD s i 0 - 48) (part s (i + 1) e) in
-        let w = h .worth in
-        (subst (λ (t : List ℕ). Number (minus n) (45 ∷ t)) (sym (part-first s i e (omega arith) l)) (minus-number n (omega arith) (h .most) (digits-plain s (i + 1) (getD s i 0) 32768 n e low high h)),
-        stops-after (Any AfterMinus) s i l e
-        (record {
-          up = h .up;
-          within = h .within;
-          no-further = λ m k. minus-cons (k .is .1) (λ j q r v w. digits-stop s (i + 1) (getD s i 0 - 48) 32768 n e h m j (k .rest) v w);
-        }))
+        let w = h .worth in (
+          subst (λ (t : List ℕ). Number (minus n) (45 ∷ t)) (sym (part-first s i e (omega arith) l)) (minus-number n (omega arith) (h .most) (digits-plain s (i + 1) (getD s i 0) 32768 n e low high h)),
+          stops-after (Any AfterMinus) s i l e
+              (record {
+                up = h .up;
+                within = h .within;
+                no-further = λ m k. minus-cons (k .is .1) (λ j q r v w. digits-stop s (i + 1) (getD s i 0 - 48) 32768 n e h m j (k .rest) v w);
+              }),
+        )
 
   pub number-minus : getD s i 0 ≡ 45 → (r : Num) → NumAt AfterMinus s (i + 1) r → NumAt Number s i r
   number-minus b (Value z e) h =
-      let u : i + 1 ≤ e = h .1 .up in
-      (subst (Number z) (sym (part-first s i e (omega arith) l ∙ ap (λ (x : ℕ). x ∷ part s (i + 1) e) b)) (h .0),
-      stops-after (Any Number) s i l e (subst (λ (x : ℕ). Stops (λ w. Any Number (x ∷ w)) s (i + 1) e) (sym b) (h .1)))
+      let u : i + 1 ≤ e = h .1 .up in (
+        subst (Number z) (sym (part-first s i e (omega arith) l ∙ ap (λ (x : ℕ). x ∷ part s (i + 1) e) b)) (h .0),
+        stops-after (Any Number) s i l e (subst (λ (x : ℕ). Stops (λ w. Any Number (x ∷ w)) s (i + 1) e) (sym b) (h .1)),
+      )
   number-minus b (NoNumber p) h =
       breaks-after (Any Number) s i l (λ x. number-none (x .1)) p (subst (λ (x : ℕ). Breaks (λ w. Any Number (x ∷ w)) s (i + 1) p) (sym b) h)
 
@@ -298,6 +302,7 @@ module _ (s : List ℕ) (i : ℕ) (last : Bool) where
     pub field-read : e < length s → getD s e 0 ≡ closer last → NumAt (FieldOf last) s i (Value z (e + 1))
     field-read l b =
         let m : e + 1 ≤ length s = omega arith in
-        let k = then-stands (Any Number) (Exactly (closer last ∷ [])) s i (number-separate last) e stands (e + 1) (exactly-more s e (closer last) [] l b (At (e + 1)) (exactly-none s (e + 1) m)) in
-        (subst (FieldOf last z) (sym (part-next s i e (h .1 .up) l ∙ ap (λ (x : ℕ). part s i e ++ (x ∷ [])) b)) (field-of last z (part s i e) (h .0)),
-        stops-as (Closed last) (Any (FieldOf last)) s i (closed-field last) (field-closed last) (e + 1) (k .stops))
+        let k = then-stands (Any Number) (Exactly (closer last ∷ [])) s i (number-separate last) e stands (e + 1) (exactly-more s e (closer last) [] l b (At (e + 1)) (exactly-none s (e + 1) m)) in (
+          subst (FieldOf last z) (sym (part-next s i e (h .1 .up) l ∙ ap (λ (x : ℕ). part s i e ++ (x ∷ [])) b)) (field-of last z (part s i e) (h .0)),
+          stops-as (Closed last) (Any (FieldOf last)) s i (closed-field last) (field-closed last) (e + 1) (k .stops),
+        )

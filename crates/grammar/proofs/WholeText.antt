@@ -190,11 +190,12 @@ module _ (w : List ℕ) (s : List ℕ) (p : ℕ) where
               stops = open-stops a (stops-after Opened s (p + 1) m a (subst (λ (x : ℕ). Stops (λ u. Opened (x ∷ u)) s (p + 1 + 1) a) (sym c) (stops-as (Cat NoteTail (Any (HeadLine w))) (λ u. Opened (110 ∷ u)) s (p + 1 + 1) to-noted of-noted a (t .stops))));
               stored = h .stored;
             }
-        head-note old from new (Bad q) h =
-            (h .0,
-            from-open q (breaks-after Opened s (p + 1) m opened-none q (subst (λ (x : ℕ). Breaks (λ u. Opened (x ∷ u)) s (p + 1 + 1) q) (sym c)
-            (breaks-as (Cat NoteTail (Any (HeadLine w))) (λ u. Opened (110 ∷ u)) s (p + 1 + 1) to-noted of-noted q
-            (then-breaks NoteTail (Any (HeadLine w)) s (p + 1 + 1) (note-separate (Any (HeadLine w))) e k q (h .1))))))
+        head-note old from new (Bad q) h = (
+          h .0,
+          from-open q (breaks-after Opened s (p + 1) m opened-none q (subst (λ (x : ℕ). Breaks (λ u. Opened (x ∷ u)) s (p + 1 + 1) q) (sym c)
+              (breaks-as (Cat NoteTail (Any (HeadLine w))) (λ u. Opened (110 ∷ u)) s (p + 1 + 1) to-noted of-noted q
+              (then-breaks NoteTail (Any (HeadLine w)) s (p + 1 + 1) (note-separate (Any (HeadLine w))) e k q (h .1))))),
+        )
 
       module _ (c : getD s (p + 1) 0 ≡ 110) where
         pub head-note-bad : (q : ℕ) → Breaks NoteTail s (p + 1 + 1) q → Breaks (Any (HeadLine w)) s p q

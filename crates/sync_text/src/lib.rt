@@ -8,8 +8,8 @@ use definitions::Refusal;
 use definitions::TextRead;
 use definitions::TextReply;
 use grammar::TextParse;
-use sync_read::parse;
 use sync_read::RECORDS;
+use sync_read::parse;
 
 // The words that are lent, and the bytes of the longest text.
 pub const TEXT_WORDS: usize = sync_read::TEXT_WORDS;

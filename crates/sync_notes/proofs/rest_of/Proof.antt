@@ -1,6 +1,5 @@
 -- `sync_notes::rest_of` meets its contract. Assumes nothing.
 use Rattle.grammar.proofs.Items.{rest-ends, rest-bad, rest-close, rest-space}
-use native.Mathlib.Omega.{arith}
 use borrow.Author.Needs.{needs}
 use Rattle.sync_notes.proofs.rest_of.Statement.{statement}
 use Rattle.sync_notes.proofs.rest_of.Tie as tie

@@ -1,6 +1,6 @@
 -- `sync_numbers::figures` meets its contract. Assumes nothing.
 use Rattle.grammar.proofs.Numerals.{DigitsSoFar, digit-of, no-digit, digits-first, digits-more, digits-end}
-use Prim.Native.Nat.{_≤_, _-_}
+use Prim.Native.Nat.{_-_}
 use native.Mathlib.Omega.{arith}
 use borrow.Author.Needs.{needs}
 use lib.ListN.{length}

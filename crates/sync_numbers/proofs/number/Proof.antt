@@ -1,89 +1,67 @@
+-- `sync_numbers::number` meets its contract. Assumes nothing.
 use Rattle.grammar.proofs.Numerals.{nonzero-of, zero-of, dash-of, number-ends, number-bad, number-zero, number-digits, number-minus}
-use Rattle.grammar.proofs.Signs.{pos-fits16, pos-is}
+use Rattle.grammar.proofs.Signs.{pos-is}
 use native.Mathlib.Omega.{arith}
 use borrow.Author.Needs.{needs}
 use Rattle.sync_numbers.proofs.number.Statement.{statement}
 use Rattle.sync_numbers.proofs.number.Tie as tie
-use Rattle.sync_numbers.proofs.number.Reads as reads
-use Rattle.sync_numbers.proofs.number.Lts as lts
-use Rattle.sync_numbers.proofs.class_of.Reads as class-of-reads
-use Rattle.sync_numbers.proofs.dashed.Reads as dashed-reads
-use Rattle.sync_numbers.proofs.figures.Reads as figures-reads
 
--- src/lib.rt:102:9
 returns : tie.Need-returns
 returns c = number-ends _ _ (c .before .before .pre) (c .if1 .taken)
 
--- src/lib.rt:104:13
 shared-slice-read-b : tie.Need-shared-slice-read-b
 shared-slice-read-b c = search needs
 
--- src/lib.rt:105:9
 class-of-requires : tie.Need-class-of-requires
 class-of-requires c κs = search needs
 
--- src/lib.rt:107:42
 enum-told : tie.Need-enum-told
 enum-told c = search needs
 
--- src/lib.rt:107:42
 add-t11 : tie.Need-add-t11
 add-t11 c = search needs
 
--- src/lib.rt:109:32
 enum-told-2 : tie.Need-enum-told-2
 enum-told-2 c = search needs
 
--- src/lib.rt:109:32
 add-figures : tie.Need-add-figures
 add-figures c = search needs
 
--- src/lib.rt:109:40
 cast-figures : tie.Need-cast-figures
 cast-figures c = omega (arith, nonzero-of _ _ (c .before .before .class-of .ensures) (c .enum-told2 .given .1))
 
--- src/lib.rt:109:40
 sub-figures : tie.Need-sub-figures
 sub-figures c = omega (arith, nonzero-of _ _ (c .before .before .class-of .ensures) (c .enum-told2 .given .1))
 
--- src/lib.rt:109:17
 figures-requires : tie.Need-figures-requires
 figures-requires c κs = omega (arith, nonzero-of _ _ (c .before .before .class-of .ensures) (c .enum-told2 .given .1))
 
--- src/lib.rt:110:24
 cast-t15 : tie.Need-cast-t15
 cast-t15 c = search needs
 
--- src/lib.rt:112:38
 enum-told-3 : tie.Need-enum-told-3
 enum-told-3 c = search needs
 
--- src/lib.rt:112:38
 add-dashed : tie.Need-add-dashed
 add-dashed c = search needs
 
--- src/lib.rt:112:28
 dashed-requires : tie.Need-dashed-requires
 dashed-requires c κs = search needs
 
--- src/lib.rt:97:1
 returns-2 : tie.Need-returns-2
 returns-2 c = number-zero _ _ (c .before .before .before .before .if1 .left) (zero-of _ _ (c .before .before .class-of .ensures) (c .enum-told .given .1))
 
--- src/lib.rt:97:1
 returns-3 : tie.Need-returns-3
-returns-3 c = 
+returns-3 c =
     let t = c .before .before in
     let b = nonzero-of _ _ (t .before .before .class-of .ensures) (t .enum-told2 .given .1) in
     rw (pos-is (c .before .figures .result .worth) (c .before .figures .ensures .most)) (number-digits _ _ (t .before .before .before .before .if1 .left) (b .0) (b .1) _ _ (c .before .figures .ensures))
 
--- src/lib.rt:97:1
 returns-4 : tie.Need-returns-4
-returns-4 c = 
+returns-4 c =
     let t = c .before in
     number-minus _ _ (t .before .before .before .before .if1 .left) (dash-of _ _ (t .before .before .class-of .ensures) (t .enum-told3 .given .1)) (c .dashed .result) (c .dashed .ensures)
 
--- src/lib.rt:97:1
 returns-5 : tie.Need-returns-5
 returns-5 c = number-bad _ _ (c .before .before .before .before .before .pre) _ (c .before .class-of .ensures) (c .match .keys4)
 

@@ -1,6 +1,7 @@
+-- `sync_read::head_line` meets its contract. Assumes nothing.
 use Rattle.grammar.proofs.WholeText.{head-bad, head-cut, head-line, head-note, head-note-bad}
 use Rattle.grammar.specs.Readers.{asRead, HeadLine, StoresAt}
-use Rattle.grammar.specs.declared.Got.the-variants.{At, Bad}
+use Rattle.grammar.specs.declared.Got.the-variants.{Bad}
 use Rattle.grammar.specs.declared.Got.{Got}
 use borrow.Author.Needs.{needs}
 use lib.ListN.{length}
@@ -11,10 +12,6 @@ use mathlib.Core.Path.{_≡_, refl, ap, _∙_}
 use Prim.Native.Nat.{_≤_, _-_}
 use Rattle.sync_read.proofs.head_line.Statement.{statement}
 use Rattle.sync_read.proofs.head_line.Tie as tie
-use Rattle.sync_read.proofs.head_line.Reads as reads
-use Rattle.sync_read.proofs.head_line.Lts as lts
-use Rattle.sync_notes.proofs.note.Reads as note-reads
-use Rattle.sync_read.proofs.head_tail.Reads as head-tail-reads
 
 abbrev Inv-loop : tie.InvT-loop
 Inv-loop s at w out₀ from p₀ out p = (out ≡ out₀) × (at ≤ p) × (p ≤ length s) × ((new : List ℤ) (r : Got) → StoresAt (HeadLine w) asRead s p out₀ from new r → StoresAt (HeadLine w) asRead s at out₀ from new r)
@@ -22,61 +19,50 @@ Inv-loop s at w out₀ from p₀ out p = (out ≡ out₀) × (at ≤ p) × (p �
 abbrev μ-loop : tie.MeasureT-loop
 μ-loop s at w out₀ from p₀ out p = length s - p
 
--- src/lib.rt:49:5
 loop-holds : tie.Need-loop-holds Inv-loop μ-loop
 loop-holds c = (refl, omega arith, c .before .before .pre .0, λ new r h. h)
 
--- src/lib.rt:50:12
 shared-slice-read-if1 : tie.Need-shared-slice-read-if1 Inv-loop μ-loop
 shared-slice-read-if1 c = search needs
 
--- src/lib.rt:51:13
 same-length : tie.Need-same-length Inv-loop μ-loop
 same-length c = ap length (c .before .before .before .loop .inv .0)
 
--- src/lib.rt:51:13
 returns : tie.Need-returns Inv-loop μ-loop
-returns c = 
+returns c =
     let o = c .before .before .before .before .before .before in
     let a = o .args in
     let l = c .before .before .before .loop in
     l .inv .3 (l .out) (Bad _) (l .inv .0, head-bad (a .w .now) (a .s .now) (l .p) (l .inv .2) (λ q b. c .if1 .taken b))
 
--- src/lib.rt:53:17
 add-q : tie.Need-add-q Inv-loop μ-loop
 add-q c = search needs
 
--- src/lib.rt:55:13
 same-length-2 : tie.Need-same-length-2 Inv-loop μ-loop
 same-length-2 c = ap length (c .before .before .before .before .loop .inv .0)
 
--- src/lib.rt:55:13
 returns-2 : tie.Need-returns-2 Inv-loop μ-loop
-returns-2 c = 
+returns-2 c =
     let o = c .before .before .before .before .before .before .before in
     let a = o .args in
     let l = c .before .before .before .before .loop in
     l .inv .3 (l .out) (Bad _) (l .inv .0, head-cut (a .w .now) (a .s .now) (l .p) (o .pre .1) (c .before .before .before .loop-test .taken) (c .before .if1 .left) (c .if2 .taken))
 
--- src/lib.rt:57:12
 shared-slice-read-if3 : tie.Need-shared-slice-read-if3 Inv-loop μ-loop
 shared-slice-read-if3 c = search needs
 
--- src/lib.rt:58:13
 head-tail-requires : tie.Need-head-tail-requires Inv-loop μ-loop
-head-tail-requires c κs = 
+head-tail-requires c κs =
     let l = c .before .before .before .before .before .before .before .loop in
     let m = c .before .before .before .if2 .left in
     let e = ap length (l .inv .0) in
     (omega arith, omega (arith, c .before .before .before .before .before .before .before .before .before .before .pre .2))
 
--- src/lib.rt:58:13
 same-length-3 : tie.Need-same-length-3 Inv-loop μ-loop
 same-length-3 c = c .out .given ∙ ap length (c .before .before .before .before .before .before .before .before .before .loop .inv .0)
 
--- src/lib.rt:58:13
 returns-3 : tie.Need-returns-3 Inv-loop μ-loop
-returns-3 c = 
+returns-3 c =
     let o = c .before .before .before .before .before .before .before .before .before .before .before .before in
     let a = o .args in
     let l = c .before .before .before .before .before .before .before .before .before .loop in
@@ -84,30 +70,25 @@ returns-3 c =
     (head-line (a .w .now) (a .s .now) (l .p) (o .pre .1) (c .before .before .before .before .before .before .before .before .loop-test .taken) (c .before .before .before .before .before .before .if1 .left) (c .before .before .before .before .before .if2 .left) (c .before .before .before .if3 .taken) (a .out .now) (a .from) _ (c .before .head-tail .result)
     (rw (l .inv .0) at (c .before .head-tail .ensures)))
 
--- src/lib.rt:60:25
 add-note : tie.Need-add-note Inv-loop μ-loop
 add-note c = search needs
 
--- src/lib.rt:60:13
 note-requires : tie.Need-note-requires Inv-loop μ-loop
 note-requires c κs = search needs
 
--- src/lib.rt:62:21
 enum-known-t : tie.Need-enum-known-t Inv-loop μ-loop
 enum-known-t c = search needs
 
--- src/lib.rt:49:5
 loop-less : tie.Need-loop-less Inv-loop μ-loop
-loop-less c = 
+loop-less c =
     let l = c .before .before .before .before .before .before .before .before .before .before .loop in
     let v = rw (c .before .t .given .1) at (c .before .before .before .note .ensures) in
     let u = v .stops .up in
     let w = v .stops .within in
     omega arith
 
--- src/lib.rt:49:5
 loop-again : tie.Need-loop-again Inv-loop μ-loop
-loop-again c = 
+loop-again c =
     let o = c .before .before .before .before .before .before .before .before .before .before .before .before .before in
     let a = o .args in
     let l = c .before .before .before .before .before .before .before .before .before .before .loop in
@@ -115,30 +96,25 @@ loop-again c =
     let u = v .stops .up in
     (l .inv .0, omega arith, v .stops .within, λ new r h. l .inv .3 new r (head-note (a .w .now) (a .s .now) (l .p) (o .pre .1) (c .before .before .before .before .before .before .before .before .before .loop-test .taken) (c .before .before .before .before .before .before .before .if1 .left) (c .before .before .before .before .before .before .if2 .left) (c .before .before .before .before .if3 .left) _ v (a .out .now) (a .from) new r h))
 
--- src/lib.rt:65:22
 enum-known-t-2 : tie.Need-enum-known-t-2 Inv-loop μ-loop
 enum-known-t-2 c = search needs
 
--- src/lib.rt:66:17
 same-length-4 : tie.Need-same-length-4 Inv-loop μ-loop
 same-length-4 c = ap length (c .before .before .before .before .before .before .before .before .before .before .loop .inv .0)
 
--- src/lib.rt:66:17
 returns-4 : tie.Need-returns-4 Inv-loop μ-loop
-returns-4 c = 
+returns-4 c =
     let o = c .before .before .before .before .before .before .before .before .before .before .before .before .before in
     let a = o .args in
     let l = c .before .before .before .before .before .before .before .before .before .before .loop in
     l .inv .3 (l .out) (Bad _)
     (l .inv .0, head-note-bad (a .w .now) (a .s .now) (l .p) (o .pre .1) (c .before .before .before .before .before .before .before .before .before .loop-test .taken) (c .before .before .before .before .before .before .before .if1 .left) (c .before .before .before .before .before .before .if2 .left) (c .before .before .before .before .if3 .left) _ (rw (c .before .t2 .given .1) at (c .before .before .before .note .ensures)))
 
--- src/lib.rt:44:1
 same-length-5 : tie.Need-same-length-5 Inv-loop μ-loop
 same-length-5 c = ap length (c .before .loop .inv .0)
 
--- src/lib.rt:44:1
 returns-5 : tie.Need-returns-5 Inv-loop μ-loop
-returns-5 c = 
+returns-5 c =
     let a = c .before .before .before .before .args in
     let l = c .before .loop in
     let t = c .loop-test .left in

@@ -1,18 +1,13 @@
+-- `sync_read::head_tail` meets its contract. Assumes nothing.
 use Rattle.grammar.proofs.WholeText.{no-fields, head-tail-chain, head-stored}
 use Rattle.grammar.proofs.Patterns.{Chain, chain-first, chain-word, chain-numbers}
 use Rattle.definitions.specs.Text.{byte, bytes, numbers}
 use lib.IntN.{ℤ, pos}
 use mathlib.Core.List.{List, [], _∷_}
-use mathlib.Core.Path.{_≡_, refl, sym}
-use Prim.Native.Nat.{_+_}
+use mathlib.Core.Path.{refl}
 use borrow.Author.Needs.{needs}
 use Rattle.sync_read.proofs.head_tail.Statement.{statement}
 use Rattle.sync_read.proofs.head_tail.Tie as tie
-use Rattle.sync_read.proofs.head_tail.Reads as reads
-use Rattle.sync_read.proofs.head_tail.Lts as lts
-use Rattle.sync_records.proofs.put_words.Reads as put-words-reads
-use Rattle.sync_records.proofs.then_fields.Reads as then-fields-reads
-use Rattle.sync_records.proofs.then_word.Reads as then-word-reads
 
 abbrev zeros : List ℤ
 zeros = pos 0 ∷ pos 0 ∷ []
@@ -27,53 +22,41 @@ line-read c =
     let v2 = chain-numbers (numbers 1 []) v1 (c .before .before .before .then-fields .ensures) (no-fields (a .w .now)) in
     head-tail-chain (a .w .now) (chain-word v2 (c .then-word2 .ensures))
 
--- src/lib.rt:31:9
 then-word-requires : tie.Need-then-word-requires
 then-word-requires c κs = search needs
 
--- src/lib.rt:32:34
 slice-aggregate-then-fields : tie.Need-slice-aggregate-then-fields
 slice-aggregate-then-fields c = search needs
 
--- src/lib.rt:32:9
 then-fields-requires : tie.Need-then-fields-requires
 then-fields-requires c κs = search needs
 
--- src/lib.rt:33:29
 slice-aggregate-then-word : tie.Need-slice-aggregate-then-word
 slice-aggregate-then-word c = search needs
 
--- src/lib.rt:33:9
 then-word-requires-2 : tie.Need-then-word-requires-2
 then-word-requires-2 c κs = search needs
 
--- src/lib.rt:35:17
 enum-known-r : tie.Need-enum-known-r
 enum-known-r c = search needs
 
--- src/lib.rt:36:34
 slice-aggregate-put-words : tie.Need-slice-aggregate-put-words
 slice-aggregate-put-words c = search needs
 
--- src/lib.rt:36:13
 put-words-requires : tie.Need-put-words-requires
 put-words-requires c κs = search needs
 
--- src/lib.rt:39:18
 enum-known-r-2 : tie.Need-enum-known-r-2
 enum-known-r-2 c = search needs
 
--- src/lib.rt:26:1
 same-length : tie.Need-same-length
 same-length c = search needs
 
--- src/lib.rt:26:1
 returns : tie.Need-returns
-returns c = 
+returns c =
     let a = c .before .before .before .before .before .before .before .before .before .before .before .before .before .before .before .args in
     head-stored (a .w .now) (a .s .now) (a .at) (a .out .now) (a .from) _ zeros _ _ refl (c .before .put-words .ensures) (rw (c .before .before .before .before .before .r .given .1) at (line-read (c .before .before .before .before .before .before .before) .is))
 
--- src/lib.rt:26:1
 returns-2 : tie.Need-returns-2
 returns-2 c = (refl, rw (c .before .r2 .given .1) at (line-read (c .before .before .before) .is))
 

@@ -1,3 +1,4 @@
+-- `sync_read::numbers_of` meets its contract. Assumes nothing.
 use Rattle.grammar.proofs.WholeText.{one-by-one}
 use lib.IntN.{pos}
 use lib.ListN.{length, getD}
@@ -8,77 +9,57 @@ use mathlib.Core.Path.{_≡_, _∙_}
 use borrow.Author.Needs.{needs}
 use Rattle.sync_read.proofs.numbers_of.Statement.{statement}
 use Rattle.sync_read.proofs.numbers_of.Tie as tie
-use Rattle.sync_read.proofs.numbers_of.Reads as reads
-use Rattle.sync_read.proofs.numbers_of.Lts as lts
-use Rattle.sync_read.proofs.widened.Reads as widened-reads
 
--- src/lib.rt:146:23
 array-copy-out-widened : tie.Need-array-copy-out-widened
 array-copy-out-widened c = search needs
 
--- src/lib.rt:146:15
 widened-requires : tie.Need-widened-requires
 widened-requires c κs = search needs
 
--- src/lib.rt:147:25
 array-copy-out-widened-2 : tie.Need-array-copy-out-widened-2
 array-copy-out-widened-2 c = search needs
 
--- src/lib.rt:147:17
 widened-requires-2 : tie.Need-widened-requires-2
 widened-requires-2 c κs = search needs
 
--- src/lib.rt:148:25
 array-copy-out-widened-3 : tie.Need-array-copy-out-widened-3
 array-copy-out-widened-3 c = search needs
 
--- src/lib.rt:148:17
 widened-requires-3 : tie.Need-widened-requires-3
 widened-requires-3 c κs = search needs
 
--- src/lib.rt:149:23
 array-copy-out-widened-4 : tie.Need-array-copy-out-widened-4
 array-copy-out-widened-4 c = search needs
 
--- src/lib.rt:149:15
 widened-requires-4 : tie.Need-widened-requires-4
 widened-requires-4 c κs = search needs
 
--- src/lib.rt:152:23
 array-copy-out-widened-5 : tie.Need-array-copy-out-widened-5
 array-copy-out-widened-5 c = search needs
 
--- src/lib.rt:152:15
 widened-requires-5 : tie.Need-widened-requires-5
 widened-requires-5 c κs = search needs
 
--- src/lib.rt:153:25
 array-copy-out-widened-6 : tie.Need-array-copy-out-widened-6
 array-copy-out-widened-6 c = search needs
 
--- src/lib.rt:153:17
 widened-requires-6 : tie.Need-widened-requires-6
 widened-requires-6 c κs = search needs
 
--- src/lib.rt:154:25
 array-copy-out-widened-7 : tie.Need-array-copy-out-widened-7
 array-copy-out-widened-7 c = search needs
 
--- src/lib.rt:154:17
 widened-requires-7 : tie.Need-widened-requires-7
 widened-requires-7 c κs = search needs
 
--- src/lib.rt:155:23
 array-copy-out-widened-8 : tie.Need-array-copy-out-widened-8
 array-copy-out-widened-8 c = search needs
 
--- src/lib.rt:155:15
 widened-requires-8 : tie.Need-widened-requires-8
 widened-requires-8 c κs = search needs
 
--- src/lib.rt:142:1
 returns : tie.Need-returns
-returns c = 
+returns c =
     let v = c .before .before .before .before .before .before .before .before .before .before .before .before .before .before .before .before .args .t1 in
     let e : length v ≡ 8 = search needs in
     let q0 : toZ w32 (ofZ w32 (c .before .before .before .before .before .before .before .before .before .before .before .before .before .before .widened .result)) ≡ getD v 0 (pos 0) = toZ-ofZ (search needs) ∙ c .before .before .before .before .before .before .before .before .before .before .before .before .before .before .widened .ensures ∙ toZ-ofZ (search needs) in

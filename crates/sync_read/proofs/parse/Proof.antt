@@ -1,3 +1,4 @@
+-- `sync_read::parse` meets its contract. Assumes nothing.
 use Rattle.grammar.proofs.WholeText.{fourLines, HeadsChain, heads-first, heads-next, heads-bad, lines-bad, text-is}
 use Rattle.definitions.specs.Text.{baseLine, scaledLine, atLine, fullLine}
 use lib.IntN.{ℤ, pos}
@@ -6,11 +7,6 @@ use mathlib.Core.Path.{refl}
 use borrow.Author.Needs.{needs}
 use Rattle.sync_read.proofs.parse.Statement.{statement}
 use Rattle.sync_read.proofs.parse.Tie as tie
-use Rattle.sync_read.proofs.parse.Reads as reads
-use Rattle.sync_read.proofs.parse.Lts as lts
-use Rattle.sync_read.proofs.numbers_of.Reads as numbers-of-reads
-use Rattle.sync_read.proofs.record_lines.Reads as record-lines-reads
-use Rattle.sync_read.proofs.then_head.Reads as then-head-reads
 
 abbrev zeros : List ℤ
 zeros = pos 0 ∷ pos 0 ∷ pos 0 ∷ pos 0 ∷ pos 0 ∷ pos 0 ∷ pos 0 ∷ pos 0 ∷ []
@@ -24,102 +20,79 @@ heads-read c =
     let v3 = heads-next atLine (97 ∷ 116 ∷ 32 ∷ []) (record { is = refl }) v2 (c .before .before .before .before .then-head3 .ensures) refl in
     heads-next fullLine (102 ∷ 117 ∷ 108 ∷ 108 ∷ 32 ∷ []) (record { is = refl }) v3 (c .then-head4 .ensures) refl
 
--- src/lib.rt:169:38
 slice-aggregate-then-head : tie.Need-slice-aggregate-then-head
 slice-aggregate-then-head c = search needs
 
--- src/lib.rt:169:48
 slice-aggregate-then-head-2 : tie.Need-slice-aggregate-then-head-2
 slice-aggregate-then-head-2 c = search needs
 
--- src/lib.rt:169:9
 then-head-requires : tie.Need-then-head-requires
 then-head-requires c κs = search needs
 
--- src/lib.rt:170:29
 slice-aggregate-then-head-3 : tie.Need-slice-aggregate-then-head-3
 slice-aggregate-then-head-3 c = search needs
 
--- src/lib.rt:170:41
 slice-aggregate-then-head-4 : tie.Need-slice-aggregate-then-head-4
 slice-aggregate-then-head-4 c = search needs
 
--- src/lib.rt:170:9
 then-head-requires-2 : tie.Need-then-head-requires-2
 then-head-requires-2 c κs = search needs
 
--- src/lib.rt:171:29
 slice-aggregate-then-head-5 : tie.Need-slice-aggregate-then-head-5
 slice-aggregate-then-head-5 c = search needs
 
--- src/lib.rt:171:37
 slice-aggregate-then-head-6 : tie.Need-slice-aggregate-then-head-6
 slice-aggregate-then-head-6 c = search needs
 
--- src/lib.rt:171:9
 then-head-requires-3 : tie.Need-then-head-requires-3
 then-head-requires-3 c κs = search needs
 
--- src/lib.rt:172:29
 slice-aggregate-then-head-7 : tie.Need-slice-aggregate-then-head-7
 slice-aggregate-then-head-7 c = search needs
 
--- src/lib.rt:172:39
 slice-aggregate-then-head-8 : tie.Need-slice-aggregate-then-head-8
 slice-aggregate-then-head-8 c = search needs
 
--- src/lib.rt:172:9
 then-head-requires-4 : tie.Need-then-head-requires-4
 then-head-requires-4 c κs = search needs
 
--- src/lib.rt:174:17
 enum-known-d : tie.Need-enum-known-d
 enum-known-d c = search needs
 
--- src/lib.rt:175:17
 record-lines-requires : tie.Need-record-lines-requires
 record-lines-requires c κs = (rw (c .before .before .d .given .1) at (c .before .before .before .before .before .then-head4 .ensures .inside), c .before .before .before .before .before .before .before .before .before .before .before .before .before .before .before .before .before .before .before .before .before .pre)
 
--- src/lib.rt:177:30
 enum-known-l : tie.Need-enum-known-l
 enum-known-l c = search needs
 
--- src/lib.rt:177:54
 numbers-of-requires : tie.Need-numbers-of-requires
 numbers-of-requires c κs = search needs
 
--- src/lib.rt:178:28
 enum-known-l-2 : tie.Need-enum-known-l-2
 enum-known-l-2 c = search needs
 
--- src/lib.rt:181:18
 enum-known-d-2 : tie.Need-enum-known-d-2
 enum-known-d-2 c = search needs
 
--- src/lib.rt:164:1
 same-length : tie.Need-same-length
 same-length c = search needs
 
--- src/lib.rt:164:1
 returns : tie.Need-returns
-returns c = 
+returns c =
     let a = c .before .before .before .before .before .before .before .before .before .before .before .before .before .before .before .before .before .before .before .before .before .before .before .before .before .before .before .args in
     text-is (a .s .now) (a .words .now) zeros _ _ (rw (c .before .before .before .before .before .before .before .before .d .given .1) at (heads-read (c .before .before .before .before .before .before .before .before .before .before .before) .is)) (c .numbers-of .result) _ _ refl (c .numbers-of .ensures) (rw (c .before .before .l .given .1) at (c .before .before .before .before .before .record-lines .ensures))
 
--- src/lib.rt:164:1
 same-length-2 : tie.Need-same-length-2
 same-length-2 c = search needs
 
--- src/lib.rt:164:1
 returns-2 : tie.Need-returns-2
-returns-2 c = 
+returns-2 c =
     let a = c .before .before .before .before .before .before .before .before .before .before .before .before .before .before .before .before .before .before .before .before .before .before .before .before .before .before .args in
     let v = rw (c .before .l2 .given .1) at (c .before .before .before .before .record-lines .ensures) in
     (v .0, lines-bad (a .s .now) (a .words .now) zeros _ _ (rw (c .before .before .before .before .before .before .before .d .given .1) at (heads-read (c .before .before .before .before .before .before .before .before .before .before) .is)) _ (v .1))
 
--- src/lib.rt:164:1
 returns-3 : tie.Need-returns-3
-returns-3 c = 
+returns-3 c =
     let a = c .before .before .before .before .before .before .before .before .before .before .before .before .before .before .before .before .before .before .before .before .args in
     (refl, heads-bad (a .s .now) (a .words .now) _ (rw (c .before .d2 .given .1) at (heads-read (c .before .before .before .before) .is)))
 

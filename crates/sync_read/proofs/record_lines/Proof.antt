@@ -1,3 +1,4 @@
+-- `sync_read::record_lines` meets its contract. Assumes nothing.
 use Rattle.grammar.proofs.WholeText.{Walked, walked-first, walked-bad, walked-note, walked-note-bad, walked-record, walked-record-bad, lines-kept, lines-stored}
 use Rattle.grammar.proofs.Patterns.{record-ends}
 use borrow.Author.Needs.{needs}
@@ -6,15 +7,10 @@ use lib.ListN.{length, take, length-replicate}
 use lib.IntN.{pos}
 use native.Mathlib.Omega.{arith}
 use mathlib.Core.Logic.{⊎-elim}
-use mathlib.Core.Path.{_≡_, refl, ap, _∙_, subst}
-use Prim.Native.Nat.{ℕ, _≤_, _<_, _-_, _+_, _*_}
+use mathlib.Core.Path.{_≡_, refl, ap, _∙_}
+use Prim.Native.Nat.{ℕ, _-_, _+_, _*_}
 use Rattle.sync_read.proofs.record_lines.Statement.{statement}
 use Rattle.sync_read.proofs.record_lines.Tie as tie
-use Rattle.sync_read.proofs.record_lines.Reads as reads
-use Rattle.sync_read.proofs.record_lines.Lts as lts
-use Rattle.sync_notes.proofs.note.Reads as note-reads
-use Rattle.sync_records.proofs.put_words.Reads as put-words-reads
-use Rattle.sync_records.proofs.record_line.Reads as record-line-reads
 
 abbrev Inv-loop : tie.InvT-loop
 Inv-loop s at words own₀ p₀ n₀ own p n = (length own ≡ 7623) × Walked s at p n own
@@ -22,177 +18,147 @@ Inv-loop s at words own₀ p₀ n₀ own p n = (length own ≡ 7623) × Walked s
 abbrev μ-loop : tie.MeasureT-loop
 μ-loop s at words own₀ p₀ n₀ own p n = length s - p
 
--- src/lib.rt:93:5
 loop-holds : tie.Need-loop-holds Inv-loop μ-loop
 loop-holds c = (length-replicate 7623 (pos 0), walked-first _ _ _ (c .before .pre .0))
 
--- src/lib.rt:94:12
 shared-slice-read-if1 : tie.Need-shared-slice-read-if1 Inv-loop μ-loop
 shared-slice-read-if1 c = search needs
 
--- src/lib.rt:95:13
 returns : tie.Need-returns Inv-loop μ-loop
-returns c = 
+returns c =
     let a = c .before .before .before .before .before .args in
     let l = c .before .before .before .loop in
     (refl, walked-bad (a .s .now) (a .at) (l .p) (l .n) (l .own) (l .inv .1) (c .before .before .loop-test .taken) (c .if1 .taken))
 
--- src/lib.rt:97:17
 add-q : tie.Need-add-q Inv-loop μ-loop
 add-q c = search needs
 
--- src/lib.rt:99:13
 returns-2 : tie.Need-returns-2 Inv-loop μ-loop
-returns-2 c = 
+returns-2 c =
     let a = c .before .before .before .before .before .before .args in
     let l = c .before .before .before .before .loop in
     let t = c .before .before .before .loop-test .taken in
     let u = c .if2 .taken in
     (refl, walked-record-bad (a .s .now) (a .at) (l .p) (l .n) (l .own) (l .inv .1) t (c .before .if1 .left) (λ q b. omega arith) _ (record-ends (a .s .now) (l .p + 1) (omega arith) u))
 
--- src/lib.rt:101:12
 shared-slice-read-if3 : tie.Need-shared-slice-read-if3 Inv-loop μ-loop
 shared-slice-read-if3 c = search needs
 
--- src/lib.rt:102:29
 add-note : tie.Need-add-note Inv-loop μ-loop
 add-note c = search needs
 
--- src/lib.rt:102:17
 note-requires : tie.Need-note-requires Inv-loop μ-loop
 note-requires c κs = search needs
 
--- src/lib.rt:104:25
 enum-known-t : tie.Need-enum-known-t Inv-loop μ-loop
 enum-known-t c = search needs
 
--- src/lib.rt:93:5
 loop-less : tie.Need-loop-less Inv-loop μ-loop
-loop-less c = 
+loop-less c =
     let l = c .before .before .before .before .before .before .before .before .before .before .loop in
     let v = rw (c .before .t .given .1) at (c .before .before .before .note .ensures) in
     let u = v .stops .up in
     let w = v .stops .within in
     omega arith
 
--- src/lib.rt:93:5
 loop-again : tie.Need-loop-again Inv-loop μ-loop
-loop-again c = 
+loop-again c =
     let a = c .before .before .before .before .before .before .before .before .before .before .before .before .args in
     let l = c .before .before .before .before .before .before .before .before .before .before .loop in
     let v = rw (c .before .t .given .1) at (c .before .before .before .note .ensures) in
     (l .inv .0, walked-note (a .s .now) (a .at) (l .p) (l .n) (l .own) (l .inv .1) (c .before .before .before .before .before .before .before .before .before .loop-test .taken) (c .before .before .before .before .before .before .before .if1 .left) (c .before .before .before .before .before .before .if2 .left) (c .before .before .before .before .if3 .taken) _ v)
 
--- src/lib.rt:107:26
 enum-known-t-2 : tie.Need-enum-known-t-2 Inv-loop μ-loop
 enum-known-t-2 c = search needs
 
--- src/lib.rt:108:21
 returns-3 : tie.Need-returns-3 Inv-loop μ-loop
-returns-3 c = 
+returns-3 c =
     let a = c .before .before .before .before .before .before .before .before .before .before .before .before .args in
     let l = c .before .before .before .before .before .before .before .before .before .before .loop in
     let v = rw (c .before .t2 .given .1) at (c .before .before .before .note .ensures) in
     (refl, walked-note-bad (a .s .now) (a .at) (l .p) (l .n) (l .own) (l .inv .1) (c .before .before .before .before .before .before .before .before .before .loop-test .taken) (c .before .before .before .before .before .before .before .if1 .left) (c .before .before .before .before .before .before .if2 .left) (c .before .before .before .before .if3 .taken) _ v)
 
--- src/lib.rt:114:24
 mul-from : tie.Need-mul-from Inv-loop μ-loop
 mul-from c = search needs
 
--- src/lib.rt:116:39
 slice-aggregate-record-line : tie.Need-slice-aggregate-record-line Inv-loop μ-loop
 slice-aggregate-record-line c = search needs
 
--- src/lib.rt:116:17
 record-line-requires : tie.Need-record-line-requires Inv-loop μ-loop
-record-line-requires c κs = 
+record-line-requires c κs =
     let e = c .before .before .before .before .before .before .before .before .loop .inv .0 in
     let t = c .before .before .before .before .before .before .before .loop-test .taken in
     (omega arith, ⊎-elim (λ w. omega arith) (λ w. omega arith) (c .before .if4 .came))
 
--- src/lib.rt:118:25
 enum-known-t-3 : tie.Need-enum-known-t-3 Inv-loop μ-loop
 enum-known-t-3 c = search needs
 
--- src/lib.rt:120:21
 add-n : tie.Need-add-n Inv-loop μ-loop
-add-n c = 
+add-n c =
     let x = c .before .before .before .before .before .before .before .before .before .before .before .before .before .loop .inv .1 .few in
     let t = c .before .before .before .before .before .before .before .before .before .before .before .before .loop-test .taken in
     search needs
 
--- src/lib.rt:93:5
 loop-less-2 : tie.Need-loop-less-2 Inv-loop μ-loop
-loop-less-2 c = 
+loop-less-2 c =
     let l = c .before .before .before .before .before .before .before .before .before .before .before .before .before .loop in
     let v = rw (c .before .t3 .given .1) at (c .before .before .before .before .record-line .ensures) in
     let u = v .stops .up in
     let w = v .stops .within in
     omega arith
 
--- src/lib.rt:93:5
 loop-again-2 : tie.Need-loop-again-2 Inv-loop μ-loop
-loop-again-2 c = 
+loop-again-2 c =
     let a = c .before .before .before .before .before .before .before .before .before .before .before .before .before .before .before .args in
     let l = c .before .before .before .before .before .before .before .before .before .before .before .before .before .loop in
     let e = l .inv .0 in
     let v = rw (c .before .t3 .given .1) at (c .before .before .before .before .record-line .ensures) in
     (c .before .before .before .own2 .given, walked-record (a .s .now) (a .at) (l .p) (l .n) (l .own) (l .inv .1) (c .before .before .before .before .before .before .before .before .before .before .before .before .loop-test .taken) (c .before .before .before .before .before .before .before .before .before .before .if1 .left) (λ m. c .before .before .before .before .before .before .before .if3 .left) (c .before .before .before .before .before .before .if4 .from) _ _ (omega arith) (⊎-elim (λ w q. omega arith) (λ w q. absurd (omega arith)) (c .before .before .before .before .before .before .if4 .came)) v)
 
--- src/lib.rt:122:26
 enum-known-t-4 : tie.Need-enum-known-t-4 Inv-loop μ-loop
 enum-known-t-4 c = search needs
 
--- src/lib.rt:123:21
 returns-4 : tie.Need-returns-4 Inv-loop μ-loop
-returns-4 c = 
+returns-4 c =
     let a = c .before .before .before .before .before .before .before .before .before .before .before .before .before .before .before .args in
     let l = c .before .before .before .before .before .before .before .before .before .before .before .before .before .loop in
     let v = rw (c .before .t4 .given .1) at (c .before .before .before .before .record-line .ensures) in
     (refl, walked-record-bad (a .s .now) (a .at) (l .p) (l .n) (l .own) (l .inv .1) (c .before .before .before .before .before .before .before .before .before .before .before .before .loop-test .taken) (c .before .before .before .before .before .before .before .before .before .before .if1 .left) (λ m. c .before .before .before .before .before .before .before .if3 .left) _ (v .1))
 
--- src/lib.rt:129:20
 mul-many : tie.Need-mul-many Inv-loop μ-loop
 mul-many c = search needs
 
--- src/lib.rt:130:29
 sub-put-words : tie.Need-sub-put-words Inv-loop μ-loop
 sub-put-words c = search needs
 
--- src/lib.rt:130:29
 part-put-words-start : tie.Need-part-put-words-start Inv-loop μ-loop
 part-put-words-start c = search needs
 
--- src/lib.rt:130:29
 part-put-words-end : tie.Need-part-put-words-end Inv-loop μ-loop
-part-put-words-end c = 
+part-put-words-end c =
     let e = c .before .before .before .before .loop .inv .0 in
     let t = c .before .before .if5 .taken in
     omega arith
 
--- src/lib.rt:130:9
 put-words-requires : tie.Need-put-words-requires Inv-loop μ-loop
-put-words-requires c κs = 
+put-words-requires c κs =
     let l = c .before .before .before .before .before .loop in
     let e = l .inv .0 in
     let t = c .before .before .before .if5 .taken in
     omega (arith, length-take-le (77 * l .n - 0) (l .own) (omega arith), c .before .before .before .before .before .before .before .pre .1)
 
--- src/lib.rt:86:1
 same-length : tie.Need-same-length Inv-loop μ-loop
 same-length c = search needs
 
--- src/lib.rt:86:1
 returns-5 : tie.Need-returns-5 Inv-loop μ-loop
-returns-5 c = 
+returns-5 c =
     let a = c .before .before .before .before .before .before .before .before .before .args in
     let l = c .before .before .before .before .before .before .before .loop in
     let k : 77 * l .n - 0 ≡ 77 * l .n = omega arith in
     lines-stored (a .s .now) (a .at) (l .n) (l .own) (a .words .now) _ (l .p) (l .inv .1) (c .before .before .before .before .before .before .loop-test .left) (c .before .before .before .before .before .if5 .taken) (c .before .before .before .before .before .before .before .before .before .pre .1) (c .before .put-words .ensures ∙ ap (λ (j : ℕ). sets (a .words .now) 0 (take j (l .own))) k)
 
--- src/lib.rt:86:1
 returns-6 : tie.Need-returns-6 Inv-loop μ-loop
-returns-6 c = 
+returns-6 c =
     let a = c .before .before .before .before .args in
     let l = c .before .before .loop in
     lines-kept (a .s .now) (a .at) (l .n) (l .own) (a .words .now) (l .p) (l .inv .1) (c .before .loop-test .left) (c .if5 .left)

@@ -1,36 +1,28 @@
+-- `sync_read::then_head` meets its contract. Assumes nothing.
 use Rattle.grammar.proofs.Patterns.{after-numbers, after-numbers-bad}
 use borrow.Author.Needs.{needs}
 use Rattle.sync_read.proofs.then_head.Statement.{statement}
 use Rattle.sync_read.proofs.then_head.Tie as tie
-use Rattle.sync_read.proofs.then_head.Reads as reads
-use Rattle.sync_read.proofs.then_head.Lts as lts
-use Rattle.sync_read.proofs.head_line.Reads as head-line-reads
 
--- src/lib.rt:79:17
 enum-known-r : tie.Need-enum-known-r
 enum-known-r c = search needs
 
--- src/lib.rt:79:23
 head-line-requires : tie.Need-head-line-requires
 head-line-requires c κs = (rw (c .before .before .r .given .1) at (c .before .before .before .before .before .before .pre .0), c .before .before .before .before .before .before .pre .1, c .before .before .before .before .before .before .pre .2)
 
--- src/lib.rt:80:18
 enum-known-r-2 : tie.Need-enum-known-r-2
 enum-known-r-2 c = search needs
 
--- src/lib.rt:74:1
 same-length : tie.Need-same-length
 same-length c = search needs
 
--- src/lib.rt:74:1
 returns : tie.Need-returns
-returns c = 
+returns c =
     let a = c .before .before .before .before .before .before .before .before .args in
     after-numbers _ (a .s .now) (a .r) (a .out .now) (a .from) _ (c .before .head-line .result) _ (c .before .before .before .before .r .given .1) (c .before .head-line .ensures)
 
--- src/lib.rt:74:1
 returns-2 : tie.Need-returns-2
-returns-2 c = 
+returns-2 c =
     let a = c .before .before .before .before .before .args in
     after-numbers-bad _ (a .s .now) (a .r) (a .out .now) (a .from) _ (c .before .r2 .given .1)
 

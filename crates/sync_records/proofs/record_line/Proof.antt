@@ -1,83 +1,64 @@
+-- `sync_records::record_line` meets its contract. Assumes nothing.
 use Rattle.grammar.proofs.Patterns.{record-of, record-bad, record-ends}
 use Rattle.definitions.specs.Text.{intra, whole, mb}
 use mathlib.Core.Path.{refl}
 use borrow.Author.Needs.{needs}
 use Rattle.sync_records.proofs.record_line.Statement.{statement}
 use Rattle.sync_records.proofs.record_line.Tie as tie
-use Rattle.sync_records.proofs.record_line.Reads as reads
-use Rattle.sync_records.proofs.record_line.Lts as lts
-use Rattle.sync_records.proofs.intra_tail.Reads as intra-tail-reads
-use Rattle.sync_records.proofs.mb_tail.Reads as mb-tail-reads
-use Rattle.sync_records.proofs.whole_tail.Reads as whole-tail-reads
 
--- src/lib.rt:232:9
 returns : tie.Need-returns
 returns c = (refl, record-ends _ _ (c .before .before .pre .0) (c .if1 .taken))
 
--- src/lib.rt:234:13
 shared-slice-read-b : tie.Need-shared-slice-read-b
 shared-slice-read-b c = search needs
 
--- src/lib.rt:236:30
 add-intra-tail : tie.Need-add-intra-tail
 add-intra-tail c = search needs
 
--- src/lib.rt:236:9
 intra-tail-requires : tie.Need-intra-tail-requires
 intra-tail-requires c κs = search needs
 
--- src/lib.rt:236:9
 same-length : tie.Need-same-length
 same-length c = search needs
 
--- src/lib.rt:236:9
 returns-2 : tie.Need-returns-2
-returns-2 c = 
+returns-2 c =
     let o = c .before .before .before .before .before .before .before in
     let a = o .args in
     record-of (a .s .now) (a .at) (c .before .before .before .before .before .if1 .left) intra (c .before .before .before .if2 .taken) (a .out .now) (a .from) _ (c .before .intra-tail .result) (c .before .intra-tail .ensures)
 
--- src/lib.rt:239:30
 add-whole-tail : tie.Need-add-whole-tail
 add-whole-tail c = search needs
 
--- src/lib.rt:239:9
 whole-tail-requires : tie.Need-whole-tail-requires
 whole-tail-requires c κs = search needs
 
--- src/lib.rt:239:9
 same-length-2 : tie.Need-same-length-2
 same-length-2 c = search needs
 
--- src/lib.rt:239:9
 returns-3 : tie.Need-returns-3
-returns-3 c = 
+returns-3 c =
     let o = c .before .before .before .before .before .before .before .before in
     let a = o .args in
     record-of (a .s .now) (a .at) (c .before .before .before .before .before .before .if1 .left) whole (c .before .before .before .if3 .taken) (a .out .now) (a .from) _ (c .before .whole-tail .result) (c .before .whole-tail .ensures)
 
--- src/lib.rt:242:27
 add-mb-tail : tie.Need-add-mb-tail
 add-mb-tail c = search needs
 
--- src/lib.rt:242:9
 mb-tail-requires : tie.Need-mb-tail-requires
 mb-tail-requires c κs = search needs
 
--- src/lib.rt:242:9
 same-length-3 : tie.Need-same-length-3
 same-length-3 c = search needs
 
--- src/lib.rt:242:9
 returns-4 : tie.Need-returns-4
-returns-4 c = 
+returns-4 c =
     let o = c .before .before .before .before .before .before .before .before .before in
     let a = o .args in
     record-of (a .s .now) (a .at) (c .before .before .before .before .before .before .before .if1 .left) mb (c .before .before .before .if4 .taken) (a .out .now) (a .from) _ (c .before .mb-tail .result) (c .before .mb-tail .ensures)
 
--- src/lib.rt:227:1
 returns-5 : tie.Need-returns-5
-returns-5 c = 
+returns-5 c =
     let o = c .before .before .before .before .before .before in
     (refl, record-bad _ _ (o .pre .0) (c .before .before .if2 .left) (c .before .if3 .left) (c .if4 .left))
 

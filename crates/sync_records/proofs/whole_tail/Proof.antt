@@ -5,7 +5,6 @@ use borrow.Author.Needs.{needs}
 use mathlib.Core.Path.{refl}
 use mathlib.Core.List.{List, [], _∷_}
 use lib.IntN.{ℤ, pos}
-use native.Mathlib.Omega.{arith}
 use Rattle.sync_records.proofs.whole_tail.Statement.{statement}
 use Rattle.sync_records.proofs.whole_tail.Tie as tie
 

@@ -1,90 +1,70 @@
+-- `sync_text::read_text` meets its contract. Assumes nothing.
 use Rattle.definitions.specs.Text.{tooLong, broken, wrongWords, refused}
 use Rattle.sync_text.proofs.Reply.{answered, too-many, text-read}
 use borrow.Author.Needs.{needs}
 use Rattle.sync_text.proofs.read_text.Statement.{statement}
 use Rattle.sync_text.proofs.read_text.Tie as tie
-use Rattle.sync_text.proofs.read_text.Reads as reads
-use Rattle.sync_text.proofs.read_text.Lts as lts
-use Rattle.sync_read.proofs.parse.Reads as parse-reads
-use Rattle.sync_text.proofs.refused.Reads as refused-reads
 
--- src/lib.rt:45:9
 refused-requires : tie.Need-refused-requires
 refused-requires c κs = search needs
 
--- src/lib.rt:45:9
 returns : tie.Need-returns
 returns c = rw (c .refused .ensures) (answered (wrongWords (c .before .if1 .taken)))
 
--- src/lib.rt:48:9
 refused-requires-2 : tie.Need-refused-requires-2
 refused-requires-2 c κs = search needs
 
--- src/lib.rt:48:9
 returns-2 : tie.Need-returns-2
 returns-2 c = rw (c .refused2 .ensures) (answered (refused (c .before .before .if1 .left) (tooLong (c .before .if2 .taken))))
 
--- src/lib.rt:50:9
 parse-requires : tie.Need-parse-requires
 parse-requires c κs = search needs
 
--- src/lib.rt:52:27
 enum-known-t : tie.Need-enum-known-t
 enum-known-t c = search needs
 
--- src/lib.rt:54:17
 refused-requires-3 : tie.Need-refused-requires-3
 refused-requires-3 c κs = search needs
 
--- src/lib.rt:54:17
 same-length : tie.Need-same-length
 same-length c = search needs
 
--- src/lib.rt:54:17
 returns-3 : tie.Need-returns-3
-returns-3 c = 
+returns-3 c =
     let a = c .before .before .before .before .before .before .before .before .before .before .before .args in
     let j = rw (c .before .before .before .t .given .1) at (c .before .before .before .before .before .before .parse .ensures) in
     rw (c .refused3 .ensures) (answered (too-many (a .bytes .now) (a .words .now) _ _ _ (c .before .before .before .before .before .before .before .before .before .if1 .left) (c .before .before .before .before .before .before .before .before .if2 .left) j (c .before .if3 .taken)))
 
--- src/lib.rt:58:24
 cast-t13 : tie.Need-cast-t13
 cast-t13 c = search needs
 
--- src/lib.rt:61:24
 enum-known-t-2 : tie.Need-enum-known-t-2
 enum-known-t-2 c = search needs
 
--- src/lib.rt:61:46
 cast-refused : tie.Need-cast-refused
-cast-refused c = 
+cast-refused c =
     let j = rw (c .before .t2 .given .1) at (c .before .before .before .before .parse .ensures) in
     let l = c .before .before .before .before .before .before .if2 .left in
     let w = j .1 .within in
     search needs
 
--- src/lib.rt:61:30
 refused-requires-4 : tie.Need-refused-requires-4
 refused-requires-4 c κs = search needs
 
--- src/lib.rt:40:1
 same-length-2 : tie.Need-same-length-2
 same-length-2 c = search needs
 
--- src/lib.rt:40:1
 returns-4 : tie.Need-returns-4
-returns-4 c = 
+returns-4 c =
     let a = c .before .before .before .before .before .before .before .before .before .before .args in
     let j = rw (c .before .before .t .given .1) at (c .before .before .before .before .before .parse .ensures) in
     answered (text-read (a .bytes .now) (a .words .now) _ _ _ (c .before .before .before .before .before .before .before .before .if1 .left) (c .before .before .before .before .before .before .before .if2 .left) j (c .if3 .left))
 
--- src/lib.rt:40:1
 same-length-3 : tie.Need-same-length-3
 same-length-3 c = search needs
 
--- src/lib.rt:40:1
 returns-5 : tie.Need-returns-5
-returns-5 c = 
+returns-5 c =
     let j = rw (c .before .before .t2 .given .1) at (c .before .before .before .before .before .parse .ensures) in
     rw (c .refused4 .ensures, j .0) (answered (refused (c .before .before .before .before .before .before .before .before .if1 .left) (broken (c .before .before .before .before .before .before .before .if2 .left) (j .1))))
 
