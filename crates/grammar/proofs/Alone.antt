@@ -5,13 +5,13 @@ use mathlib.Core.Logic.{_⊎_, inl, inr}
 use mathlib.Core.List.{List, [], _∷_, _++_, append-assoc, append-nil, head-eq-of-cons-eq as heads, tail-eq-of-cons-eq as tails}
 use native.Mathlib.Omega.{arith}
 use lib.IntN.{ℤ}
-use Rattle.definitions.specs.Text.{Letter, Digit, All, none, each, Word, word, Plain, nought, digits, Number, unsigned, negative, Rest, close, item, Listed, listed, Simple, isWord, isNumber, Item, Part, Form}
+use Rattle.definitions.specs.Text.{Letter, Digit, All, none, each, Word, word, Plain, nought, digits, Number, unsigned, negative, Rest, close, item, Listed, listed, Simple, isWord, isNumber, Item, Part, ended, Form, nothing, isEnded}
 use Rattle.grammar.proofs.Machine.{Sym, first, rest, Ev, nums, Delta, halt, go, emit, syms, δ}
 use Rattle.grammar.proofs.Cats.{Cat, no-cons}
 use Rattle.grammar.proofs.Residue.{Lang, Seq, Next}
 use Rattle.grammar.proofs.Forward.{forward, form-seq, all-head, all-tail, simple-none}
 use Rattle.grammar.proofs.Live.{not-none}
-use Rattle.grammar.proofs.Runs.{seq-append}
+use Rattle.grammar.proofs.Runs.{seq-append, same-nums}
 use Rattle.grammar.proofs.Reading.{Separate}
 
 -- nothing more
@@ -35,18 +35,45 @@ alone (b ∷ t) y (x ∷ k) ws os h g =
         f (j ++ k) (p .others) (q .others) (subst (λ (B : Lang). B (p .others) t) (sym (seq-append j k End)) (p .then))
         (subst (λ (B : Lang). B (q .others) (t ++ y)) (sym (seq-append j k End)) (q .then))
 
+-- and what stands in the text is the same in each reading
+same-values : (t : List ℕ) (k : List Sym) (ws os : List Ev) → Seq k End ws t → Seq k End os t → ws ≡ os
+same-values [] [] ws os h g = h .0 ∙ sym (g .0)
+same-values [] (x ∷ k) ws os h g = absurd (not-none x (Seq k End) ws h)
+same-values (b ∷ t) [] ws os h g = no-cons (sym (h .1))
+same-values (b ∷ t) (x ∷ k) ws os h g =
+    by-step (λ j vs us. same-values t j vs us) (δ x b) (forward x (Seq k End) ws b t h) (forward x (Seq k End) os b t g)
+  where
+    by-step :
+        ((j : List Sym) (vs us : List Ev) → Seq j End vs t → Seq j End us t → vs ≡ us) → (d : Delta) → Next d (Seq k End) ws t → Next d (Seq k End) os t
+        → ws ≡ os
+    by-step f halt p q = absurd p
+    by-step f (go j) p q =
+        f (j ++ k) ws os (subst (λ (B : Lang). B ws t) (sym (seq-append j k End)) p) (subst (λ (B : Lang). B os t) (sym (seq-append j k End)) q)
+    by-step f (emit z j) p q =
+        p .is
+        ∙ ap (λ (o : List Ev). z ∷ o) (f (j ++ k) (p .others) (q .others) (subst (λ (B : Lang). B (p .others) t) (sym (seq-append j k End)) (p .then)) (subst (λ (B : Lang). B (q .others) t) (sym (seq-append j k End)) (q .then)))
+        ∙ sym (q .is)
+
 only : {P : List ℕ → Type 0} {t : List ℕ} → P t → Cat P (End []) t
 only {t = t} p = record { left = t; right = []; is = p; then = (refl, refl); cut = sym (append-nil t) }
 
 pub rest-alone : (d : ℕ) (t : List ℕ) (c : ℕ) (y : List ℕ) → Rest (Item d) t → Rest (Item d) (t ++ (c ∷ y)) → ⊥
 rest-alone d t c y h g = no-cons (sym (alone t (c ∷ y) (rest d ∷ []) [] [] (only h) (only g)))
 
+form-ends : (ps : List Part) {vs : List ℤ} {t : List ℕ} → Form ps vs t → Seq (syms ps) End (nums vs []) t
+form-ends ps {vs} {t} h = subst (λ (u : List ℕ). Seq (syms ps) End (nums vs []) u) (append-nil t) (form-seq h End [] [] (refl, refl))
+
 pub form-alone : (ps : List Part) (t : List ℕ) (c : ℕ) (y : List ℕ) {vs ws : List ℤ} → Form ps vs t → Form ps ws (t ++ (c ∷ y)) → ⊥
-form-alone ps t c y {vs} {ws} h g =
-    no-cons (sym (alone t (c ∷ y) (syms ps) (nums vs []) (nums ws []) (ends h) (ends g)))
-  where
-    ends : {vs : List ℤ} {t : List ℕ} → Form ps vs t → Seq (syms ps) End (nums vs []) t
-    ends {vs} {t} h = subst (λ (u : List ℕ). Seq (syms ps) End (nums vs []) u) (append-nil t) (form-seq h End [] [] (refl, refl))
+form-alone ps t c y {vs} {ws} h g = no-cons (sym (alone t (c ∷ y) (syms ps) (nums vs []) (nums ws []) (form-ends ps h) (form-ends ps g)))
+
+-- a pattern's bytes hold its numbers, and a number's bytes are worth one number
+pub one-form : (ps : List Part) (t : List ℕ) (vs ws : List ℤ) → Form ps vs t → Form ps ws t → vs ≡ ws
+one-form ps t vs ws h g = same-nums vs ws [] [] (same-values t (syms ps) (nums vs []) (nums ws []) (form-ends ps h) (form-ends ps g)) .0
+
+pub one-number : (t : List ℕ) (y z : ℤ) → Number y t → Number z t → y ≡ z
+one-number t y z h g =
+    let e : y ∷ [] ≡ z ∷ [] = one-form (ended ∷ []) (t ++ (41 ∷ [])) (y ∷ []) (z ∷ []) (isEnded h nothing) (isEnded g nothing) in
+    heads e
 
 -- the items of a list and its closing bracket
 pub listed-cat : {P : List ℕ → Type 0} {w : List ℕ} → Listed P (40 ∷ w) → Cat P (Rest P) w

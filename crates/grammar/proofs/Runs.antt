@@ -368,7 +368,7 @@ unlike : {C : Type 0} {z : ℤ} {r : RecordKind} {xs ys : List Ev} → num z ∷
 unlike e = absurd (let z : _≡_ {A = ℕ} 0 1 = cc in omega arith)
 
 -- numbers, up to the first record line
-same-nums : (g h : List ℤ) (rs qs : List Entry) → nums g (flat rs) ≡ nums h (flat qs) → (g ≡ h) × (flat rs ≡ flat qs)
+pub same-nums : (g h : List ℤ) (rs qs : List Entry) → nums g (flat rs) ≡ nums h (flat qs) → (g ≡ h) × (flat rs ≡ flat qs)
 same-nums [] [] rs qs e = (refl, e)
 same-nums [] (z ∷ h) [] qs e = no-cons e
 same-nums [] (z ∷ h) (r ∷ rs) qs e = unlike (sym e)
