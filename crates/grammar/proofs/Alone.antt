@@ -1,11 +1,11 @@
 -- What closes itself ends in one place: no longer list of bytes begins with one. The machine's state says so, being what has yet to come.
 use Prim.Native.Nat.{ℕ, zero, suc, _≤_}
 use mathlib.Core.Path.{_≡_, refl, sym, _∙_, ap, subst}
-use mathlib.Core.Logic.{_⊎_, inl, inr}
-use mathlib.Core.List.{List, [], _∷_, _++_, append-assoc, append-nil, head-eq-of-cons-eq as heads, tail-eq-of-cons-eq as tails}
+use mathlib.Core.Logic.{inl, inr}
+use mathlib.Core.List.{List, [], _∷_, _++_, append-nil, head-eq-of-cons-eq as heads, tail-eq-of-cons-eq as tails}
 use native.Mathlib.Omega.{arith}
 use lib.IntN.{ℤ}
-use Rattle.definitions.specs.Text.{Letter, Digit, All, none, each, Word, word, Plain, nought, digits, Number, unsigned, negative, Rest, close, item, Listed, listed, Simple, isWord, isNumber, Item, Part, ended, Form, nothing, isEnded}
+use Rattle.definitions.specs.Text.{Letter, Digit, All, none, each, word, Plain, nought, digits, Number, unsigned, negative, Rest, close, item, Listed, listed, Simple, isWord, isNumber, Item, Part, ended, Form, nothing, isEnded}
 use Rattle.grammar.proofs.Machine.{Sym, first, rest, Ev, nums, Delta, halt, go, emit, syms, δ}
 use Rattle.grammar.proofs.Cats.{Cat, no-cons}
 use Rattle.grammar.proofs.Residue.{Lang, Seq, Next}

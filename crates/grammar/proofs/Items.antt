@@ -1,27 +1,26 @@
 -- The readers of notes: words, items, lists, the rest of a list, and a note.
 use Prim.Native.Nat.{ℕ, zero, suc, _≤_, _<_, _+_, _-_}
 use mathlib.Core.Path.{_≡_, refl, sym, _∙_, ap, subst}
-use mathlib.Core.Logic.{_⊎_, inl, inr}
-use mathlib.Core.List.{List, [], _∷_, _++_, append-assoc, append-nil, head-eq-of-cons-eq as heads, tail-eq-of-cons-eq as tails}
+use mathlib.Core.Logic.{inl, inr}
+use mathlib.Core.List.{List, [], _∷_, _++_, append-assoc, head-eq-of-cons-eq as heads, tail-eq-of-cons-eq as tails}
 use native.Mathlib.Omega.{arith}
 use native.Mathlib.Numerals.{add-one}
 use lib.IntN.{ℤ}
-use lib.ListN.{length, getD, drop, drop-of-length-le}
+use lib.ListN.{length, getD, drop}
 use lib.Seq.{drop-cons}
 use types.Run.{OneOf, miss}
-use Rattle.definitions.specs.Text.{Letter, All, none, each, Word, word, Number, Rest, close, item, Listed, listed, Simple, isWord, isNumber, Item, Note, note}
+use Rattle.definitions.specs.Text.{Letter, All, none, Word, word, Number, Rest, close, item, Listed, listed, Simple, isWord, isNumber, Item, Note, note}
 use Rattle.grammar.specs.declared.ByteClass.{ByteClass}
 use Rattle.grammar.specs.declared.ByteClass.the-variants.{Alpha, Zero, Nonzero, Dash, Open, Close, Space, Other}
-use Rattle.grammar.specs.declared.Num.{Num}
 use Rattle.grammar.specs.declared.Num.the-variants.{Value, Bad as NoNumber}
 use Rattle.grammar.specs.declared.Got.{Got}
-use Rattle.grammar.specs.declared.Got.the-variants.{At, Bad}
-use Rattle.grammar.specs.Readers.{byteClassOf, part, Begins, Stops, Stands, Breaks, ReadAt, Any, NumAt, Items, NoteTail, Exactly}
+use Rattle.grammar.specs.declared.Got.the-variants.{Bad}
+use Rattle.grammar.specs.Readers.{byteClassOf, part, Begins, Stands, Breaks, ReadAt, Any, NumAt, Items, NoteTail, Exactly}
 use Rattle.grammar.proofs.Machine.{lit, rest}
 use Rattle.grammar.proofs.Cats.{Cat, no-cons}
 use Rattle.grammar.proofs.Residue.{Lit, Seq}
 use Rattle.grammar.proofs.Bytes.{class-in, class-alpha, class-zero, class-nonzero, class-dash, class-open, class-close, class-space}
-use Rattle.grammar.proofs.Forward.{rest-none, rest-cons, item-none, simple-none, number-none, all-head, all-tail}
+use Rattle.grammar.proofs.Forward.{rest-none, rest-cons, item-none, number-none, all-head}
 use Rattle.grammar.proofs.Backward.{simple-item}
 use Rattle.grammar.proofs.Live.{a-word}
 use Rattle.grammar.proofs.Pieces.{part-none, part-first, part-next}

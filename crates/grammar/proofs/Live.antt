@@ -24,7 +24,7 @@ pub record Some (B : Lang) : Type 0 where
   pub text : List ℕ
   pub is : B numbers text
 
-zero-number : Number (pos 0) (48 ∷ [])
+pub zero-number : Number (pos 0) (48 ∷ [])
 zero-number = unsigned {n = 0} (omega arith) nought
 
 a-letter : Letter 97

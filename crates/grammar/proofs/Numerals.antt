@@ -1,31 +1,31 @@
 -- The readers of numbers: digits, a number, a number after its minus, and a number with the byte that closes it.
 use Prim.Native.Nat.{ℕ, zero, suc, _≤_, _<_, _+_, _*_, _-_}
 use mathlib.Core.Path.{_≡_, refl, sym, _∙_, ap, subst}
-use mathlib.Core.Bool.{Bool, true, false, not}
+use mathlib.Core.Bool.{Bool, true, false}
 use mathlib.Core.Logic.{⊎-elim}
-use mathlib.Core.List.{List, [], _∷_, _++_, append-assoc, append-nil, head-eq-of-cons-eq as heads, tail-eq-of-cons-eq as tails}
+use mathlib.Core.List.{List, [], _∷_, _++_, append-assoc, head-eq-of-cons-eq as heads, tail-eq-of-cons-eq as tails}
 use native.Mathlib.Omega.{arith}
 use lib.IntN.{ℤ, pos}
 use lib.ListN.{length, getD, length-append}
 use types.Run.{OneOf, miss}
-use mir.Val.{hasKey}
 use denote.Enum.Declared
 use Rattle.definitions.specs.Tests.{minus}
-use Rattle.definitions.specs.Text.{Digit, All, none, each, valued, Plain, nought, digits, Number, unsigned, negative, Part, spaced, ended, Form, nothing, isSpaced, isEnded}
+use Rattle.definitions.specs.Text.{Digit, All, none, each, valued, Plain, digits, Number, unsigned, negative, nothing, isSpaced, isEnded}
 use Rattle.grammar.specs.declared.ByteClass.{ByteClass}
 use Rattle.grammar.specs.declared.ByteClass.the-variants.{Alpha, Zero, Nonzero, Dash, Open, Close, Space, Other}
 use Rattle.grammar.specs.declared.Num.{Num}
 use Rattle.grammar.specs.declared.Num.the-variants.{Value, Bad as NoNumber}
 use Rattle.grammar.specs.declared.Got.{Got}
-use Rattle.grammar.specs.declared.Got.the-variants.{At, Bad}
+use Rattle.grammar.specs.declared.Got.the-variants.{At}
 use Rattle.grammar.proofs.ByteClass as class
-use Rattle.grammar.specs.Readers.{byteClassOf, part, Begins, Stops, Stands, Breaks, ReadAt, Any, DigitsAt, NumAt, AfterMinus, fieldPart, FieldOf, Exactly}
+use Rattle.grammar.specs.Readers.{byteClassOf, part, Stops, Stands, Breaks, ReadAt, Any, DigitsAt, NumAt, AfterMinus, FieldOf, Exactly}
 use Rattle.grammar.proofs.Cats.{Cat, no-cons}
 use Rattle.grammar.proofs.Bytes.{class-in, class-zero, class-nonzero, class-dash}
 use Rattle.grammar.proofs.Residue.{Figures}
 use Rattle.grammar.proofs.Forward.{plain-none, plain-cons, number-none, valued-grows, all-head, all-tail}
+use Rattle.grammar.proofs.Live.{zero-number, one-plain}
 use Rattle.grammar.proofs.Pieces.{lt-or-le, part-none, part-first, part-next}
-use Rattle.grammar.proofs.Reading.{begins-of, bad-here, stops-after, breaks-after, stops-as, breaks-as, read-as, read-after, Separate, breaks-first, then-stands, then-breaks}
+use Rattle.grammar.proofs.Reading.{bad-here, stops-after, breaks-after, stops-as, breaks-as, read-as, read-after, Separate, breaks-first, then-stands, then-breaks}
 use Rattle.grammar.proofs.Alone.{number-tall, all-at}
 
 abbrev pub tag : ByteClass → ℕ
@@ -114,9 +114,6 @@ digits-stop s i a top n e h l m rest q f =
     omega (arith, h .full l d, valued-grows (10 * n + (b - 48)) rest)
 
 -- ---- a number
-pub zero-number : Number (pos 0) (48 ∷ [])
-zero-number = unsigned {n = 0} (omega arith) nought
-
 pub number-cons :
     {z : ℤ} {b : ℕ} {u : List ℕ} {C : Type 0} → Number z (b ∷ u) → (b ≡ 48 → u ≡ [] → C)
     → ((m : ℕ) → 49 ≤ b → b ≤ 57 → m ≤ 32767 → Figures (b - 48) m u → C) → (b ≡ 45 → C) → C
@@ -208,10 +205,7 @@ module _ (s : List ℕ) (i : ℕ) (l : i ≤ length s) where
   number-breaks = bad-here (Any Number) s i l (λ x. number-none (x .1)) (record { rest = 48 ∷ []; is = (pos 0, zero-number) })
 
   minus-breaks : ((u : List ℕ) → i < length s → Any AfterMinus (getD s i 0 ∷ u) → ⊥) → Breaks (Any AfterMinus) s i i
-  minus-breaks = bad-here (Any AfterMinus) s i l (λ x. minus-none (x .1)) (record { rest = 49 ∷ []; is = (minus 1, minus-number 1 (omega arith) (omega arith) one) })
-    where
-      one : Plain 1 (49 ∷ [])
-      one = digits {c = 49} (omega arith) (omega arith) none
+  minus-breaks = bad-here (Any AfterMinus) s i l (λ x. minus-none (x .1)) (record { rest = 49 ∷ []; is = (minus 1, minus-number 1 (omega arith) (omega arith) one-plain) })
 
   pub number-ends : length s ≤ i → Breaks (Any Number) s i i
   number-ends e = number-breaks (λ u m h. omega arith)

@@ -2,27 +2,25 @@
 use Prim.Native.Nat.{ℕ, zero, suc, _≤_, _<_, _+_, _-_}
 use mathlib.Core.Path.{_≡_, refl, sym, _∙_, ap, subst}
 use mathlib.Core.Bool.{Bool, true, false}
-use mathlib.Core.Logic.{⊎-elim}
 use mathlib.Core.List.{List, [], _∷_, _++_, append-assoc, append-nil, head-eq-of-cons-eq as heads, tail-eq-of-cons-eq as tails}
 use native.Mathlib.Omega.{arith}
 use native.Mathlib.Numerals.{add-one}
 use lib.IntN.{ℤ, pos}
-use lib.ListN.{length, getD, take, set, length-append, length-set}
-use lib.Seq.{sets, length-take-le, take-suc-set}
-use Rattle.definitions.specs.Record.{recordWords}
-use Rattle.definitions.specs.Text.{Number, Part, byte, spaced, ended, Form, nothing, isByte, isSpaced, isEnded, bytes, numbers, Kind, letter, tailOf, LineOf, RecordKind, intra, whole, mb, kindOf, Entry, wordsFor, wordsOf}
+use lib.ListN.{length, getD, take, set}
+use lib.Seq.{sets, take-suc-set}
+use Rattle.definitions.specs.Text.{Part, byte, spaced, ended, Form, nothing, isByte, isSpaced, isEnded, bytes, numbers, letter, tailOf, LineOf, RecordKind, intra, whole, mb, kindOf, wordsFor, wordsOf}
 use Rattle.definitions.proofs.Parts.{stored-all, sets-append}
 use Rattle.grammar.specs.declared.Got.{Got}
 use Rattle.grammar.specs.declared.Got.the-variants.{At, Bad}
-use Rattle.grammar.specs.declared.Num.{Num}
 use Rattle.grammar.specs.declared.Num.the-variants.{Value, Bad as NoNumber}
 use Rattle.grammar.specs.Readers.{part, Begins, Stops, Stands, Breaks, ReadAt, Any, NumAt, fieldPart, FieldOf, Exactly, Stored, StoresAt, asRead, Fields, TailOf, EntryTail, InText, ThenReads, ThenStores, WordAfter, NumbersAfter}
 use Rattle.grammar.proofs.Cats.{Cat, no-cons}
 use Rattle.grammar.proofs.Runs.{fieldsIn, form-count}
 use Rattle.grammar.proofs.Pieces.{part-none, part-join, part-first}
-use Rattle.grammar.proofs.Reading.{bad-here, stops-after, breaks-after, stops-as, stands-as, breaks-as, read-as, Separate, breaks-first, then-stands, then-breaks, then-read}
+use Rattle.grammar.proofs.Reading.{bad-here, stops-after, breaks-after, stops-as, breaks-as, read-as, Separate, breaks-first, then-read}
 use Rattle.grammar.proofs.Alone.{form-alone}
-use Rattle.grammar.proofs.Numerals.{zero-number, exactly-none}
+use Rattle.grammar.proofs.Live.{zero-number}
+use Rattle.grammar.proofs.Numerals.{exactly-none}
 
 -- ---- one pattern after another
 pub form-append : {ps qs : List Part} {vs ws : List ℤ} {t u : List ℕ} → Form ps vs t → Form qs ws u → Form (ps ++ qs) (vs ++ ws) (t ++ u)

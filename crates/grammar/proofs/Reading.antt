@@ -1,11 +1,11 @@
 -- What readers promise (specs/Readers): one answer for each text, a byte at a time, and one reader after another.
-use Prim.Native.Nat.{ℕ, suc, _≤_, _<_, _+_, _-_}
+use Prim.Native.Nat.{ℕ, _≤_, _<_, _+_, _-_}
 use mathlib.Core.Path.{_≡_, refl, sym, _∙_, ap, subst}
 use mathlib.Core.Logic.{⊎-elim}
-use mathlib.Core.List.{List, [], _∷_, _++_, append-assoc, append-nil, head-eq-of-cons-eq as heads, tail-eq-of-cons-eq as tails}
+use mathlib.Core.List.{List, [], _∷_, _++_, append-assoc, append-nil, head-eq-of-cons-eq as heads}
 use native.Mathlib.Omega.{arith}
 use native.Mathlib.Nat.{eq-or-lt-of-le}
-use lib.ListN.{length, getD, take, drop}
+use lib.ListN.{length, getD, drop}
 use Rattle.grammar.specs.declared.Got.{Got}
 use Rattle.grammar.specs.declared.Got.the-variants.{At, Bad}
 use Rattle.grammar.specs.Readers.{part, Begins, Stops, Stands, Breaks, ReadAt}
@@ -28,8 +28,8 @@ module _ (P : Bytes) (s : List ℕ) (i : ℕ) where
       let u : i ≤ a = h .up in
       h .no-further (omega arith) (begins-less (part s i (a + 1)) (part s (a + 1) e) (subst (Begins P) (part-join s i (a + 1) e (omega arith) (omega arith)) b))
 
-  one-place : (a e : ℕ) → Stops P s i a → Stops P s i e → Begins P (part s i a) → Begins P (part s i e) → a ≡ e
-  one-place a e h k b c =
+  one-stop : (a e : ℕ) → Stops P s i a → Stops P s i e → Begins P (part s i a) → Begins P (part s i e) → a ≡ e
+  one-stop a e h k b c =
       let l : a ≤ length s = h .within in
       let m : e ≤ length s = k .within in
       ⊎-elim (λ (q : a < e). absurd (no-later a e h q m c))
@@ -38,10 +38,10 @@ module _ (P : Bytes) (s : List ℕ) (i : ℕ) where
 
   -- what is read ends in one place, what breaks breaks in one place, and it is not both
   pub one-end : (a e : ℕ) → Stands P s i a → Stands P s i e → a ≡ e
-  one-end a e h k = one-place a e (h .stops) (k .stops) (begins-of (h .is)) (begins-of (k .is))
+  one-end a e h k = one-stop a e (h .stops) (k .stops) (begins-of (h .is)) (begins-of (k .is))
 
   pub one-break : (p q : ℕ) → Breaks P s i p → Breaks P s i q → p ≡ q
-  one-break p q h k = one-place p q (h .stops) (k .stops) (h .so-far) (k .so-far)
+  one-break p q h k = one-stop p q (h .stops) (k .stops) (h .so-far) (k .so-far)
 
   pub read-or-bad : (e p : ℕ) → Stands P s i e → Breaks P s i p → ⊥
   read-or-bad e p h k = k .none e (h .is)

@@ -1,5 +1,5 @@
 -- A number of at most 32,768, cast to i32 and taken from 0.
-use Prim.Native.Nat.{ℕ, zero, suc, _<_, _≤_, _-_, _^_}
+use Prim.Native.Nat.{ℕ, zero, suc, _<_, _≤_, _^_}
 use mathlib.Core.Path.{_≡_, ap, sym, subst, _∙_}
 use mathlib.Core.Bool.{true}
 use native.Mathlib.Omega.{arith}

@@ -1,31 +1,30 @@
 -- The readers of the whole text: head lines, record lines up to the end, and both together.
-use Prim.Native.Nat.{ℕ, zero, suc, _≤_, _<_, _+_, _-_, _*_}
+use Prim.Native.Nat.{ℕ, _≤_, _<_, _+_, _*_}
 use mathlib.Core.Path.{_≡_, refl, sym, _∙_, ap, subst}
-use mathlib.Core.Logic.{_⊎_, inl, inr, ⊎-elim}
+use mathlib.Core.Logic.{_⊎_, ⊎-elim}
 use mathlib.Core.List.{List, [], _∷_, _++_, append-assoc, append-nil, head-eq-of-cons-eq as heads, tail-eq-of-cons-eq as tails}
 use native.Mathlib.Omega.{arith}
 use lib.IntN.{ℤ, pos}
 use lib.ListN.{length, getD, take, drop, length-append}
-use lib.Seq.{sets, sets-eq, length-take-le, take-at, take-append-add, take-all}
+use lib.Seq.{sets, sets-eq, take-at}
 use Rattle.definitions.specs.declared.Numbers.{Numbers}
 use Rattle.definitions.specs.Record.{recordWords}
-use Rattle.definitions.specs.Text.{Note, note, Notes, none, more, Part, byte, Form, nothing, isByte, bytes, numbers, Kind, baseLine, scaledLine, atLine, fullLine, letter, tailOf, LineOf, Heads, noHead, head, RecordKind, intra, whole, mb, kindOf, Entry, Records, noRecord, aNote, aRecord, Text, headNumbers, Belongs, CanGoOn, BreaksAt, wordsOf, baseOf, textRecords}
+use Rattle.definitions.specs.Text.{Note, note, Notes, none, more, Part, byte, Form, isByte, bytes, numbers, Kind, baseLine, scaledLine, atLine, fullLine, letter, tailOf, LineOf, Heads, noHead, head, RecordKind, intra, whole, mb, kindOf, Entry, Records, noRecord, aNote, aRecord, headNumbers, Belongs, BreaksAt, wordsOf, baseOf, textRecords}
 use Rattle.definitions.proofs.Parts.{stored-all, sets-append}
 use Rattle.definitions.proofs.RecordLists.{joined-each}
 use Rattle.grammar.specs.declared.Got.{Got}
 use Rattle.grammar.specs.declared.Got.the-variants.{At, Bad}
-use Rattle.grammar.specs.Readers.{part, Begins, Stops, Stands, Breaks, ReadAt, Any, Exactly, NoteTail, Stored, StoresAt, asRead, TailOf, EntryTail, HeadTail, HeadLine, headLine, NoNote, ThenStores, WordAfter, NumbersAfter, WordsOf, BreaksToEnd, LinesRead, TextIs}
-use Rattle.grammar.proofs.Machine.{Sym, Ev, nums}
+use Rattle.grammar.specs.Readers.{part, Begins, Stops, Stands, Breaks, Any, NoteTail, Stored, StoresAt, asRead, TailOf, EntryTail, HeadTail, HeadLine, headLine, NoNote, ThenStores, NumbersAfter, BreaksToEnd, LinesRead, TextIs}
+use Rattle.grammar.proofs.Machine.{nums}
 use Rattle.grammar.proofs.Cats.{Cat, no-cons}
-use Rattle.grammar.proofs.Residue.{Lang, Seq, EntryOf}
-use Rattle.grammar.proofs.Runs.{fieldsIn, form-count, Base, lines, heads-seq, fieldsOf, heads-count, Eight, eight, records-cons, entry-first}
+use Rattle.grammar.proofs.Residue.{Seq}
+use Rattle.grammar.proofs.Runs.{fieldsIn, form-count, lines, heads-seq, fieldsOf, heads-count, eight, records-cons, entry-first}
 use Rattle.grammar.proofs.Words.{line-words}
-use Rattle.grammar.proofs.Pieces.{lt-or-le, part-none, part-past, part-join, part-first, part-all, part-start}
-use Rattle.grammar.proofs.Reading.{begins-of, bad-here, stops-after, stands-after, breaks-after, stops-as-here, breaks-as-here, stops-as, stands-as, breaks-as, Separate, breaks-first, cut-here, then-stops, then-stands, then-breaks}
+use Rattle.grammar.proofs.Pieces.{lt-or-le, part-none, part-join, part-first, part-all, part-start}
+use Rattle.grammar.proofs.Reading.{bad-here, stops-after, breaks-after, stops-as-here, breaks-as-here, stops-as, breaks-as, Separate, breaks-first, cut-here, then-stops, then-stands, then-breaks}
 use Rattle.grammar.proofs.Alone.{End, alone, form-alone}
-use Rattle.grammar.proofs.Numerals.{exactly-none}
 use Rattle.grammar.proofs.Items.{note-tail-alone}
-use Rattle.grammar.proofs.Patterns.{Pattern, form-some, bytes-form, Chain, ChainTo, chain-first, chain-word, chain-numbers, after-numbers, entry-cons, entry-none, same-kind}
+use Rattle.grammar.proofs.Patterns.{form-some, Chain, entry-cons, entry-none, same-kind}
 
 -- ---- notes, by their first two bytes
 note-cons : {b : ℕ} {t : List ℕ} {C : Type 0} → Note t → (v u : List ℕ) → 40 ∷ b ∷ u ≡ t ++ v → (b ≡ 110 → (w : List ℕ) → NoteTail w → t ≡ 40 ∷ 110 ∷ w → u ≡ w ++ v → C) → C
