@@ -100,9 +100,6 @@ form-bytes (c ∷ w) u (vs, isByte {t = t} f) = ap (λ (l : List ℕ). c ∷ l) 
 pub word-pattern : (w s : List ℕ) (i : ℕ) (r : Got) → ReadAt (Exactly w) s i r → ReadAt (Pattern (bytes w [])) s i r
 word-pattern w s i r h = read-as (Exactly w) (Pattern (bytes w [])) s i (λ u e. ([], subst (Form (bytes w []) []) (sym e) (bytes-form w))) (form-bytes w) r h
 
-pub pattern-word : (w s : List ℕ) (i : ℕ) (r : Got) → ReadAt (Pattern (bytes w [])) s i r → ReadAt (Exactly w) s i r
-pattern-word w s i r h = read-as (Pattern (bytes w [])) (Exactly w) s i (form-bytes w) (λ u e. ([], subst (Form (bytes w []) []) (sym e) (bytes-form w))) r h
-
 -- ---- one number, as a pattern
 field-pattern : (last : Bool) (w : List ℕ) → Any (FieldOf last) w → Pattern (fieldPart last ∷ []) w
 field-pattern last w h = (h .0 ∷ [], h .1)

@@ -1,20 +1,18 @@
 -- The machine goes by the grammar: a text is the grammar's exactly when the machine ends with nothing more asked, and a text begins
 -- some text of the grammar exactly when the machine is alive after it.
-use Prim.Native.Nat.{ℕ, suc, _<_, _+_}
+use Prim.Native.Nat.{ℕ, suc, _+_}
 use mathlib.Core.Path.{_≡_, refl, sym, _∙_, ap, subst}
 use mathlib.Core.Bool.{Bool, true, false, cond}
 use mathlib.Core.Logic.{inl, inr}
 use mathlib.Core.List.{List, [], _∷_, _++_, append-assoc, append-nil, head-eq-of-cons-eq as heads, tail-eq-of-cons-eq as tails}
 use native.Mathlib.Omega.{arith}
-use native.Mathlib.Numerals.{add-one}
 use lib.IntN.{ℤ}
 use lib.Dec.{eqb}
-use lib.ListN.{length, getD, length-append}
-use lib.Seq.{take-suc}
+use lib.ListN.{length, length-append}
 use borrow.Author.Tests.{eqb-true, eq-eqb}
 use Rattle.definitions.specs.Text.{Note, note, Form, isByte, Kind, LineOf, Heads, noHead, head, RecordKind, kindOf, Entry, Records, noRecord, aNote, aRecord, Text, CanGoOn, headNumbers, Part, byte, spaced, ended, nothing, isSpaced, isEnded, tailOf, baseLine, scaledLine, atLine, fullLine}
 use Rattle.definitions.specs.declared.Numbers.{Numbers}
-use Rattle.grammar.proofs.Machine.{Sym, line, entry, Ev, num, rec, Delta, halt, go, emit, push, δ, stepK, Cfg, dead, live, enter, step, runs, start, stateAt, Alive, nums, flat}
+use Rattle.grammar.proofs.Machine.{Sym, line, entry, Ev, num, rec, Delta, halt, go, emit, push, δ, stepK, Cfg, dead, live, enter, step, runs, start, Alive, nums, flat}
 use Rattle.grammar.proofs.Cats.{no-cons}
 use Rattle.grammar.proofs.Residue.{Lang, Gives, EntryOf, L, Seq, Next}
 use Rattle.grammar.proofs.Forward.{forward, note-first}
@@ -173,10 +171,6 @@ runs-backward (b ∷ t) c fin u ok h = step-backward c fin b (t ++ u) ok (runs-b
 pub nums-append : (vs ws : List ℤ) (os : List Ev) → nums (vs ++ ws) os ≡ nums vs (nums ws os)
 nums-append [] ws os = refl
 nums-append (z ∷ vs) ws os = ap (λ (o : List Ev). num z ∷ o) (nums-append vs ws os)
-
-pub nums-then : (vs : List ℤ) (os xs : List Ev) → nums vs os ++ xs ≡ nums vs (os ++ xs)
-nums-then [] os xs = refl
-nums-then (z ∷ vs) os xs = ap (λ (o : List Ev). num z ∷ o) (nums-then vs os xs)
 
 abbrev pub lines : List Kind → List Sym
 lines [] = []
@@ -349,19 +343,6 @@ alive-can {p} h =
     let g = alive-goes (runs start p) (fine-runs p start fine-start) h in
     after-text (runs-backward p start (g .fin) (g .text) fine-start (g .is))
     (λ n rs e t. record { rest = g .text; belongs = record { numbers = n; entries = rs; text = t } })
-
-pub runs-append : (t u : List ℕ) (c : Cfg) → runs c (t ++ u) ≡ runs (runs c t) u
-unfolding runs
-runs-append [] u c = refl
-runs-append (b ∷ t) u c = runs-append t u (step c b)
-
-pub state-start : (s : List ℕ) → stateAt s 0 ≡ start
-unfolding stateAt runs
-state-start s = refl
-
-pub state-next : (s : List ℕ) (i : ℕ) → i < length s → stateAt s (i + 1) ≡ step (stateAt s i) (getD s i 0)
-unfolding stateAt runs
-state-next s i h = rw (add-one, take-suc s i 0, runs-append)
 
 -- ---- what the machine holds says which numbers and record lines they were
 unlike : {C : Type 0} {z : ℤ} {r : RecordKind} {xs ys : List Ev} → num z ∷ xs ≡ rec r ∷ ys → C

@@ -10,12 +10,6 @@ use mir.Facts.{toZ-pos, toZ-ofZ}
 use Rattle.definitions.proofs.Differences.{zero-minus}
 use Rattle.grammar.proofs.Machine.{withMinus}
 
-pub pos-fits : (n : ℕ) → n ≤ 32768 → SFits w32 (pos n)
-pos-fits n h = record { sfits = omega arith }
-
-pub pos-fits16 : (n : ℕ) → n ≤ 32767 → SFits w16 (pos n)
-pos-fits16 n h = record { sfits = omega arith }
-
 pub pos-is : (n : ℕ) → n ≤ 32767 → toZ w16 n ≡ pos n
 pos-is n h = toZ-pos w16 (let q : n < 2 ^ 15 = omega arith in q)
 

@@ -27,9 +27,6 @@ use Rattle.grammar.proofs.Items.{note-tail-alone}
 use Rattle.grammar.proofs.Patterns.{form-some, Chain, entry-cons, entry-none, same-kind}
 
 -- ---- notes, by their first two bytes
-note-cons : {b : ℕ} {t : List ℕ} {C : Type 0} → Note t → (v u : List ℕ) → 40 ∷ b ∷ u ≡ t ++ v → (b ≡ 110 → (w : List ℕ) → NoteTail w → t ≡ 40 ∷ 110 ∷ w → u ≡ w ++ v → C) → C
-note-cons (note {t = t} r) v u e f = f (heads (tails e)) _ (note r) refl (tails (tails e))
-
 note-separate : (Q : List ℕ → Type 0) → Separate NoteTail Q
 note-separate Q = record { apart = λ l c y r p q k. note-tail-alone l c y p q }
 

@@ -50,7 +50,7 @@ pub record Stops (P : List ℕ → Type 0) (s : List ℕ) (i e : ℕ) : Type 0 w
   pub within : e ≤ length s
   pub no-further : e < length s → Begins P (part s i (e + 1)) → ⊥
 
--- a P stands at i and ends at e: no longer P stands there, nor would with other bytes after e
+-- a P stands at i and ends at e; with the byte at e, if there is one, none begins any more, so that no longer one stands there
 pub record Stands (P : List ℕ → Type 0) (s : List ℕ) (i e : ℕ) : Type 0 where
   pub is : P (part s i e)
   pub stops : Stops P s i e
