@@ -12,7 +12,8 @@ use types.Run.{OneOf, miss}
 use Rattle.definitions.specs.Text.{Letter, All, none, Word, word, Number, Rest, close, item, Listed, listed, Simple, isWord, isNumber, Item, Note, note}
 use Rattle.grammar.specs.declared.ByteClass.{ByteClass}
 use Rattle.grammar.specs.declared.ByteClass.the-variants.{Alpha, Zero, Nonzero, Dash, Open, Close, Space, Other}
-use Rattle.grammar.specs.declared.Num.the-variants.{Value, Bad as NoNumber}
+use Rattle.grammar.specs.declared.Num.the-variants.{Value}
+use Rattle.grammar.specs.declared.Num.the-variants as num
 use Rattle.grammar.specs.declared.Got.{Got}
 use Rattle.grammar.specs.declared.Got.the-variants.{Bad}
 use Rattle.grammar.specs.Readers.{byteClassOf, part, Begins, Stands, Breaks, ReadAt, Any, NumAt, Items, NoteTail, Exactly}
@@ -154,7 +155,7 @@ module _ (s : List ℕ) (i d : ℕ) (l : i < length s) where
       item-number z e h =
           stands-as-here (Any Number) (Item d) s i l of-number to-number (λ x. number-none (x .1)) (item-none d) (item-some d) e (record { is = (z, h .0); stops = h .1 })
 
-      pub item-no-number : (p : ℕ) → NumAt Number s i (NoNumber p) → Breaks (Item d) s i p
+      pub item-no-number : (p : ℕ) → NumAt Number s i (num.Bad p) → Breaks (Item d) s i p
       item-no-number p h = breaks-as-here (Any Number) (Item d) s i l of-number to-number (λ x. number-none (x .1)) (item-none d) (item-some d) p h
 
     pub item-list : c ≡ Open → (d ≡ 0 → ⊥) → (r : Got) → ReadAt (Items (d - 1)) s (i + 1) r → ReadAt (Item d) s i r

@@ -14,7 +14,8 @@ use Rattle.definitions.specs.Text.{Digit, All, none, each, valued, Plain, digit
 use Rattle.grammar.specs.declared.ByteClass.{ByteClass}
 use Rattle.grammar.specs.declared.ByteClass.the-variants.{Alpha, Zero, Nonzero, Dash, Open, Close, Space, Other}
 use Rattle.grammar.specs.declared.Num.{Num}
-use Rattle.grammar.specs.declared.Num.the-variants.{Value, Bad as NoNumber}
+use Rattle.grammar.specs.declared.Num.the-variants.{Value}
+use Rattle.grammar.specs.declared.Num.the-variants as num
 use Rattle.grammar.specs.declared.Got.{Got}
 use Rattle.grammar.specs.declared.Got.the-variants.{At}
 use Rattle.grammar.proofs.ByteClass as class
@@ -193,7 +194,7 @@ module _ (s : List ℕ) (i : ℕ) (l : i < length s) where
         subst (Number z) (sym (part-first s i e (omega arith) l ∙ ap (λ (x : ℕ). x ∷ part s (i + 1) e) b)) (h .0),
         stops-after (Any Number) s i l e (subst (λ (x : ℕ). Stops (λ w. Any Number (x ∷ w)) s (i + 1) e) (sym b) (h .1)),
       )
-  number-minus b (NoNumber p) h =
+  number-minus b (num.Bad p) h =
       breaks-after (Any Number) s i l (λ x. number-none (x .1)) p (subst (λ (x : ℕ). Breaks (λ w. Any Number (x ∷ w)) s (i + 1) p) (sym b) h)
 
 number-class : {z : ℤ} {b : ℕ} {u : List ℕ} → Number z (b ∷ u) → (C : ByteClass → Type 0) → C Zero → C Nonzero → C Dash → C (byteClassOf b)
@@ -279,7 +280,7 @@ number-separate last =
     }
 
 module _ (s : List ℕ) (i : ℕ) (last : Bool) where
-  pub field-bad : (p : ℕ) → Breaks (Any Number) s i p → NumAt (FieldOf last) s i (NoNumber p)
+  pub field-bad : (p : ℕ) → Breaks (Any Number) s i p → NumAt (FieldOf last) s i (num.Bad p)
   field-bad p h =
       breaks-as (Closed last) (Any (FieldOf last)) s i (closed-field last) (field-closed last) p
       (breaks-first (Any Number) (Exactly (closer last ∷ [])) s i (record { rest = closer last ∷ []; is = refl }) p h)
@@ -288,7 +289,7 @@ module _ (s : List ℕ) (i : ℕ) (last : Bool) where
     stands : Stands (Any Number) s i e
     stands = record { is = (z, h .0); stops = h .1 }
 
-    pub field-open : (e < length s → getD s e 0 ≡ closer last → ⊥) → NumAt (FieldOf last) s i (NoNumber e)
+    pub field-open : (e < length s → getD s e 0 ≡ closer last → ⊥) → NumAt (FieldOf last) s i (num.Bad e)
     field-open n =
         breaks-as (Closed last) (Any (FieldOf last)) s i (closed-field last) (field-closed last) e
         (then-breaks (Any Number) (Exactly (closer last ∷ [])) s i (number-separate last) e stands e (exactly-bad s e (closer last) [] (h .1 .within) n))

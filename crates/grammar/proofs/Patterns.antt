@@ -12,7 +12,8 @@ use Rattle.definitions.specs.Text.{Part, byte, spaced, ended, Form, nothing, is
 use Rattle.definitions.proofs.Parts.{stored-all, sets-append}
 use Rattle.grammar.specs.declared.Got.{Got}
 use Rattle.grammar.specs.declared.Got.the-variants.{At, Bad}
-use Rattle.grammar.specs.declared.Num.the-variants.{Value, Bad as NoNumber}
+use Rattle.grammar.specs.declared.Num.the-variants.{Value}
+use Rattle.grammar.specs.declared.Num.the-variants as num
 use Rattle.grammar.specs.Readers.{part, Begins, Stops, Stands, Breaks, ReadAt, Any, NumAt, fieldPart, FieldOf, Exactly, Stored, StoresAt, asRead, Fields, TailOf, EntryTail, InText, ThenReads, ThenStores, WordAfter, NumbersAfter}
 use Rattle.grammar.proofs.Cats.{Cat, no-cons}
 use Rattle.grammar.proofs.Runs.{fieldsIn, form-count}
@@ -109,7 +110,7 @@ pattern-field true w (vs, isEnded {z = z} n nothing) = (z, isEnded n nothing)
 pattern-field false w (vs, isSpaced {z = z} n nothing) = (z, isSpaced n nothing)
 
 module _ (last : Bool) (s : List ℕ) (i : ℕ) where
-  pub field-breaks : (p : ℕ) → NumAt (FieldOf last) s i (NoNumber p) → Breaks (Pattern (fieldPart last ∷ [])) s i p
+  pub field-breaks : (p : ℕ) → NumAt (FieldOf last) s i (num.Bad p) → Breaks (Pattern (fieldPart last ∷ [])) s i p
   field-breaks p h = breaks-as (Any (FieldOf last)) (Pattern (fieldPart last ∷ [])) s i (field-pattern last) (pattern-field last) p h
 
   pub field-stands : (z : ℤ) (e : ℕ) → NumAt (FieldOf last) s i (Value z e) → Stands (Pattern (fieldPart last ∷ [])) s i e
@@ -258,7 +259,7 @@ module _ (s : List ℕ) (at n : ℕ) (own : List ℤ) (p i : ℕ) (h : Storing s
       subst (λ (ps : List Part). ReadAt (Pattern ps) s at r) (sym (ap (λ (j : ℕ). numbers j []) (sym e) ∙ numbers-split i m))
       (form-then (spaces i) (numbers m []) s at p so-far r k)
 
-  pub storing-stuck : i < n → (out : List ℤ) (from e : ℕ) → NumAt (FieldOf false) s p (NoNumber e) → StoresAt (Fields n) asRead s at out from out (Bad e)
+  pub storing-stuck : i < n → (out : List ℤ) (from e : ℕ) → NumAt (FieldOf false) s p (num.Bad e) → StoresAt (Fields n) asRead s at out from out (Bad e)
   storing-stuck q out from e f =
       (refl, all-numbers (Bad e) (suc (n - (i + 1))) (omega arith) (form-bad (spaced ∷ []) (numbers (n - (i + 1)) []) s p e (field-breaks false s p e f)))
 
@@ -266,7 +267,7 @@ module _ (s : List ℕ) (at n : ℕ) (own : List ℤ) (p i : ℕ) (h : Storing s
     last : i ≡ n
     last = let m = h .most in omega arith
 
-    pub storing-cut : (out : List ℤ) (from e : ℕ) → NumAt (FieldOf true) s p (NoNumber e) → StoresAt (Fields n) asRead s at out from out (Bad e)
+    pub storing-cut : (out : List ℤ) (from e : ℕ) → NumAt (FieldOf true) s p (num.Bad e) → StoresAt (Fields n) asRead s at out from out (Bad e)
     storing-cut out from e f = (refl, all-numbers (Bad e) 0 (let m = last in omega arith) (field-breaks true s p e f))
 
     pub storing-done :

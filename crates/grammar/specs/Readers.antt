@@ -17,11 +17,14 @@ use Rattle.grammar.specs.declared.ByteClass.the-variants.{Alpha, Zero, N
 use Rattle.grammar.specs.declared.Got.{Got}
 use Rattle.grammar.specs.declared.Got.the-variants.{At, Bad}
 use Rattle.grammar.specs.declared.Num.{Num}
-use Rattle.grammar.specs.declared.Num.the-variants.{Value, Bad as NoNumber}
+use Rattle.grammar.specs.declared.Num.the-variants.{Value}
+use Rattle.grammar.specs.declared.Num.the-variants as num
 use Rattle.grammar.specs.declared.Lines.{Lines}
-use Rattle.grammar.specs.declared.Lines.the-variants.{Count, Bad as NoLines}
+use Rattle.grammar.specs.declared.Lines.the-variants.{Count}
+use Rattle.grammar.specs.declared.Lines.the-variants as lines
 use Rattle.grammar.specs.declared.TextParse.{TextParse}
-use Rattle.grammar.specs.declared.TextParse.the-variants.{Parsed, Bad as NoText}
+use Rattle.grammar.specs.declared.TextParse.the-variants.{Parsed}
+use Rattle.grammar.specs.declared.TextParse.the-variants as parse
 
 -- what a byte is
 unfoldable pub byteClassOf : ℕ → ByteClass
@@ -83,7 +86,7 @@ pub record DigitsAt (s : List ℕ) (i a top n e : ℕ) : Type 0 where
 -- a number and where it ends; P says which numbers stand in which bytes
 abbrev pub NumAt : (ℤ → List ℕ → Type 0) → List ℕ → ℕ → Num → Type 0
 NumAt P s i (Value z e) = P z (part s i e) × Stops (Any P) s i e
-NumAt P s i (NoNumber p) = Breaks (Any P) s i p
+NumAt P s i (num.Bad p) = Breaks (Any P) s i p
 
 -- a number after its minus
 abbrev pub AfterMinus : ℤ → List ℕ → Type 0
@@ -192,7 +195,7 @@ pub record LinesRead (s : List ℕ) (i : ℕ) (old new : List ℤ) (n : ℕ) : T
 
 abbrev pub LinesAt : List ℕ → ℕ → List ℤ → List ℤ → Lines → Type 0
 LinesAt s i old new (Count n) = LinesRead s i old new n
-LinesAt s i old new (NoLines p) = (new ≡ old) × BreaksToEnd (Any Records) s i p
+LinesAt s i old new (lines.Bad p) = (new ≡ old) × BreaksToEnd (Any Records) s i p
 
 -- the whole text
 pub record TextIs (s : List ℕ) (old new : List ℤ) (n : Numbers) (count : ℕ) : Type 0 where
@@ -203,4 +206,4 @@ pub record TextIs (s : List ℕ) (old new : List ℤ) (n : Numbers) (count : ℕ
 
 abbrev pub ParsedAs : List ℕ → List ℤ → List ℤ → TextParse → Type 0
 ParsedAs s old new (Parsed n count) = TextIs s old new n count
-ParsedAs s old new (NoText p) = (new ≡ old) × BreaksAt s p
+ParsedAs s old new (parse.Bad p) = (new ≡ old) × BreaksAt s p
