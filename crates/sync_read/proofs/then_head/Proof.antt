@@ -1,5 +1,6 @@
 -- `sync_read::then_head` meets its contract. Assumes nothing.
 use Rattle.grammar.proofs.Patterns.{after-numbers, after-numbers-bad}
+use native.Mathlib.Omega.{arith}
 use borrow.Author.Needs.{needs}
 use Rattle.sync_read.proofs.then_head.Statement.{statement}
 use Rattle.sync_read.proofs.then_head.Tie as tie
@@ -8,7 +9,9 @@ enum-known-r : tie.Need-enum-known-r
 enum-known-r c = search needs
 
 head-line-requires : tie.Need-head-line-requires
-head-line-requires c κs = (rw (c .before .before .r .given .1) at (c .before .before .before .before .before .before .pre .0), c .before .before .before .before .before .before .pre .1, c .before .before .before .before .before .before .pre .2)
+head-line-requires c κs =
+    let w = rw (c .before .before .r .given .1) at (c .before .before .before .before .before .before .pre .0) in
+    (omega arith, c .before .before .before .before .before .before .pre .1, c .before .before .before .before .before .before .pre .2)
 
 enum-known-r-2 : tie.Need-enum-known-r-2
 enum-known-r-2 c = search needs

@@ -1,5 +1,6 @@
 -- `sync_records::then_word` meets its contract. Assumes nothing.
 use Rattle.grammar.proofs.Patterns.{after-word, after-word-bad}
+use native.Mathlib.Omega.{arith}
 use borrow.Author.Needs.{needs}
 use Rattle.sync_records.proofs.then_word.Statement.{statement}
 use Rattle.sync_records.proofs.then_word.Tie as tie
@@ -8,7 +9,7 @@ enum-known-r : tie.Need-enum-known-r
 enum-known-r c = search needs
 
 word-at-requires : tie.Need-word-at-requires
-word-at-requires c κs = rw (c .before .r .given .1) at (c .before .before .before .before .before .pre)
+word-at-requires c κs = let w = rw (c .before .r .given .1) at (c .before .before .before .before .before .pre) in omega arith
 
 enum-known-r-2 : tie.Need-enum-known-r-2
 enum-known-r-2 c = search needs
