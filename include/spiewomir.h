@@ -14,7 +14,7 @@
  * `log_len` bytes at `log`) to write. With length 0 the pointer may be null. A
  * refused call leaves every word and byte lent to it as it was. `base` and `text`
  * are never written. Calls keep nothing between them (a session is handed over and
- * back by value), take no memory but some 20 KB of stack, and may be made from any
+ * back by value), take no memory but some 40 KB of stack, and may be made from any
  * threads at once.
  */
 #ifndef SPIEWOMIR_H

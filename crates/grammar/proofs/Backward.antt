@@ -8,10 +8,11 @@ use native.Mathlib.Omega.{arith}
 use lib.IntN.{ℤ, pos, negsuc}
 use lib.Dec.{leb, eqb}
 use borrow.Author.Tests.{eqb-true}
-use Rattle.grammar.specs.declared.Class.{Class}
-use Rattle.grammar.specs.declared.Class.the-variants.{Alpha, Nought, Nonzero, Dash, Open, Close, Space, Other}
+use Rattle.grammar.specs.declared.ByteClass.{ByteClass}
+use Rattle.grammar.specs.declared.ByteClass.the-variants.{Alpha, Zero, Nonzero, Dash, Open, Close, Space, Other}
 use Rattle.definitions.specs.Text.{Letter, Digit, none, each, word, zeroAlone, digits, Number, unsigned, negative, Rest, close, item, listed, Simple, isWord, isNumber, Item, Note, note, more, Part, byte, spaced, ended, Form, nothing, isByte, isSpaced, isEnded, Kind, letter, tailOf, RecordKind, intra, whole, mb, kindOf}
-use Rattle.grammar.specs.Machine.{Follow, gap, shut, inList, Sym, lit, first, letters, rest, field, dashed, zeroed, figures, line, opened, entry, Ev, rec, Delta, halt, limit, signed, choose, classOf, shuts, gaps, grow, opens, syms, δ, nums}
+use Rattle.grammar.specs.Readers.{byteClassOf}
+use Rattle.grammar.proofs.Machine.{Follow, gap, shut, inList, Sym, lit, first, letters, rest, field, dashed, zeroed, figures, line, opened, entry, Ev, rec, Delta, halt, limit, withMinus, choose, shuts, gaps, grow, opens, syms, δ, nums}
 use Rattle.grammar.proofs.Cats.{Cat, cons-cat, cat-with}
 use Rattle.grammar.proofs.Bytes.{class-in}
 use Rattle.grammar.proofs.Forward.{valued-grows}
@@ -34,10 +35,10 @@ Sound entry = Unit {0}
 -- the classes of b, each with what a step came to
 module _ {G : Type 0} (F : Delta → Type 0) (no-halt : F halt → G) (b : ℕ) {p q r s o c g : Delta} where
   choose-by :
-      (k : Class) → classOf b ≡ k → F (choose k p q r s o c g) → (Letter b → F p → G) → (b ≡ 48 → F q → G) → (49 ≤ b → b ≤ 57 → F r → G)
+      (k : ByteClass) → byteClassOf b ≡ k → F (choose k p q r s o c g) → (Letter b → F p → G) → (b ≡ 48 → F q → G) → (49 ≤ b → b ≤ 57 → F r → G)
       → (b ≡ 45 → F s → G) → (b ≡ 40 → F o → G) → (b ≡ 41 → F c → G) → (b ≡ 32 → F g → G) → G
   choose-by Alpha e h 𝒑 𝒒 𝒓 𝒔 𝒐 𝒄 𝒈 = 𝒑 (class-in b e) h
-  choose-by Nought e h 𝒑 𝒒 𝒓 𝒔 𝒐 𝒄 𝒈 = 𝒒 (class-in b e) h
+  choose-by Zero e h 𝒑 𝒒 𝒓 𝒔 𝒐 𝒄 𝒈 = 𝒒 (class-in b e) h
   choose-by Nonzero e h 𝒑 𝒒 𝒓 𝒔 𝒐 𝒄 𝒈 = let k = class-in b e in 𝒓 (k .0) (k .1) h
   choose-by Dash e h 𝒑 𝒒 𝒓 𝒔 𝒐 𝒄 𝒈 = 𝒔 (class-in b e) h
   choose-by Open e h 𝒑 𝒒 𝒓 𝒔 𝒐 𝒄 𝒈 = 𝒐 (class-in b e) h
@@ -49,7 +50,7 @@ pick-by : {G : Type 0} (F : Delta → Type 0) (t : Bool) {x y : Delta} → F (co
 pick-by F true h f g = f refl h
 pick-by F false h f g = g refl h
 
-simple-item : (d : ℕ) {t : List ℕ} → Simple t → Item d t
+pub simple-item : (d : ℕ) {t : List ℕ} → Simple t → Item d t
 simple-item zero h = h
 simple-item (suc d) h = inl h
 
@@ -218,7 +219,7 @@ module _ (B : Lang) (ws : List Ev) (b : ℕ) (u : List ℕ) where
         cut = cc (append-assoc (h .left) (h .then .left) (h .then .right));
       }
 
-  dash-back : (f : Follow) → 49 ≤ b → b ≤ 57 → (n : ℕ) → n ≤ 32768 → Cat (Figures (b - 48) n) (Fol f (signed true n) B ws) u → L (dashed f) B ws (b ∷ u)
+  dash-back : (f : Follow) → 49 ≤ b → b ≤ 57 → (n : ℕ) → n ≤ 32768 → Cat (Figures (b - 48) n) (Fol f (withMinus true n) B ws) u → L (dashed f) B ws (b ∷ u)
   dash-back f l m zero le k =
       let w = k .is .worth in
       absurd (omega (arith, valued-grows (b - 48) (k .left)))
@@ -234,7 +235,7 @@ module _ (B : Lang) (ws : List Ev) (b : ℕ) (u : List ℕ) where
   unfolding δ
   backward (lit c) ok h = pick-by To (eqb b c) h (λ e k. record { more = u; is = ap (λ (x : ℕ). x ∷ u) (eqb-true b c e); then = k }) (λ e k. absurd k)
   backward (first d) ok h =
-      choose-by To absurd b (classOf b) refl h
+      choose-by To absurd b (byteClassOf b) refl h
       (λ l k. cons-cat (cat-with k (simple-item d (isWord (word l (k .is))))))
       (λ e k. record { left = 48 ∷ []; right = u; is = simple-item d (isNumber (unsigned (omega arith) zeroAlone)); then = k; cut = ap (λ (x : ℕ). x ∷ u) e })
       (λ l m k. cons-cat (cat-with (k .2) (simple-item d (isNumber (figures-number l m (k .1) (k .2 .is))))))
@@ -243,7 +244,7 @@ module _ (B : Lang) (ws : List Ev) (b : ℕ) (u : List ℕ) where
       (λ e k. absurd k)
       (λ e k. absurd k)
   backward (letters d) ok h =
-      choose-by To absurd b (classOf b) refl h
+      choose-by To absurd b (byteClassOf b) refl h
       (λ l k. cons-cat (cat-with k (each l (k .is))))
       (λ e k. absurd k)
       (λ l m k. absurd k)
@@ -252,7 +253,7 @@ module _ (B : Lang) (ws : List Ev) (b : ℕ) (u : List ℕ) where
       (λ e k. record { left = []; right = b ∷ u; is = none; then = rest-close e k; cut = refl })
       (λ e k. record { left = []; right = b ∷ u; is = none; then = rest-item e k; cut = refl })
   backward (rest d) ok h =
-      choose-by To absurd b (classOf b) refl h
+      choose-by To absurd b (byteClassOf b) refl h
       (λ l k. absurd k)
       (λ e k. absurd k)
       (λ l m k. absurd k)
@@ -261,7 +262,7 @@ module _ (B : Lang) (ws : List Ev) (b : ℕ) (u : List ℕ) where
       (λ e k. rest-close e k)
       (λ e k. rest-item e k)
   backward (field f) ok h =
-      choose-by To absurd b (classOf b) refl h
+      choose-by To absurd b (byteClassOf b) refl h
       (λ l k. absurd k)
       (λ e k. (pos 0, record { left = 48 ∷ []; right = u; is = unsigned (omega arith) zeroAlone; then = k; cut = ap (λ (x : ℕ). x ∷ u) e }))
       (λ l m k. (pos (k .0), cons-cat (cat-with (k .2) (figures-number l m (k .1) (k .2 .is)))))
@@ -270,7 +271,7 @@ module _ (B : Lang) (ws : List Ev) (b : ℕ) (u : List ℕ) where
       (λ e k. absurd k)
       (λ e k. absurd k)
   backward (dashed f) ok h =
-      choose-by To absurd b (classOf b) refl h
+      choose-by To absurd b (byteClassOf b) refl h
       (λ l k. absurd k)
       (λ e k. absurd k)
       (λ l m k. dash-back f l m (k .0) (k .1) (k .2))
@@ -279,7 +280,7 @@ module _ (B : Lang) (ws : List Ev) (b : ℕ) (u : List ℕ) where
       (λ e k. absurd k)
       (λ e k. absurd k)
   backward (zeroed f) ok h =
-      choose-by To absurd b (classOf b) refl h
+      choose-by To absurd b (byteClassOf b) refl h
       (λ l k. absurd k)
       (λ e k. absurd k)
       (λ l m k. absurd k)
@@ -288,14 +289,14 @@ module _ (B : Lang) (ws : List Ev) (b : ℕ) (u : List ℕ) where
       (λ e k. shut-back f (pos 0) e k)
       (λ e k. gap-back f (pos 0) e k)
   backward (figures sg a f) ok h =
-      choose-by To absurd b (classOf b) refl h
+      choose-by To absurd b (byteClassOf b) refl h
       (λ l k. absurd k)
       (λ e k. fig-back sg a f (omega arith) k)
       (λ l m k. fig-back sg a f (omega arith) k)
       (λ e k. absurd k)
       (λ e k. absurd k)
-      (λ e k. (a, ok, record { left = []; right = b ∷ u; is = record { all = none; worth = refl }; then = shut-back f (signed sg a) e k; cut = refl }))
-      (λ e k. (a, ok, record { left = []; right = b ∷ u; is = record { all = none; worth = refl }; then = gap-back f (signed sg a) e k; cut = refl }))
+      (λ e k. (a, ok, record { left = []; right = b ∷ u; is = record { all = none; worth = refl }; then = shut-back f (withMinus sg a) e k; cut = refl }))
+      (λ e k. (a, ok, record { left = []; right = b ∷ u; is = record { all = none; worth = refl }; then = gap-back f (withMinus sg a) e k; cut = refl }))
   backward (line k) ok h =
       pick-by To (eqb b 40) h (λ e n. rw (eqb-true b 40 e) n) (λ e n. absurd n)
   backward (opened k) ok h =

@@ -10,9 +10,10 @@ use lib.IntN.{ℤ, pos}
 use lib.Dec.{eqb}
 use borrow.Author.Tests.{le-leb, eq-eqb, ne-eqb}
 use Rattle.definitions.specs.Text.{All, none, each, Word, word, valued, Plain, zeroAlone, digits, Number, unsigned, negative, Rest, close, item, Listed, listed, Simple, isWord, isNumber, Item, Note, note, Notes, more, Part, Form, nothing, isByte, isSpaced, isEnded, Kind, baseLine, scaledLine, atLine, fullLine, intraLine, wholeLine, mbLine, letter, tailOf, RecordKind, intra, whole, mb, kindOf}
-use Rattle.grammar.specs.Machine.{Follow, gap, shut, inList, Sym, lit, first, letters, rest, field, dashed, zeroed, figures, line, opened, entry, Ev, rec, Delta, go, limit, signed, choose, classOf, shuts, gaps, grow, syms, δ, nums}
+use Rattle.grammar.specs.Readers.{byteClassOf}
+use Rattle.grammar.proofs.Machine.{Follow, gap, shut, inList, Sym, lit, first, letters, rest, field, dashed, zeroed, figures, line, opened, entry, Ev, rec, Delta, go, limit, withMinus, choose, shuts, gaps, grow, syms, δ, nums}
 use Rattle.grammar.proofs.Cats.{Cat, cat-cons, cat-either, cat-empty, cat-with, cat-right, no-cons}
-use Rattle.grammar.proofs.Bytes.{class-alpha, class-nonzero, class-nought, class-dash, class-open, class-close, class-space}
+use Rattle.grammar.proofs.Bytes.{class-alpha, class-nonzero, class-zero, class-dash, class-open, class-close, class-space}
 use Rattle.grammar.proofs.Residue.{Lang, Lit, Gives, Fol, Figures, Line, RecLine, EntryOf, L, Seq, Next}
 
 -- the first byte of the rest of a list
@@ -23,7 +24,7 @@ rest-none {P} h = by-text h refl
     by-text close e = no-cons e
     by-text (item p r) e = no-cons e
 
-rest-cons : {P : List ℕ → Type 0} {C : Type 0} {b : ℕ} {u : List ℕ} → Rest P (b ∷ u) → (b ≡ 41 → u ≡ [] → C) → (b ≡ 32 → Cat P (Rest P) u → C) → C
+pub rest-cons : {P : List ℕ → Type 0} {C : Type 0} {b : ℕ} {u : List ℕ} → Rest P (b ∷ u) → (b ≡ 41 → u ≡ [] → C) → (b ≡ 32 → Cat P (Rest P) u → C) → C
 rest-cons {P} {C} {b} {u} h f g = by-text h refl
   where
     by-text : {t : List ℕ} → Rest P t → b ∷ u ≡ t → C
@@ -35,10 +36,10 @@ rest-split h f g =
     let k = cat-cons rest-none h in
     rest-cons (k .is) (λ e n. f e (cat-empty k n)) (λ e n. g e (cat-right (cat-with k n)))
 
-all-head : {P : ℕ → Type 0} {b : ℕ} {w : List ℕ} → All P (b ∷ w) → P b
+pub all-head : {P : ℕ → Type 0} {b : ℕ} {w : List ℕ} → All P (b ∷ w) → P b
 all-head (each p r) = p
 
-all-tail : {P : ℕ → Type 0} {b : ℕ} {w : List ℕ} → All P (b ∷ w) → All P w
+pub all-tail : {P : ℕ → Type 0} {b : ℕ} {w : List ℕ} → All P (b ∷ w) → All P w
 all-tail (each p r) = r
 
 pub valued-grows : (a : ℕ) (t : List ℕ) → a ≤ valued a t
@@ -52,7 +53,7 @@ plain-none h = by-text h refl
     by-text zeroAlone e = no-cons e
     by-text (digits l m a) e = no-cons e
 
-plain-cons : {n : ℕ} {C : Type 0} {b : ℕ} {u : List ℕ} → Plain n (b ∷ u) → (b ≡ 48 → n ≡ 0 → u ≡ [] → C) → (49 ≤ b → b ≤ 57 → Figures (b - 48) n u → C) → C
+pub plain-cons : {n : ℕ} {C : Type 0} {b : ℕ} {u : List ℕ} → Plain n (b ∷ u) → (b ≡ 48 → n ≡ 0 → u ≡ [] → C) → (49 ≤ b → b ≤ 57 → Figures (b - 48) n u → C) → C
 plain-cons {n} {C} {b} {u} h f g = by-text h refl refl
   where
     by-text : {m : ℕ} {t : List ℕ} → Plain m t → n ≡ m → b ∷ u ≡ t → C
@@ -68,7 +69,7 @@ number-none h = by-text h refl
     by-text (unsigned l p) e = plain-none (rw (← e) at p)
     by-text (negative l p) e = no-cons e
 
-simple-none : Simple [] → ⊥
+pub simple-none : Simple [] → ⊥
 simple-none h = by-text h refl
   where
     by-word : {t : List ℕ} → Word t → [] ≡ t → ⊥
@@ -86,12 +87,12 @@ item-none (suc d) (inr h) = by-text h refl
     by-text : {t : List ℕ} → Listed (Item d) t → [] ≡ t → ⊥
     by-text (listed p r) e = no-cons e
 
-nought-or : (b : ℕ) → 48 ≤ b → (b ≡ 48) ⊎ (49 ≤ b)
-nought-or b h = ⊎-map (λ e. sym e) (λ l. l) (eq-or-lt-of-le h)
+zero-or : (b : ℕ) → 48 ≤ b → (b ≡ 48) ⊎ (49 ≤ b)
+zero-or b h = ⊎-map (λ e. sym e) (λ l. l) (eq-or-lt-of-le h)
 
 module _ (B : Lang) (ws : List Ev) (b : ℕ) (u : List ℕ) where
   -- what follows a number
-  fol-forward : (f : Follow) (z : ℤ) (p q r s o : Delta) → Fol f z B ws (b ∷ u) → Next (choose (classOf b) p q r s o (shuts f z) (gaps f z)) B ws u
+  fol-forward : (f : Follow) (z : ℤ) (p q r s o : Delta) → Fol f z B ws (b ∷ u) → Next (choose (byteClassOf b) p q r s o (shuts f z) (gaps f z)) B ws u
   fol-forward gap z p q r s o h = rw (class-space b (heads (h .is))) (rw (tails (h .is)) (h .then))
   fol-forward shut z p q r s o h = rw (class-close b (heads (h .is))) (rw (tails (h .is)) (h .then))
   fol-forward (inList d) z p q r s o h = rest-split h (λ e n. rw (class-close b e) n) (λ e n. rw (class-space b e) n)
@@ -102,24 +103,24 @@ module _ (B : Lang) (ws : List Ev) (b : ℕ) (u : List ℕ) where
 
     number-by :
         (f : Follow) (p o s r : Delta) {z : ℤ} {t : List ℕ} → Number z t → t ≡ b ∷ w → Fol f z B ws v
-        → Next (choose (classOf b) p (go (zeroed f ∷ [])) (go (figures false (b - 48) f ∷ [])) (go (dashed f ∷ [])) o s r) B ws u
+        → Next (choose (byteClassOf b) p (go (zeroed f ∷ [])) (go (figures false (b - 48) f ∷ [])) (go (dashed f ∷ [])) o s r) B ws u
     number-by f p o s r (unsigned {n = n} le pl) e k =
         plain-cons (rw e at pl)
-        (λ b48 n0 nil. rw (class-nought b b48, same-right nil) (rw n0 at k))
+        (λ b48 n0 nil. rw (class-zero b b48, same-right nil) (rw n0 at k))
         (λ l m g. rw (class-nonzero b l m) (n, le, record { left = w; right = v; is = g; then = k; cut = cut }))
     number-by f p o s r (negative {n = n} {t = t} le pl) e k =
         rw (class-dash b (sym (heads e))) (n, le, record { left = w; right = v; is = rw (tails e) at pl; then = k; cut = cut })
 
     word-by :
         (d : ℕ) (p o q r s i : Delta) {t : List ℕ} → Word t → t ≡ b ∷ w → Cat (Rest (Item d)) (B ws) v
-        → Next (choose (classOf b) (go (letters d ∷ [])) p o q r s i) B ws u
+        → Next (choose (byteClassOf b) (go (letters d ∷ [])) p o q r s i) B ws u
     word-by d p o q r s i (word {c = c} {t = t} l a) e k =
         let h : c ≡ b = heads e in
         rw (class-alpha b (rw h at l)) (record { left = w; right = v; is = rw (tails e) at a; then = k; cut = cut })
 
     simple-by :
         (d : ℕ) (o s i : Delta) {t : List ℕ} → Simple t → t ≡ b ∷ w → Cat (Rest (Item d)) (B ws) v
-        → Next (choose (classOf b) (go (letters d ∷ [])) (go (zeroed (inList d) ∷ [])) (go (figures false (b - 48) (inList d) ∷ [])) (go (dashed (inList d) ∷ [])) o s i) B ws u
+        → Next (choose (byteClassOf b) (go (letters d ∷ [])) (go (zeroed (inList d) ∷ [])) (go (figures false (b - 48) (inList d) ∷ [])) (go (dashed (inList d) ∷ [])) o s i) B ws u
     simple-by d o s i (isWord h) e k = word-by d _ _ _ _ _ _ h e k
     simple-by d o s i (isNumber h) e k = number-by (inList d) _ _ _ _ h e k
 
@@ -134,7 +135,7 @@ module _ (B : Lang) (ws : List Ev) (b : ℕ) (u : List ℕ) where
             let c : Cat (Cat (Item d) (Rest (Item d))) (Cat (Rest (Item (suc d))) (B ws)) u = record { left = w; right = v; is = record { left = x; right = y; is = i; then = r; cut = sym (tails e) }; then = k; cut = cut } in
             rw (class-open b (sym (heads e))) (cat-right c)
 
-    figures-by : (sg : Bool) (a : ℕ) (f : Follow) (n : ℕ) → n ≤ limit sg → Figures a n (b ∷ w) → Fol f (signed sg n) B ws v → Next (δ (figures sg a f) b) B ws u
+    figures-by : (sg : Bool) (a : ℕ) (f : Follow) (n : ℕ) → n ≤ limit sg → Figures a n (b ∷ w) → Fol f (withMinus sg n) B ws v → Next (δ (figures sg a f) b) B ws u
     unfolding δ
     figures-by sg a f n le h k =
         let dg = all-head (h .all) in
@@ -142,14 +143,14 @@ module _ (B : Lang) (ws : List Ev) (b : ℕ) (u : List ℕ) where
         let wo : valued (10 * a + (b - 48)) w ≡ n = h .worth in
         let ok : 10 * a + (b - 48) ≤ limit sg = omega arith in
         let to : Next (grow sg (10 * a + (b - 48)) f) B ws u = rw (le-leb _ _ ok) (n, le, record { left = w; right = v; is = record { all = all-tail (h .all); worth = wo }; then = k; cut = cut }) in
-        ⊎-elim (λ e. rw (class-nought b e) to) (λ l. rw (class-nonzero b l (dg .1)) to) (nought-or b (dg .0))
+        ⊎-elim (λ e. rw (class-zero b e) to) (λ l. rw (class-nonzero b l (dg .1)) to) (zero-or b (dg .0))
 
-  figures-end : (sg : Bool) (a : ℕ) (f : Follow) (n : ℕ) → valued a [] ≡ n → Fol f (signed sg n) B ws (b ∷ u) → Next (δ (figures sg a f) b) B ws u
+  figures-end : (sg : Bool) (a : ℕ) (f : Follow) (n : ℕ) → valued a [] ≡ n → Fol f (withMinus sg n) B ws (b ∷ u) → Next (δ (figures sg a f) b) B ws u
   unfolding δ
-  figures-end sg a f n e h = fol-forward f (signed sg a) _ _ _ _ _ (rw e h)
+  figures-end sg a f n e h = fol-forward f (withMinus sg a) _ _ _ _ _ (rw e h)
 
 -- a pattern's text, and after it B
-form-seq :
+pub form-seq :
     {ps : List Part} {vs : List ℤ} {t : List ℕ} → Form ps vs t → (B : Lang) (others : List Ev) (r : List ℕ) → B others r
     → Seq (syms ps) B (nums vs others) (t ++ r)
 form-seq nothing B os r h = h

@@ -1,4 +1,5 @@
--- Laws of the grammar: the machine goes by it. Each file says in its first line what it is about.
+-- Laws of the grammar and of its readers. Each file says in its first line what it is about.
+pub mod Machine
 pub mod Cats
 pub mod Bytes
 pub mod Residue
@@ -6,12 +7,15 @@ pub mod Forward
 pub mod Backward
 pub mod Live
 pub mod Runs
-pub mod Steps
+pub mod Places
+pub mod Pieces
+pub mod Reading
+pub mod Alone
+pub mod Numerals
+pub mod Items
+pub mod Patterns
+pub mod WholeText
 pub mod Signs
-pub mod Storing
-pub mod Openings
-pub mod Whole
-pub mod Again
 pub mod Once
 pub mod OneLog
 pub mod Words

@@ -8,10 +8,11 @@ use native.Mathlib.Omega.{arith}
 use lib.IntN.{ℤ, pos, negsuc}
 use lib.Dec.{leb, eqb}
 use borrow.Author.Tests.{leb-true}
-use Rattle.grammar.specs.declared.Class.{Class}
-use Rattle.grammar.specs.declared.Class.the-variants.{Alpha, Nought, Nonzero, Dash, Open, Close, Space, Other}
+use Rattle.grammar.specs.declared.ByteClass.{ByteClass}
+use Rattle.grammar.specs.declared.ByteClass.the-variants.{Alpha, Zero, Nonzero, Dash, Open, Close, Space, Other}
 use Rattle.definitions.specs.Text.{Letter, none, word, Plain, zeroAlone, digits, Number, unsigned, close, isWord, Item, Note, note, Notes, more, Part, byte, spaced, ended, isByte, Kind, intraLine, wholeLine, mbLine, letter, tailOf, LineOf, kindOf}
-use Rattle.grammar.specs.Machine.{Follow, gap, shut, inList, Sym, lit, first, letters, rest, field, dashed, zeroed, figures, line, opened, entry, Ev, num, Delta, halt, go, emit, limit, signed, choose, classOf, shuts, gaps, grow, opens, noteTail, syms, δ}
+use Rattle.grammar.specs.Readers.{byteClassOf}
+use Rattle.grammar.proofs.Machine.{Follow, gap, shut, inList, Sym, lit, first, letters, rest, field, dashed, zeroed, figures, line, opened, entry, Ev, num, Delta, halt, go, emit, limit, withMinus, choose, shuts, gaps, grow, opens, noteTail, syms, δ}
 use Rattle.grammar.proofs.Cats.{Cat, no-cons}
 use Rattle.grammar.proofs.Bytes.{class-in}
 use Rattle.grammar.proofs.Forward.{rest-none, item-none, plain-none, number-none}
@@ -23,13 +24,13 @@ pub record Some (B : Lang) : Type 0 where
   pub text : List ℕ
   pub is : B numbers text
 
-zero-number : Number (pos 0) (48 ∷ [])
+pub zero-number : Number (pos 0) (48 ∷ [])
 zero-number = unsigned {n = 0} (omega arith) zeroAlone
 
 a-letter : Letter 97
 a-letter = omega arith
 
-one-plain : Plain 1 (49 ∷ [])
+pub one-plain : Plain 1 (49 ∷ [])
 one-plain = digits {c = 49} (omega arith) (omega arith) none
 
 fol-some : (B : Lang) → Some B → (f : Follow) (z : ℤ) → Some (Fol f z B)
@@ -59,7 +60,7 @@ parts-some (ended ∷ ps) B h =
     let k = fol-some (Seq (syms ps) B) (parts-some ps B h) shut (pos 0) in
     record { numbers = k .numbers; text = 48 ∷ k .text; is = (pos 0, record { left = 48 ∷ []; right = k .text; is = zero-number; then = k .is; cut = refl }) }
 
-a-word : (d : ℕ) → Item d (97 ∷ [])
+pub a-word : (d : ℕ) → Item d (97 ∷ [])
 a-word zero = isWord (word a-letter none)
 a-word (suc d) = inl (isWord (word a-letter none))
 
@@ -80,7 +81,7 @@ inhabit (dashed f) ok B h =
     record { numbers = k .numbers; text = 49 ∷ k .text; is = (0, omega arith, record { left = 49 ∷ []; right = k .text; is = one-plain; then = k .is; cut = refl }) }
 inhabit (zeroed f) ok B h = fol-some B h f (pos 0)
 inhabit (figures sg a f) ok B h =
-    let k = fol-some B h f (signed sg a) in
+    let k = fol-some B h f (withMinus sg a) in
     record {
       numbers = k .numbers;
       text = k .text;
@@ -153,7 +154,7 @@ not-none (rest d) B ws h = cat-none h (λ p q. rest-none p)
 not-none (field f) B ws h = cat-none (h .1) (λ p q. number-none p)
 not-none (dashed f) B ws h = cat-none (h .2) (λ p q. plain-none p)
 not-none (zeroed f) B ws h = fol-none f (pos 0) B ws h
-not-none (figures sg a f) B ws h = cat-none (h .2) (λ p q. fol-none f (signed sg (h .0)) B ws q)
+not-none (figures sg a f) B ws h = cat-none (h .2) (λ p q. fol-none f (withMinus sg (h .0)) B ws q)
 not-none (line k) B ws h = line-none h
 not-none (opened k) B ws h = line-one h
 not-none entry B ws (inl h) = by-note (h .is) (h .cut)
@@ -174,10 +175,10 @@ one : (s : Sym) → Sound s → SoundD (go (s ∷ []))
 one s h = at-go {k = s ∷ []} (h, tt)
 
 choose-all :
-    (b : ℕ) {p q r s o c g : Delta} (k : Class) → classOf b ≡ k → SoundD p → SoundD q → (49 ≤ b → b ≤ 57 → SoundD r) → SoundD s → SoundD o → SoundD c
+    (b : ℕ) {p q r s o c g : Delta} (k : ByteClass) → byteClassOf b ≡ k → SoundD p → SoundD q → (49 ≤ b → b ≤ 57 → SoundD r) → SoundD s → SoundD o → SoundD c
     → SoundD g → SoundD (choose k p q r s o c g)
 choose-all b Alpha e p q r s o c g = p
-choose-all b Nought e p q r s o c g = q
+choose-all b Zero e p q r s o c g = q
 choose-all b Nonzero e p q r s o c g = let k = class-in b e in r (k .0) (k .1)
 choose-all b Dash e p q r s o c g = s
 choose-all b Open e p q r s o c g = o
@@ -216,14 +217,14 @@ pub sound-step : (s : Sym) (b : ℕ) → SoundD (δ s b)
 unfolding δ
 sound-step (lit c) b = pick-all (eqb b c) (λ e. at-go tt) at-halt
 sound-step (first d) b =
-    choose-all b (classOf b) refl (one (letters d) tt) (one (zeroed (inList d)) tt) (λ l m. one (figures false (b - 48) (inList d)) (omega arith)) (one (dashed (inList d)) tt) (opens-sound d) at-halt at-halt
-sound-step (letters d) b = choose-all b (classOf b) refl (one (letters d) tt) at-halt (λ l m. at-halt) at-halt at-halt (at-go tt) (one (first d) tt)
-sound-step (rest d) b = choose-all b (classOf b) refl at-halt at-halt (λ l m. at-halt) at-halt at-halt (at-go tt) (one (first d) tt)
+    choose-all b (byteClassOf b) refl (one (letters d) tt) (one (zeroed (inList d)) tt) (λ l m. one (figures false (b - 48) (inList d)) (omega arith)) (one (dashed (inList d)) tt) (opens-sound d) at-halt at-halt
+sound-step (letters d) b = choose-all b (byteClassOf b) refl (one (letters d) tt) at-halt (λ l m. at-halt) at-halt at-halt (at-go tt) (one (first d) tt)
+sound-step (rest d) b = choose-all b (byteClassOf b) refl at-halt at-halt (λ l m. at-halt) at-halt at-halt (at-go tt) (one (first d) tt)
 sound-step (field f) b =
-    choose-all b (classOf b) refl at-halt (one (zeroed f) tt) (λ l m. one (figures false (b - 48) f) (omega arith)) (one (dashed f) tt) at-halt at-halt at-halt
-sound-step (dashed f) b = choose-all b (classOf b) refl at-halt at-halt (λ l m. one (figures true (b - 48) f) (omega arith)) at-halt at-halt at-halt at-halt
-sound-step (zeroed f) b = choose-all b (classOf b) refl at-halt at-halt (λ l m. at-halt) at-halt at-halt (shuts-sound f _) (gaps-sound f _)
-sound-step (figures sg a f) b = choose-all b (classOf b) refl at-halt (grow-sound sg _ f) (λ l m. grow-sound sg _ f) at-halt at-halt (shuts-sound f _) (gaps-sound f _)
+    choose-all b (byteClassOf b) refl at-halt (one (zeroed f) tt) (λ l m. one (figures false (b - 48) f) (omega arith)) (one (dashed f) tt) at-halt at-halt at-halt
+sound-step (dashed f) b = choose-all b (byteClassOf b) refl at-halt at-halt (λ l m. one (figures true (b - 48) f) (omega arith)) at-halt at-halt at-halt at-halt
+sound-step (zeroed f) b = choose-all b (byteClassOf b) refl at-halt at-halt (λ l m. at-halt) at-halt at-halt (shuts-sound f _) (gaps-sound f _)
+sound-step (figures sg a f) b = choose-all b (byteClassOf b) refl at-halt (grow-sound sg _ f) (λ l m. grow-sound sg _ f) at-halt at-halt (shuts-sound f _) (gaps-sound f _)
 sound-step (line k) b = pick-all (eqb b 40) (λ e. one (opened k) tt) at-halt
 sound-step (opened k) b =
     pick-all (eqb b 110) (λ e. at-go {k = noteTail (line k ∷ [])} (tt, (tt, (tt, (tt, (tt, (tt, tt))))))) (pick-all (eqb b (letter k)) (λ e. at-go (parts-sound (tailOf k))) at-halt)

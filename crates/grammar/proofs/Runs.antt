@@ -1,20 +1,18 @@
 -- The machine goes by the grammar: a text is the grammar's exactly when the machine ends with nothing more asked, and a text begins
 -- some text of the grammar exactly when the machine is alive after it.
-use Prim.Native.Nat.{ℕ, suc, _<_, _+_}
+use Prim.Native.Nat.{ℕ, suc, _+_}
 use mathlib.Core.Path.{_≡_, refl, sym, _∙_, ap, subst}
 use mathlib.Core.Bool.{Bool, true, false, cond}
 use mathlib.Core.Logic.{inl, inr}
 use mathlib.Core.List.{List, [], _∷_, _++_, append-assoc, append-nil, head-eq-of-cons-eq as heads, tail-eq-of-cons-eq as tails}
 use native.Mathlib.Omega.{arith}
-use native.Mathlib.Numerals.{add-one}
 use lib.IntN.{ℤ}
 use lib.Dec.{eqb}
-use lib.ListN.{length, getD, length-append}
-use lib.Seq.{take-suc}
+use lib.ListN.{length, length-append}
 use borrow.Author.Tests.{eqb-true, eq-eqb}
 use Rattle.definitions.specs.Text.{Note, note, Form, isByte, Kind, LineOf, Heads, noHead, head, RecordKind, kindOf, Entry, Records, noRecord, aNote, aRecord, Text, CanGoOn, headNumbers, Part, byte, spaced, ended, nothing, isSpaced, isEnded, tailOf, baseLine, scaledLine, atLine, fullLine}
 use Rattle.definitions.specs.declared.Numbers.{Numbers}
-use Rattle.grammar.specs.Machine.{Sym, line, entry, Ev, num, rec, Delta, halt, go, emit, push, δ, stepK, Cfg, dead, live, enter, step, runs, start, stateAt, Alive, nums, flat}
+use Rattle.grammar.proofs.Machine.{Sym, line, entry, Ev, num, rec, Delta, halt, go, emit, push, δ, stepK, Cfg, dead, live, enter, step, runs, start, Alive, nums, flat}
 use Rattle.grammar.proofs.Cats.{no-cons}
 use Rattle.grammar.proofs.Residue.{Lang, Gives, EntryOf, L, Seq, Next}
 use Rattle.grammar.proofs.Forward.{forward, note-first}
@@ -22,12 +20,12 @@ use Rattle.grammar.proofs.Backward.{backward}
 use Rattle.grammar.proofs.Live.{Sounds, SoundD, at-halt, at-go, at-emit, seq-some, not-none, sound-step}
 
 -- with nothing more asked: notes and record lines
-record Base (ws : List Ev) (u : List ℕ) : Type 0 where
-  entries : List Entry
-  is : ws ≡ flat entries
-  lines : Records entries u
+pub record Base (ws : List Ev) (u : List ℕ) : Type 0 where
+  pub entries : List Entry
+  pub is : ws ≡ flat entries
+  pub lines : Records entries u
 
-seq-append : (t k : List Sym) (B : Lang) → Seq (t ++ k) B ≡ Seq t (Seq k B)
+pub seq-append : (t k : List Sym) (B : Lang) → Seq (t ++ k) B ≡ Seq t (Seq k B)
 seq-append [] k B = refl
 seq-append (s ∷ t) k B = ap (L s) (seq-append t k B)
 
@@ -36,7 +34,7 @@ push-next halt k B ws u = refl
 push-next (go t) k B ws u = ap (λ (B : Lang). B ws u) (seq-append t k B)
 push-next (emit z t) k B ws u = ap (λ (B : Lang). Gives z B ws u) (seq-append t k B)
 
-records-cons : {rs : List Entry} {b : ℕ} {u : List ℕ} → Records rs (b ∷ u) → EntryOf Base (flat rs) (b ∷ u)
+pub records-cons : {rs : List Entry} {b : ℕ} {u : List ℕ} → Records rs (b ∷ u) → EntryOf Base (flat rs) (b ∷ u)
 records-cons {rs} {b} {u} h = by-text h refl
   where
     by-text : {rs : List Entry} {t : List ℕ} → Records rs t → t ≡ b ∷ u → EntryOf Base (flat rs) (b ∷ u)
@@ -56,7 +54,7 @@ records-cons {rs} {b} {u} h = by-text h refl
           cut = sym e;
         })
 
-entry-first : {B : Lang} {ws : List Ev} {b : ℕ} {u : List ℕ} → EntryOf B ws (b ∷ u) → b ≡ 40
+pub entry-first : {B : Lang} {ws : List Ev} {b : ℕ} {u : List ℕ} → EntryOf B ws (b ∷ u) → b ≡ 40
 entry-first (inl h) = note-first h
 entry-first {b = b} {u = u} (inr h) = by-form (h .this) (h .cut)
   where
@@ -174,15 +172,11 @@ pub nums-append : (vs ws : List ℤ) (os : List Ev) → nums (vs ++ ws) os ≡ n
 nums-append [] ws os = refl
 nums-append (z ∷ vs) ws os = ap (λ (o : List Ev). num z ∷ o) (nums-append vs ws os)
 
-pub nums-then : (vs : List ℤ) (os xs : List Ev) → nums vs os ++ xs ≡ nums vs (os ++ xs)
-nums-then [] os xs = refl
-nums-then (z ∷ vs) os xs = ap (λ (o : List Ev). num z ∷ o) (nums-then vs os xs)
-
-abbrev lines : List Kind → List Sym
+abbrev pub lines : List Kind → List Sym
 lines [] = []
 lines (k ∷ ks) = line k ∷ lines ks
 
-heads-seq : {ks : List Kind} {g : List ℤ} {t : List ℕ} → Heads ks g t → (B : Lang) (os : List Ev) (r : List ℕ) → B os r → Seq (lines ks) B (nums g os) (t ++ r)
+pub heads-seq : {ks : List Kind} {g : List ℤ} {t : List ℕ} → Heads ks g t → (B : Lang) (os : List Ev) (r : List ℕ) → B os r → Seq (lines ks) B (nums g os) (t ++ r)
 heads-seq noHead B os r h = h
 heads-seq (head {vs = vs} {ws = ws} {n = n} {t = t} {u = u} ns f hs) B os r h =
     record {
@@ -234,13 +228,13 @@ text-after {n} {rs} h =
     }
 
 -- how many numbers stand in a pattern, and in the lines of these kinds
-abbrev fieldsIn : List Part → ℕ
+abbrev pub fieldsIn : List Part → ℕ
 fieldsIn [] = 0
 fieldsIn (byte c ∷ ps) = fieldsIn ps
 fieldsIn (spaced ∷ ps) = suc (fieldsIn ps)
 fieldsIn (ended ∷ ps) = suc (fieldsIn ps)
 
-abbrev fieldsOf : List Kind → ℕ
+abbrev pub fieldsOf : List Kind → ℕ
 fieldsOf [] = 0
 fieldsOf (k ∷ ks) = fieldsIn (tailOf k) + fieldsOf ks
 
@@ -250,16 +244,16 @@ form-count (isByte f) = form-count f
 form-count (isSpaced n f) = ap suc (form-count f)
 form-count (isEnded n f) = ap suc (form-count f)
 
-heads-count : {ks : List Kind} {vs : List ℤ} {t : List ℕ} → Heads ks vs t → length vs ≡ fieldsOf ks
+pub heads-count : {ks : List Kind} {vs : List ℤ} {t : List ℕ} → Heads ks vs t → length vs ≡ fieldsOf ks
 heads-count noHead = refl
 heads-count (head {vs = vs} {ws = ws} n f h) = length-append vs ws ∙ (cc (form-count f, heads-count h))
 
 -- eight numbers are the geometry's
-record Eight (vs : List ℤ) : Type 0 where
-  numbers : Numbers
-  is : vs ≡ headNumbers numbers
+pub record Eight (vs : List ℤ) : Type 0 where
+  pub numbers : Numbers
+  pub is : vs ≡ headNumbers numbers
 
-eight : (vs : List ℤ) → length vs ≡ 8 → Eight vs
+pub eight : (vs : List ℤ) → length vs ≡ 8 → Eight vs
 eight [] e = absurd (omega arith)
 eight (a ∷ []) e = absurd (omega arith)
 eight (a ∷ b ∷ []) e = absurd (omega arith)
@@ -350,25 +344,12 @@ alive-can {p} h =
     after-text (runs-backward p start (g .fin) (g .text) fine-start (g .is))
     (λ n rs e t. record { rest = g .text; belongs = record { numbers = n; entries = rs; text = t } })
 
-pub runs-append : (t u : List ℕ) (c : Cfg) → runs c (t ++ u) ≡ runs (runs c t) u
-unfolding runs
-runs-append [] u c = refl
-runs-append (b ∷ t) u c = runs-append t u (step c b)
-
-pub state-start : (s : List ℕ) → stateAt s 0 ≡ start
-unfolding stateAt runs
-state-start s = refl
-
-pub state-next : (s : List ℕ) (i : ℕ) → i < length s → stateAt s (i + 1) ≡ step (stateAt s i) (getD s i 0)
-unfolding stateAt runs
-state-next s i h = rw (add-one, take-suc s i 0, runs-append)
-
 -- ---- what the machine holds says which numbers and record lines they were
 unlike : {C : Type 0} {z : ℤ} {r : RecordKind} {xs ys : List Ev} → num z ∷ xs ≡ rec r ∷ ys → C
 unlike e = absurd (let z : _≡_ {A = ℕ} 0 1 = cc in omega arith)
 
 -- numbers, up to the first record line
-same-nums : (g h : List ℤ) (rs qs : List Entry) → nums g (flat rs) ≡ nums h (flat qs) → (g ≡ h) × (flat rs ≡ flat qs)
+pub same-nums : (g h : List ℤ) (rs qs : List Entry) → nums g (flat rs) ≡ nums h (flat qs) → (g ≡ h) × (flat rs ≡ flat qs)
 same-nums [] [] rs qs e = (refl, e)
 same-nums [] (z ∷ h) [] qs e = no-cons e
 same-nums [] (z ∷ h) (r ∷ rs) qs e = unlike (sym e)

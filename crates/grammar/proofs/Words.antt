@@ -12,7 +12,7 @@ use Rattle.definitions.specs.Text.{LineOf, RecordKind, intra, whole, mb, kindOf
 use Rattle.definitions.proofs.Records.{laid-length}
 use Rattle.grammar.proofs.Runs.{form-count}
 
-line-words : (r : RecordKind) {vs : List ℤ} {t : List ℕ} → LineOf (kindOf r) vs t → length (wordsFor r vs) ≡ recordWords
+pub line-words : (r : RecordKind) {vs : List ℤ} {t : List ℕ} → LineOf (kindOf r) vs t → length (wordsFor r vs) ≡ recordWords
 line-words intra h = laid-length _
 line-words whole {vs} h = laid-length _
 line-words mb h = form-count h

@@ -1,3 +1,2 @@
--- The machine that reads the text, and what the readers promise by its states.
-pub mod Machine
-pub mod Promises
+-- What the readers of the text promise, in the terms of the grammar.
+pub mod Readers

@@ -1,16 +1,15 @@
 -- The sync text and its log, as the C interface hands them over: the numbers of a reply that the call's definition allows, with demand 2 of it.
-use Prim.Native.Nat.{ℕ, _*_}
+use Prim.Native.Nat.{ℕ}
 use mathlib.Core.Path.{_≡_}
 use mathlib.Core.List.{List}
 use lib.IntN.{ℤ, pos}
-use lib.ListN.{length}
 use Rattle.definitions.specs.declared.TextReply.{TextReply}
 use Rattle.definitions.specs.declared.TextReply.the-variants.{Read, Refused}
 use Rattle.definitions.specs.declared.LogReply.{LogReply}
 use Rattle.definitions.specs.declared.LogReply.the-variants.{Written, Refused as NotWritten}
-use Rattle.definitions.specs.Record.{recordWords}
-use Rattle.definitions.specs.Text.{TextAnswer, textRecords, ReadExactly}
+use Rattle.definitions.specs.Text.{TextAnswer}
 use Rattle.definitions.specs.Log.{LogAnswer}
+use Rattle.sync_text.specs.Promised.{TextPromised}
 use Rattle.log.specs.Promised.{LogPromised}
 use Rattle.spiewomir.specs.declared.GeometryNumbers.{GeometryNumbers}
 use Rattle.spiewomir.specs.declared.TextResult.{TextResult}
@@ -31,7 +30,7 @@ logResult (NotWritten r) = record { refusal = r .number; bytes = 0 }
 pub record TextGiven (t : List ℕ) (words : List ℤ) (result : TextResult) (new : List ℤ) : Type 0 where
   pub reply : TextReply
   pub answer : TextAnswer t words reply new
-  pub demand2 : length words ≡ recordWords * textRecords → ReadExactly t words reply new
+  pub demand2 : TextPromised t words reply new
   pub is : result ≡ textResult reply
 
 pub record LogGiven (t out : List ℕ) (result : LogResult) (new : List ℕ) : Type 0 where

@@ -1,10 +1,9 @@
 // Reading the notes of a text, and the fixed bytes of its lines.
 ghost use Prim.Native.Nat.{_≤_};
 ghost use lib.ListN.{length};
-ghost use mathlib.Core.List.{List, _∷_};
-ghost use Rattle.grammar.specs.Machine.{Sym, rest, noteTail};
-ghost use Rattle.grammar.specs.Promises.{LettersTo, ItemTo, ListTo, Takes, WordTo};
-use grammar::Class;
+ghost use Rattle.definitions.specs.Text.{All, Letter, Item, Rest};
+ghost use Rattle.grammar.specs.Readers.{Exactly, Items, NoteTail, ReadAt, Stands};
+use grammar::ByteClass;
 use grammar::Got;
 use grammar::Num;
 use sync_numbers::class_of;
@@ -13,12 +12,12 @@ use sync_numbers::number;
 // Where the letters that start at `at` end.
 fn letters(s: &[u8], at: usize) -> usize
     requires { ⌜ at ≤ length (now s) ⌝ }
-    ensures { λ r. ⌜ LettersTo (now (s .entry)) at r ⌝ }
+    ensures { λ r. ⌜ Stands (All Letter) (now (s .entry)) at r ⌝ }
 {
     let mut p = at;
     while p < s.len() {
         let c = class_of(s[p]);
-        if let Class::Alpha = c {
+        if let ByteClass::Alpha = c {
             p += 1;
         } else {
             return p;
@@ -30,7 +29,7 @@ fn letters(s: &[u8], at: usize) -> usize
 // A word, a number or a list. Lists nest `depth` deep at the most, and what remains of the depth falls with each.
 fn item(s: &[u8], at: usize, depth: usize) -> Got
     requires { ⌜ at ≤ length (now s) ⌝ }
-    ensures { λ r. ⌜ ItemTo (now (s .entry)) at depth r ⌝ }
+    ensures { λ r. ⌜ ReadAt (Item depth) (now (s .entry)) at r ⌝ }
 {
     if at >= s.len() {
         return Got::Bad(at);
@@ -38,15 +37,15 @@ fn item(s: &[u8], at: usize, depth: usize) -> Got
     let b = s[at];
     let c = class_of(b);
     match c {
-        Class::Alpha => Got::At(letters(s, at + 1)),
-        Class::Nought | Class::Nonzero | Class::Dash => {
+        ByteClass::Alpha => Got::At(letters(s, at + 1)),
+        ByteClass::Zero | ByteClass::Nonzero | ByteClass::Dash => {
             let n = number(s, at);
             match n {
                 Num::Value(_, e) => Got::At(e),
-                Num::Wrong(p) => Got::Bad(p),
+                Num::Bad(p) => Got::Bad(p),
             }
         }
-        Class::Open => {
+        ByteClass::Open => {
             if depth == 0 {
                 return Got::Bad(at);
             }
@@ -59,7 +58,7 @@ fn item(s: &[u8], at: usize, depth: usize) -> Got
 // The items of a list after its bracket, one or more, each but the first after a space, and the closing bracket.
 fn list(s: &[u8], at: usize, depth: usize) -> Got
     requires { ⌜ at ≤ length (now s) ⌝ }
-    ensures { λ r. ⌜ ListTo (now (s .entry)) at depth r ⌝ }
+    ensures { λ r. ⌜ ReadAt (Items depth) (now (s .entry)) at r ⌝ }
 {
     let mut p = at;
     while p < s.len() {
@@ -72,10 +71,10 @@ fn list(s: &[u8], at: usize, depth: usize) -> Got
                 let b = s[e];
                 let c = class_of(b);
                 match c {
-                    Class::Close => {
+                    ByteClass::Close => {
                         return Got::At(e + 1);
                     }
-                    Class::Space => {
+                    ByteClass::Space => {
                         p = e + 1;
                     }
                     _ => {
@@ -94,7 +93,7 @@ fn list(s: &[u8], at: usize, depth: usize) -> Got
 // The bytes of w.
 pub fn word_at(s: &[u8], at: usize, w: &[u8]) -> Got
     requires { ⌜ at ≤ length (now s) ⌝ }
-    ensures { λ r. ⌜ WordTo (now (s .entry)) at (now (w .entry)) r ⌝ }
+    ensures { λ r. ⌜ ReadAt (Exactly (now (w .entry))) (now (s .entry)) at r ⌝ }
 {
     let mut p = at;
     let mut j = 0;
@@ -114,7 +113,7 @@ pub fn word_at(s: &[u8], at: usize, w: &[u8]) -> Got
 // More items or none, each after a space, and the closing bracket.
 fn rest_of(s: &[u8], at: usize, depth: usize) -> Got
     requires { ⌜ at ≤ length (now s) ⌝ }
-    ensures { λ r. ⌜ Takes (now (s .entry)) at (λ (k : List Sym). rest depth ∷ k) r ⌝ }
+    ensures { λ r. ⌜ ReadAt (Rest (Item depth)) (now (s .entry)) at r ⌝ }
 {
     if at >= s.len() {
         return Got::Bad(at);
@@ -122,8 +121,8 @@ fn rest_of(s: &[u8], at: usize, depth: usize) -> Got
     let b = s[at];
     let c = class_of(b);
     match c {
-        Class::Close => Got::At(at + 1),
-        Class::Space => list(s, at + 1, depth),
+        ByteClass::Close => Got::At(at + 1),
+        ByteClass::Space => list(s, at + 1, depth),
         _ => Got::Bad(at),
     }
 }
@@ -131,7 +130,7 @@ fn rest_of(s: &[u8], at: usize, depth: usize) -> Got
 // A note after its bracket and its n. To depth 8 with the note at 1: lists nest 7 deep in it.
 pub fn note(s: &[u8], at: usize) -> Got
     requires { ⌜ at ≤ length (now s) ⌝ }
-    ensures { λ r. ⌜ Takes (now (s .entry)) at noteTail r ⌝ }
+    ensures { λ r. ⌜ ReadAt NoteTail (now (s .entry)) at r ⌝ }
 {
     let o = word_at(s, at, b"ote");
     match o {

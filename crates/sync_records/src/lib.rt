@@ -1,14 +1,13 @@
 // Reading the record lines of a text: each reader stores the words in the buffer that it is lent once it has read them all, so that bad bytes leave
 // every lent word.
 ghost use Prim.Native.Nat.{_+_, _<_, _≤_};
-ghost use lib.ListN.{length, getD};
+ghost use lib.ListN.{length};
 ghost use lib.Seq.{sets};
-ghost use mathlib.Core.List.{List, _∷_};
+ghost use mathlib.Core.List.{[], _∷_};
 ghost use mathlib.Core.Path.{_≡_};
 ghost use Rattle.definitions.specs.Record.{allOne, recordWords, laidOut};
-ghost use Rattle.definitions.specs.Text.{intra, whole, mb, wordsFor};
-ghost use Rattle.grammar.specs.Machine.{Sym, field, gap};
-ghost use Rattle.grammar.specs.Promises.{fields, RecordTo, StoresTo, TailTo, ThenStores, ThenWord, Within};
+ghost use Rattle.definitions.specs.Text.{intra, whole, mb, spaced, Form, wordsFor, wordsOf};
+ghost use Rattle.grammar.specs.Readers.{asRead, EntryTail, Fields, InText, NumbersAfter, StoresAt, TailOf, WordAfter};
 use definitions::Motion;
 use definitions::Prediction;
 use definitions::RECORD_WORDS;
@@ -24,7 +23,7 @@ use sync_numbers::field;
 const MOST_FIELDS: usize = 64;
 
 // The words, stored from `from` on.
-fn put_words(out: &mut [i16], from: usize, words: &[i16])
+pub fn put_words(out: &mut [i16], from: usize, words: &[i16])
     requires { ⌜ from + length (now words) ≤ length (now out) ⌝ }
     ensures { λ _. ⌜ now (out .exit) ≡ sets (now (out .entry)) from (now (words .entry)) ⌝ }
 {
@@ -38,7 +37,7 @@ fn put_words(out: &mut [i16], from: usize, words: &[i16])
 // n + 1 numbers and the closing bracket. The numbers are stored from `from` on, once all are read.
 fn store_fields(s: &[u8], at: usize, n: usize, out: &mut [i16], from: usize) -> Got
     requires { ⌜ (at ≤ length (now s)) × (n < 64) × (from + n < length (now out)) ⌝ }
-    ensures { λ r. ⌜ StoresTo (now (s .entry)) (λ (k : List Sym). fields n k) (n + 1) at (now (out .entry)) from (now (out .exit)) r ⌝ }
+    ensures { λ r. ⌜ StoresAt (Fields n) asRead (now (s .entry)) at (now (out .entry)) from (now (out .exit)) r ⌝ }
 {
     let mut own = [0i16; MOST_FIELDS];
     let mut p = at;
@@ -51,7 +50,7 @@ fn store_fields(s: &[u8], at: usize, n: usize, out: &mut [i16], from: usize) -> 
                 i += 1;
                 p = e;
             }
-            Num::Wrong(q) => {
+            Num::Bad(q) => {
                 return Got::Bad(q);
             }
         }
@@ -64,14 +63,14 @@ fn store_fields(s: &[u8], at: usize, n: usize, out: &mut [i16], from: usize) -> 
             put_words(out, from, &own[0..many]);
             Got::At(e)
         }
-        Num::Wrong(q) => Got::Bad(q),
+        Num::Bad(q) => Got::Bad(q),
     }
 }
 
 // After r, the bytes of w.
 pub fn then_word(s: &[u8], r: Got, w: &[u8]) -> Got
-    requires { ⌜ Within (now s) r ⌝ }
-    ensures { λ q. ⌜ ThenWord (now (s .entry)) (now (w .entry)) r q ⌝ }
+    requires { ⌜ InText (now s) r ⌝ }
+    ensures { λ q. ⌜ WordAfter (now (w .entry)) (now (s .entry)) r q ⌝ }
 {
     match r {
         Got::At(a) => word_at(s, a, w),
@@ -81,8 +80,8 @@ pub fn then_word(s: &[u8], r: Got, w: &[u8]) -> Got
 
 // After r, n + 1 numbers and the closing bracket.
 pub fn then_fields(s: &[u8], r: Got, n: usize, out: &mut [i16], from: usize) -> Got
-    requires { ⌜ Within (now s) r × (n < 64) × (from + n < length (now out)) ⌝ }
-    ensures { λ q. ⌜ ThenStores (now (s .entry)) (λ (k : List Sym). fields n k) (n + 1) r (now (out .entry)) from (now (out .exit)) q ⌝ }
+    requires { ⌜ InText (now s) r × (n < 64) × (from + n < length (now out)) ⌝ }
+    ensures { λ q. ⌜ NumbersAfter (Fields n) (now (s .entry)) r (now (out .entry)) from (now (out .exit)) q ⌝ }
 {
     match r {
         Got::At(a) => store_fields(s, a, n, out, from),
@@ -92,8 +91,8 @@ pub fn then_fields(s: &[u8], r: Got, n: usize, out: &mut [i16], from: usize) -> 
 
 // After r, a number and a space.
 fn then_field(s: &[u8], r: Got, out: &mut [i16], from: usize) -> Got
-    requires { ⌜ Within (now s) r × (from < length (now out)) ⌝ }
-    ensures { λ q. ⌜ ThenStores (now (s .entry)) (λ (k : List Sym). field gap ∷ k) 1 r (now (out .entry)) from (now (out .exit)) q ⌝ }
+    requires { ⌜ InText (now s) r × (from < length (now out)) ⌝ }
+    ensures { λ q. ⌜ NumbersAfter (Form (spaced ∷ [])) (now (s .entry)) r (now (out .entry)) from (now (out .exit)) q ⌝ }
 {
     match r {
         Got::At(a) => {
@@ -103,7 +102,7 @@ fn then_field(s: &[u8], r: Got, out: &mut [i16], from: usize) -> Got
                     out[from] = z;
                     Got::At(e)
                 }
-                Num::Wrong(p) => Got::Bad(p),
+                Num::Bad(p) => Got::Bad(p),
             }
         }
         Got::Bad(p) => Got::Bad(p),
@@ -154,7 +153,7 @@ fn put_whole(out: &mut [i16], from: usize, six: [i16; 6])
 // What comes after the letter of a line (intra). The record is stored once all of it is read.
 fn intra_tail(s: &[u8], at: usize, out: &mut [i16], from: usize) -> Got
     requires { ⌜ (at ≤ length (now s)) × (from + recordWords ≤ length (now out)) ⌝ }
-    ensures { λ r. ⌜ TailTo intra (now (s .entry)) at (now (out .entry)) from (now (out .exit)) r ⌝ }
+    ensures { λ r. ⌜ StoresAt (TailOf intra) (wordsFor intra) (now (s .entry)) at (now (out .entry)) from (now (out .exit)) r ⌝ }
 {
     let r = word_at(s, at, b"ntra)\n");
     match r {
@@ -169,7 +168,7 @@ fn intra_tail(s: &[u8], at: usize, out: &mut [i16], from: usize) -> Got
 // The same of a line (whole (R0 R1) (X0 Y0 X1 Y1)).
 fn whole_tail(s: &[u8], at: usize, out: &mut [i16], from: usize) -> Got
     requires { ⌜ (at ≤ length (now s)) × (from + recordWords ≤ length (now out)) ⌝ }
-    ensures { λ r. ⌜ TailTo whole (now (s .entry)) at (now (out .entry)) from (now (out .exit)) r ⌝ }
+    ensures { λ r. ⌜ StoresAt (TailOf whole) (wordsFor whole) (now (s .entry)) at (now (out .entry)) from (now (out .exit)) r ⌝ }
 {
     let mut six = [0i16; 6];
     let a = then_word(s, Got::At(at), b"hole (");
@@ -189,7 +188,7 @@ fn whole_tail(s: &[u8], at: usize, out: &mut [i16], from: usize) -> Got
 // The same of a line (mb T (4 sub-types) (8 references) (64 vector words)).
 fn mb_tail(s: &[u8], at: usize, out: &mut [i16], from: usize) -> Got
     requires { ⌜ (at ≤ length (now s)) × (from + recordWords ≤ length (now out)) ⌝ }
-    ensures { λ r. ⌜ TailTo mb (now (s .entry)) at (now (out .entry)) from (now (out .exit)) r ⌝ }
+    ensures { λ r. ⌜ StoresAt (TailOf mb) (wordsFor mb) (now (s .entry)) at (now (out .entry)) from (now (out .exit)) r ⌝ }
 {
     let mut own = [0i16; RECORD_WORDS];
     let a = then_word(s, Got::At(at), b"b ");
@@ -210,11 +209,15 @@ fn mb_tail(s: &[u8], at: usize, out: &mut [i16], from: usize) -> Got
     }
 }
 
-// A record line from its letter b on, which stands at `at`. Its words are stored from `from` on; a bad line leaves every word.
-pub fn record_line(s: &[u8], at: usize, b: u8, out: &mut [i16], from: usize) -> Got
-    requires { ⌜ (at < length (now s)) × (getD (now s) at 0 ≡ b) × ((b ≡ 110) → ⊥) × (from + recordWords ≤ length (now out)) ⌝ }
-    ensures { λ r. ⌜ RecordTo (now (s .entry)) at (now (out .entry)) from (now (out .exit)) r ⌝ }
+// A record line after its bracket. Its words are stored from `from` on; a bad line leaves every word.
+pub fn record_line(s: &[u8], at: usize, out: &mut [i16], from: usize) -> Got
+    requires { ⌜ (at ≤ length (now s)) × (from + recordWords ≤ length (now out)) ⌝ }
+    ensures { λ r. ⌜ StoresAt EntryTail wordsOf (now (s .entry)) at (now (out .entry)) from (now (out .exit)) r ⌝ }
 {
+    if at >= s.len() {
+        return Got::Bad(at);
+    }
+    let b = s[at];
     if b == b'i' {
         return intra_tail(s, at + 1, out, from);
     }

@@ -1,4 +1,4 @@
--- The reply of a text that was judged and whose words are stored; and demand 2 of every answer.
+-- The reply of a text that was read whole, and whose words are stored; and demand 2 of every answer.
 use Prim.Native.Nat.{ℕ, _≤_, _<_, _*_}
 use mathlib.Core.Path.{_≡_, sym}
 use mathlib.Core.List.{List}
@@ -11,7 +11,7 @@ use Rattle.definitions.specs.declared.TextReply.the-variants.{Read, Refused}
 use Rattle.definitions.specs.Record.{recordWords}
 use Rattle.definitions.specs.Refusals.{refusal}
 use Rattle.definitions.specs.Text.{textBytes, textRecords, tooMany, read, TextAnswer, refused, given, ReadExactly}
-use Rattle.grammar.specs.Promises.{AllStored, Judgement, Room}
+use Rattle.grammar.specs.Readers.{TextIs}
 use Rattle.grammar.proofs.OneLog.{demand2}
 
 -- an answer with demand 2 of it: the contract's two parts
@@ -22,19 +22,18 @@ answered a = (a, λ e. demand2 .text _ _ _ _ e a)
 
 module _
     (t : List ℕ)
-    (words : List ℤ)
+    (words new : List ℤ)
     (n : Numbers)
-    (at count : ℕ)
+    (count : ℕ)
     (e : length words ≡ recordWords * textRecords)
     (l : length t ≤ textBytes)
-    (j : Judgement t n at count) where
-  pub too-many : textRecords < count → TextAnswer t words (Refused (refusal 10)) words
-  too-many h = let m = j .many in refused e (tooMany l (j .text) (omega arith))
-
-  pub has-room : count ≤ textRecords → Room t at words
-  has-room h = let m = j .many in record { told = _; entries = j .entries; lines = j .lines; fits = omega arith }
-
-  pub text-read : count ≤ textRecords → (new : List ℤ) → AllStored t at words new → TextAnswer t words (Read (record { numbers = n; lines = count })) new
-  text-read h new s =
+    (j : TextIs t words new n count) where
+  pub too-many : textRecords < count → TextAnswer t words (Refused (refusal 10)) new
+  too-many h =
       let m = j .many in
-      rw (sym (j .many), s _ (j .entries) (j .lines)) (given e (read l (j .text) (omega arith)))
+      rw (j .words .1 (omega arith)) (refused e (tooMany l (j .text) (omega arith)))
+
+  pub text-read : count ≤ textRecords → TextAnswer t words (Read (record { numbers = n; lines = count })) new
+  text-read h =
+      let m = j .many in
+      rw (j .many, j .words .0 (omega arith)) (given e (read l (j .text) (omega arith)))

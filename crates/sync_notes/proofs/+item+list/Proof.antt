@@ -1,14 +1,13 @@
 -- `sync_notes::+item+list` meets its contract. Assumes nothing.
 use Prim.Native.Nat.{_<_, _≤_, _-_, _+_, ℕ}
-use mathlib.Core.Path.{_≡_, sym, _∙_}
-use mathlib.Core.List.{List, _∷_}
+use lib.ListN.{length}
+use Rattle.grammar.specs.declared.Got.{Got}
+use Rattle.grammar.specs.declared.Got.the-variants.{At, Bad}
+use Rattle.definitions.specs.Text.{Item}
+use Rattle.grammar.specs.Readers.{Items, ReadAt, Stands}
+use Rattle.grammar.proofs.Items.{letter-of, item-ends, item-bad, item-shallow, item-word, item-number, item-no-number, item-list, rest-ends, rest-bad, rest-close, rest-space, items-item, items-bad}
 use native.Mathlib.Omega.{arith}
 use borrow.Author.Needs.{needs}
-use lib.ListN.{length, getD}
-use Rattle.grammar.specs.Machine.{Ev, inList, Sym, first, rest, stateAt, live}
-use Rattle.grammar.specs.Promises.{As}
-use Rattle.grammar.specs.declared.Class.the-variants.{Close, Space}
-use Rattle.grammar.proofs.Steps.{top-end, item-bad, item-letters, item-field, item-shallow, item-of-number, item-of-list, stuck-end, stuck-by, take-step, rest-off}
 use borrow.Fn.Kinds.{In}
 use borrow.Fn.PlainCycle.{Measures, is, falls, and}
 use Rattle.sync_notes.proofs.item.Reads as item
@@ -65,7 +64,7 @@ list-claims t = (
 item-returns : (t : ℕ) → item-lts.Need-returns (item-claims t) (item-at t) item.Post
 item-returns t c =
     let a = c .before .before .args in
-    λ g k e. top-end (a .s .now) (a .at) (first (a .depth)) g k e (c .if1 .taken) (c .before .before .pre .1)
+    item-ends (a .s .now) (a .at) (a .depth) (c .before .before .pre .1) (c .if1 .taken)
 
 item-shared-slice-read-b : (t : ℕ) → item-lts.Need-shared-slice-read-b (item-claims t) (item-at t) item.Post
 item-shared-slice-read-b t c = search needs
@@ -97,7 +96,7 @@ item-enum-told-2 t c = search needs
 item-returns-2 : (t : ℕ) → item-lts.Need-returns-2 (item-claims t) (item-at t) item.Post
 item-returns-2 t c =
     let a = c .before .before .before .before .before .before .before .args in
-    λ g k e. item-shallow (a .s .now) (a .at) (a .depth) g k e _ (c .before .before .before .class-of .ensures) (c .before .before .before .before .before .before .before .pre .1) (c .before .enum-told2 .given .1) (c .if2 .taken)
+    item-shallow (a .s .now) (a .at) (a .depth) (c .before .before .before .before .before .before .before .pre .1) _ (c .before .before .before .class-of .ensures) (c .before .enum-told2 .given .1) (c .if2 .taken)
 
 item-add-list : (t : ℕ) → item-lts.Need-add-list (item-claims t) (item-at t) item.Post
 item-add-list t c = search needs
@@ -111,38 +110,36 @@ item-list-requires t c κs = search needs
 item-returns-3 : (t : ℕ) → item-lts.Need-returns-3 (item-claims t) (item-at t) item.Post
 item-returns-3 t c =
     let a = c .before .before .before .before .before .before .before .args in
-    let w = c .letters .ensures in
-    (omega arith, w .within, λ g k e. w .so (a .depth) g k (item-letters (a .s .now) (a .at) (a .depth) g k e _ (c .before .before .before .class-of .ensures) (c .before .before .before .before .before .if1 .left) (c .before .enum-told .given .1)))
+    item-word (a .s .now) (a .at) (a .depth) (c .before .before .before .before .before .if1 .left) (letter-of _ _ (c .before .before .before .class-of .ensures) (c .before .enum-told .given .1)) _ (c .letters .ensures)
 
 item-returns-4 : (t : ℕ) → item-lts.Need-returns-4 (item-claims t) (item-at t) item.Post
 item-returns-4 t c =
     let a = c .before .before .before .before .before .before .before .before .before .args in
-    item-of-number (a .s .now) (a .at) (a .depth) _ (c .before .before .before .before .before .class-of .ensures) (c .before .before .before .before .match .keys2) (c .before .n .given .0 .0) (c .before .n .given .0 .1 .0) (rw (c .before .n .given .1) at (c .before .before .before .number .ensures))
+    item-number (a .s .now) (a .at) (a .depth) (c .before .before .before .before .before .before .before .if1 .left) _ (c .before .before .before .before .before .class-of .ensures) (c .before .before .before .before .match .keys2) (c .before .n .given .0 .0) (c .before .n .given .0 .1 .0) (rw (c .before .n .given .1) at (c .before .before .before .number .ensures))
 
 item-returns-5 : (t : ℕ) → item-lts.Need-returns-5 (item-claims t) (item-at t) item.Post
 item-returns-5 t c =
     let a = c .before .before .before .before .before .before .before .before .before .args in
-    λ g k e. (rw (c .before .n2 .given .1) at (c .before .before .before .number .ensures)) (inList (a .depth)) g k (item-field (a .s .now) (a .at) (a .depth) g k e _ (c .before .before .before .before .before .class-of .ensures) (c .before .before .before .before .match .keys2))
+    item-no-number (a .s .now) (a .at) (a .depth) (c .before .before .before .before .before .before .before .if1 .left) _ (c .before .before .before .before .before .class-of .ensures) (c .before .before .before .before .match .keys2) _ (rw (c .before .n2 .given .1) at (c .before .before .before .number .ensures))
 
 item-returns-6 : (t : ℕ) → item-lts.Need-returns-6 (item-claims t) (item-at t) item.Post
 item-returns-6 t c =
     let a = c .before .before .before .before .before .before .before .before .args in
-    item-of-list (a .s .now) (a .at) (a .depth) _ (c .before .before .before .before .class-of .ensures) (c .before .before .before .before .before .before .if1 .left) (c .before .before .enum-told2 .given .1) (c .before .if2 .left) (c .list .result) (c .list .ensures)
+    item-list (a .s .now) (a .at) (a .depth) (c .before .before .before .before .before .before .if1 .left) _ (c .before .before .before .before .class-of .ensures) (c .before .before .enum-told2 .given .1) (c .before .if2 .left) (c .list .result) (c .list .ensures)
 
 item-returns-7 : (t : ℕ) → item-lts.Need-returns-7 (item-claims t) (item-at t) item.Post
 item-returns-7 t c =
     let a = c .before .before .before .before .before .args in
-    λ g k e. item-bad (a .s .now) (a .at) (a .depth) g k e _ (c .before .class-of .ensures) (c .before .before .before .before .before .pre .1) (c .match .keys4)
+    item-bad (a .s .now) (a .at) (a .depth) (c .before .before .before .before .before .pre .1) _ (c .before .class-of .ensures) (c .match .keys4)
 
 abbrev list-Inv-loop : list-lts.InvT-loop
-list-Inv-loop s at depth p₀ p =
-    (at ≤ p) × (p ≤ length s) × ((g : List Ev) (k : List Sym) → stateAt s at ≡ live g (first depth ∷ k) → stateAt s p ≡ live g (first depth ∷ k))
+list-Inv-loop s at depth p₀ p = (at ≤ p) × (p ≤ length s) × ((r : Got) → ReadAt (Items depth) s p r → ReadAt (Items depth) s at r)
 
 abbrev list-μ-loop : list-lts.MeasureT-loop
 list-μ-loop s at depth p₀ p = length s - p
 
 list-loop-holds : (t : ℕ) → list-lts.Need-loop-holds (list-claims t) (list-at t) list.Post list-Inv-loop list-μ-loop
-list-loop-holds t c = (omega arith, c .before .pre .1, λ g k e. e)
+list-loop-holds t c = (omega arith, c .before .pre .1, λ r h. h)
 
 list-item-requires : (t : ℕ) → list-lts.Need-item-requires (list-claims t) (list-at t) list.Post list-Inv-loop list-μ-loop
 list-item-requires t c κs = search needs
@@ -150,18 +147,18 @@ list-item-requires t c κs = search needs
 list-enum-known-i : (t : ℕ) → list-lts.Need-enum-known-i (list-claims t) (list-at t) list.Post list-Inv-loop list-μ-loop
 list-enum-known-i t c = search needs
 
--- the item of this round: it ends further on, in the text, and the list goes on there
-list-round : (t : ℕ) (c : list-lts.After-i (list-claims t) (list-at t) list.Post list-Inv-loop list-μ-loop) → (c .before .before .before .before .loop .p < c .i .given .0 .0) × (c .i .given .0 .0 ≤ length (c .before .before .before .before .before .before .args .s .now)) × ((g : List Ev) (k : List Sym) → stateAt (c .before .before .before .before .before .before .args .s .now) (c .before .before .before .before .before .before .args .at) ≡ live g (first (c .before .before .before .before .before .before .args .depth) ∷ k) → As (c .before .before .before .before .before .before .args .s .now) (c .i .given .0 .0) g (rest (c .before .before .before .before .before .before .args .depth) ∷ k))
+-- the item of this round
+list-round : (t : ℕ) (c : list-lts.After-i (list-claims t) (list-at t) list.Post list-Inv-loop list-μ-loop) → Stands (Item (c .before .before .before .before .before .before .args .depth)) (c .before .before .before .before .before .before .args .s .now) (c .before .before .before .before .loop .p) (c .i .given .0 .0)
 list-round t c =
-    let w = rw (c .i .given .1) at (c .before .before .item .ensures) in
-    (w .0, w .1, λ g k h. w .2 g k (c .before .before .before .before .loop .inv .2 g k h))
+    rw (c .i .given .1) at (c .before .before .item .ensures)
 
 list-returns : (t : ℕ) → list-lts.Need-returns (list-claims t) (list-at t) list.Post list-Inv-loop list-μ-loop
 list-returns t c =
     let i = c .before .before in
     let a = i .before .before .before .before .before .before .args in
+    let l = i .before .before .before .before .loop in
     let w = list-round t i in
-    λ g k h. stuck-end (a .s .now) (i .i .given .0 .0) g (rest (a .depth) ∷ k) (w .2 g k h) (c .if1 .taken) (w .1)
+    l .inv .2 (Bad _) (items-item (a .s .now) (l .p) (a .depth) _ w (Bad _) (rest-ends (a .s .now) _ (a .depth) (w .stops .within) (c .if1 .taken)))
 
 list-shared-slice-read-b : (t : ℕ) → list-lts.Need-shared-slice-read-b (list-claims t) (list-at t) list.Post list-Inv-loop list-μ-loop
 list-shared-slice-read-b t c = search needs
@@ -173,52 +170,57 @@ list-enum-told : (t : ℕ) → list-lts.Need-enum-told (list-claims t) (list-at 
 list-enum-told t c = search needs
 
 list-add-t16 : (t : ℕ) → list-lts.Need-add-t16 (list-claims t) (list-at t) list.Post list-Inv-loop list-μ-loop
-list-add-t16 t c = let w = list-round t (c .before .before .before .before .before .before) in omega arith
+list-add-t16 t c = let w = list-round t (c .before .before .before .before .before .before) .stops .within in omega arith
 
 list-returns-2 : (t : ℕ) → list-lts.Need-returns-2 (list-claims t) (list-at t) list.Post list-Inv-loop list-μ-loop
 list-returns-2 t c =
     let i = c .before .before .before .before .before .before in
     let a = i .before .before .before .before .before .before .args in
-    let w = list-round t i in
-    (omega arith, omega arith, λ g k h. take-step (a .s .now) (i .i .given .0 .0) g (rest (a .depth)) k (w .2 g k h) (c .before .before .before .before .if1 .left) Close (sym (c .enum-told .given .1) ∙ c .before .before .class-of .ensures))
+    let l = i .before .before .before .before .loop in
+    l .inv .2 (At _) (items-item (a .s .now) (l .p) (a .depth) _ (list-round t i) (At _) (rest-close (a .s .now) _ (a .depth) (c .before .before .before .before .if1 .left) _ (c .before .before .class-of .ensures) (c .enum-told .given .1)))
 
 list-enum-told-2 : (t : ℕ) → list-lts.Need-enum-told-2 (list-claims t) (list-at t) list.Post list-Inv-loop list-μ-loop
 list-enum-told-2 t c = search needs
 
 list-add-p : (t : ℕ) → list-lts.Need-add-p (list-claims t) (list-at t) list.Post list-Inv-loop list-μ-loop
-list-add-p t c = let w = list-round t (c .before .before .before .before .before .before) in omega arith
+list-add-p t c = let w = list-round t (c .before .before .before .before .before .before) .stops .within in omega arith
 
 list-loop-less : (t : ℕ) → list-lts.Need-loop-less (list-claims t) (list-at t) list.Post list-Inv-loop list-μ-loop
-list-loop-less t c = let w = list-round t (c .before .before .before .before .before .before) in omega arith
+list-loop-less t c = let w = list-round t (c .before .before .before .before .before .before) .stops .up in let v = list-round t (c .before .before .before .before .before .before) .stops .within in omega arith
 
 list-loop-again : (t : ℕ) → list-lts.Need-loop-again (list-claims t) (list-at t) list.Post list-Inv-loop list-μ-loop
 list-loop-again t c =
     let i = c .before .before .before .before .before .before in
     let a = i .before .before .before .before .before .before .args in
+    let l = i .before .before .before .before .loop in
     let w = list-round t i in
-    (omega arith, omega arith, λ g k h. take-step (a .s .now) (i .i .given .0 .0) g (rest (a .depth)) k (w .2 g k h) (c .before .before .before .before .if1 .left) Space (sym (c .enum-told2 .given .1) ∙ c .before .before .class-of .ensures))
+    let u = w .stops .up in
+    let v = w .stops .within in
+    (omega arith, omega arith, λ r h. l .inv .2 r (items-item (a .s .now) (l .p) (a .depth) _ w r (rest-space (a .s .now) _ (a .depth) (c .before .before .before .before .if1 .left) _ (c .before .before .class-of .ensures) (c .enum-told2 .given .1) r h)))
 
 list-returns-3 : (t : ℕ) → list-lts.Need-returns-3 (list-claims t) (list-at t) list.Post list-Inv-loop list-μ-loop
 list-returns-3 t c =
     let i = c .before .before .before .before .before in
     let a = i .before .before .before .before .before .before .args in
+    let l = i .before .before .before .before .loop in
     let w = list-round t i in
     let d = c .before .class-of in
-    λ g k h. stuck-by (a .s .now) (i .i .given .0 .0) g (rest (a .depth)) k (w .2 g k h) (w .1) (d .result) (d .ensures) (rest-off (a .depth) (getD (a .s .now) (i .i .given .0 .0) 0) (d .result) (c .match2 .keys3))
+    l .inv .2 (Bad _) (items-item (a .s .now) (l .p) (a .depth) _ w (Bad _) (rest-bad (a .s .now) _ (a .depth) (w .stops .within) (d .result) (d .ensures) (c .match2 .keys3)))
 
 list-enum-known-i-2 : (t : ℕ) → list-lts.Need-enum-known-i-2 (list-claims t) (list-at t) list.Post list-Inv-loop list-μ-loop
 list-enum-known-i-2 t c = search needs
 
 list-returns-4 : (t : ℕ) → list-lts.Need-returns-4 (list-claims t) (list-at t) list.Post list-Inv-loop list-μ-loop
 list-returns-4 t c =
+    let a = c .before .before .before .before .before .before .before .args in
     let l = c .before .before .before .before .before .loop in
-    λ g k h. (rw (c .before .i2 .given .1) at (c .before .before .before .item .ensures)) g k (l .inv .2 g k h)
+    l .inv .2 (Bad _) (items-bad (a .s .now) (l .p) (a .depth) _ (rw (c .before .i2 .given .1) at (c .before .before .before .item .ensures)))
 
 list-returns-5 : (t : ℕ) → list-lts.Need-returns-5 (list-claims t) (list-at t) list.Post list-Inv-loop list-μ-loop
 list-returns-5 t c =
     let a = c .before .before .before .args in
     let l = c .before .loop in
-    λ g k h. top-end (a .s .now) (l .p) (first (a .depth)) g k (l .inv .2 g k h) (c .loop-test .left) (l .inv .1)
+    l .inv .2 (Bad _) (items-bad (a .s .now) (l .p) (a .depth) _ (item-ends (a .s .now) (l .p) (a .depth) (l .inv .1) (c .loop-test .left)))
 
 pub +item+list-spec : {M : Type 1} → statement M
 +item+list-spec = close μ-item μ-list (λ t. item-lts.spec (item-claims t)

@@ -1,7 +1,5 @@
 -- `sync_notes::note` meets its contract. Assumes nothing.
-use mathlib.Core.List.{_∷_}
-use Rattle.grammar.specs.Machine.{lit, rest}
-use Rattle.grammar.proofs.Steps.{note-ends}
+use Rattle.grammar.proofs.Items.{note-read, note-rest-bad, note-first-bad}
 use borrow.Author.Needs.{needs}
 use Rattle.sync_notes.proofs.note.Statement.{statement}
 use Rattle.sync_notes.proofs.note.Tie as tie
@@ -18,7 +16,7 @@ enum-known-o c = search needs
 rest-of-requires : tie.Need-rest-of-requires
 rest-of-requires c κs =
     let w = rw (c .before .o .given .1) at (c .before .before .before .word-at .ensures) in
-    w .1
+    w .stops .within
 
 enum-known-t : tie.Need-enum-known-t
 enum-known-t c = search needs
@@ -29,7 +27,7 @@ slice-aggregate-word-at-2 c = search needs
 word-at-requires-2 : tie.Need-word-at-requires-2
 word-at-requires-2 c κs =
     let w = rw (c .before .before .t .given .1) at (c .before .before .before .before .rest-of .ensures) in
-    w .1
+    w .stops .within
 
 enum-known-t-2 : tie.Need-enum-known-t-2
 enum-known-t-2 c = search needs
@@ -42,18 +40,16 @@ returns c =
     let a = c .before .before .before .before .before .before .before .before .before .before .before .before .args in
     let v = rw (c .before .before .before .before .before .before .before .o .given .1) at (c .before .before .before .before .before .before .before .before .before .word-at .ensures) in
     let w = rw (c .before .before .before .t .given .1) at (c .before .before .before .before .before .rest-of .ensures) in
-    note-ends (a .s .now) (a .at) _ _ v w (c .word-at2 .result) (c .word-at2 .ensures)
+    note-read (a .s .now) (a .at) _ v _ w (c .word-at2 .result) (c .word-at2 .ensures)
 
 returns-2 : tie.Need-returns-2
 returns-2 c =
     let v = rw (c .before .before .before .before .before .o .given .1) at (c .before .before .before .before .before .before .before .word-at .ensures) in
     let w = rw (c .before .t2 .given .1) at (c .before .before .before .rest-of .ensures) in
-    λ g k h. w g (lit 10 ∷ k) (v .2 g (rest 7 ∷ lit 10 ∷ k) h)
+    note-rest-bad _ _ _ v _ w
 
 returns-3 : tie.Need-returns-3
-returns-3 c =
-    let v = rw (c .before .o2 .given .1) at (c .before .before .before .word-at .ensures) in
-    λ g k h. v g (rest 7 ∷ lit 10 ∷ k) h
+returns-3 c = note-first-bad _ _ _ (rw (c .before .o2 .given .1) at (c .before .before .before .word-at .ensures))
 
 pub note-spec : {M : Type 1} → statement M
 note-spec =

@@ -1,7 +1,5 @@
 -- `sync_notes::rest_of` meets its contract. Assumes nothing.
-use native.Mathlib.Omega.{arith}
-use Rattle.grammar.specs.Machine.{rest}
-use Rattle.grammar.proofs.Steps.{top-end, rest-bad, rest-shut, rest-list}
+use Rattle.grammar.proofs.Items.{rest-ends, rest-bad, rest-close, rest-space}
 use borrow.Author.Needs.{needs}
 use Rattle.sync_notes.proofs.rest_of.Statement.{statement}
 use Rattle.sync_notes.proofs.rest_of.Tie as tie
@@ -9,7 +7,7 @@ use Rattle.sync_notes.proofs.rest_of.Tie as tie
 returns : tie.Need-returns
 returns c =
     let a = c .before .before .args in
-    λ g k e. top-end (a .s .now) (a .at) (rest (a .depth)) g k e (c .if1 .taken) (c .before .before .pre)
+    rest-ends (a .s .now) (a .at) (a .depth) (c .before .before .pre) (c .if1 .taken)
 
 shared-slice-read-b : tie.Need-shared-slice-read-b
 shared-slice-read-b c = search needs
@@ -35,17 +33,17 @@ list-requires c κs = search needs
 returns-2 : tie.Need-returns-2
 returns-2 c =
     let a = c .before .before .before .before .before .before .args in
-    (omega arith, omega arith, λ g k e. rest-shut (a .s .now) (a .at) (a .depth) g k e _ (c .before .before .class-of .ensures) (c .before .before .before .before .if1 .left) (c .enum-told .given .1))
+    rest-close (a .s .now) (a .at) (a .depth) (c .before .before .before .before .if1 .left) _ (c .before .before .class-of .ensures) (c .enum-told .given .1)
 
 returns-3 : tie.Need-returns-3
 returns-3 c =
     let a = c .before .before .before .before .before .before .before .args in
-    rest-list (a .s .now) (a .at) (a .depth) _ (c .before .before .before .class-of .ensures) (c .before .before .before .before .before .if1 .left) (c .before .enum-told2 .given .1) (c .list .result) (c .list .ensures)
+    rest-space (a .s .now) (a .at) (a .depth) (c .before .before .before .before .before .if1 .left) _ (c .before .before .before .class-of .ensures) (c .before .enum-told2 .given .1) (c .list .result) (c .list .ensures)
 
 returns-4 : tie.Need-returns-4
 returns-4 c =
     let a = c .before .before .before .before .before .args in
-    λ g k e. rest-bad (a .s .now) (a .at) (a .depth) g k e _ (c .before .class-of .ensures) (c .before .before .before .before .before .pre) (c .match .keys3)
+    rest-bad (a .s .now) (a .at) (a .depth) (c .before .before .before .before .before .pre) _ (c .before .class-of .ensures) (c .match .keys3)
 
 pub rest-of-spec : {M : Type 1} → statement M
 rest-of-spec =

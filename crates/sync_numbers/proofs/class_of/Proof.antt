@@ -1,7 +1,7 @@
 -- `sync_numbers::class_of` meets its contract. Assumes nothing.
 use mathlib.Core.Path.{sym}
 use native.Mathlib.Omega.{arith}
-use Rattle.grammar.proofs.Bytes.{class-alpha, class-nonzero, class-nought, class-dash, class-open, class-close, class-space, class-high, class-mid, class-low}
+use Rattle.grammar.proofs.Bytes.{class-alpha, class-nonzero, class-zero, class-dash, class-open, class-close, class-space, class-high, class-mid, class-low}
 use Rattle.sync_numbers.proofs.class_of.Statement.{statement}
 use Rattle.sync_numbers.proofs.class_of.Tie as tie
 
@@ -18,7 +18,7 @@ returns-4 : tie.Need-returns-4
 returns-4 c = sym (class-mid _ (omega arith) (omega arith))
 
 returns-5 : tie.Need-returns-5
-returns-5 c = sym (class-nought _ (c .if5 .taken))
+returns-5 c = sym (class-zero _ (c .if5 .taken))
 
 returns-6 : tie.Need-returns-6
 returns-6 c = sym (class-dash _ (c .if6 .taken))

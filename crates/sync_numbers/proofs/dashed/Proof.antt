@@ -1,16 +1,13 @@
 -- `sync_numbers::dashed` meets its contract. Assumes nothing.
-use mathlib.Core.Path.{refl}
-use mathlib.Core.Bool.{true}
+use Rattle.grammar.proofs.Numerals.{nonzero-of, minus-ends, minus-bad, minus-digits}
+use Rattle.grammar.proofs.Signs.{neg-fits, neg-is16, neg-fits16}
 use native.Mathlib.Omega.{arith}
-use Rattle.grammar.specs.Machine.{dashed, figures}
-use Rattle.grammar.proofs.Signs.{pos-fits, neg-fits, neg-is16, neg-fits16}
-use Rattle.grammar.proofs.Steps.{nonzero-of, top-end, dashed-go, dashed-bad}
 use borrow.Author.Needs.{needs}
 use Rattle.sync_numbers.proofs.dashed.Statement.{statement}
 use Rattle.sync_numbers.proofs.dashed.Tie as tie
 
 returns : tie.Need-returns
-returns c = λ f g k e. top-end _ _ (dashed f) g k e (c .if1 .taken) (c .before .before .pre)
+returns c = minus-ends _ _ (c .before .before .pre) (c .if1 .taken)
 
 shared-slice-read-b : tie.Need-shared-slice-read-b
 shared-slice-read-b c = search needs
@@ -33,41 +30,23 @@ sub-figures c = omega (arith, nonzero-of _ _ (c .before .before .class-of .ensur
 figures-requires : tie.Need-figures-requires
 figures-requires c κs = omega (arith, nonzero-of _ _ (c .before .before .class-of .ensures) (c .enum-told .given .1))
 
-enum-known-f : tie.Need-enum-known-f
-enum-known-f c = search needs
+cast-t14 : tie.Need-cast-t14
+cast-t14 c = search needs
 
-cast-t18 : tie.Need-cast-t18
-cast-t18 c =
-    let w = rw (c .before .f .given .1) at (c .before .before .before .figures .ensures) in
-    pos-fits _ (w .3)
+sub-t15 : tie.Need-sub-t15
+sub-t15 c = neg-fits _ (c .before .figures .ensures .most)
 
-sub-t19 : tie.Need-sub-t19
-sub-t19 c =
-    let w = rw (c .before .f .given .1) at (c .before .before .before .figures .ensures) in
-    neg-fits _ (w .3)
-
-cast-t20 : tie.Need-cast-t20
-cast-t20 c =
-    let w = rw (c .before .f .given .1) at (c .before .before .before .figures .ensures) in
-    neg-fits16 _ (w .3)
-
-enum-known-f-2 : tie.Need-enum-known-f-2
-enum-known-f-2 c = search needs
+cast-t16 : tie.Need-cast-t16
+cast-t16 c = neg-fits16 _ (c .before .figures .ensures .most)
 
 returns-2 : tie.Need-returns-2
 returns-2 c =
-    let w = rw (c .before .f .given .1) at (c .before .before .before .figures .ensures) in
-    let t = c .before .before .before .before in
-    (omega arith, w .1, λ f g k e. rw (neg-is16 _ (w .3)) (w .4 true f g k refl (dashed-go _ _ f g k e _ (t .before .before .class-of .ensures) (t .before .before .before .before .if1 .left) (t .enum-told .given .1))))
+    let t = c .before .before in
+    let b = nonzero-of _ _ (t .before .before .class-of .ensures) (t .enum-told .given .1) in
+    rw (neg-is16 _ (c .before .figures .ensures .most)) (minus-digits _ _ (t .before .before .before .before .if1 .left) (b .0) (b .1) _ _ (c .before .figures .ensures))
 
 returns-3 : tie.Need-returns-3
-returns-3 c =
-    let w = rw (c .before .f2 .given .1) at (c .before .before .before .figures .ensures) in
-    let t = c .before .before .before .before in
-    λ f g k e. w true f g k refl (dashed-go _ _ f g k e _ (t .before .before .class-of .ensures) (t .before .before .before .before .if1 .left) (t .enum-told .given .1))
-
-returns-4 : tie.Need-returns-4
-returns-4 c = λ f g k e. dashed-bad _ _ f g k e _ (c .before .class-of .ensures) (c .before .before .before .before .before .pre) (c .match .keys2)
+returns-3 c = minus-bad _ _ (c .before .before .before .before .before .pre) _ (c .before .class-of .ensures) (c .match .keys2)
 
 pub dashed-spec : {M : Type 1} → statement M
 dashed-spec =
@@ -81,11 +60,8 @@ dashed-spec =
     cast-figures
     sub-figures
     figures-requires
-    enum-known-f
-    cast-t18
-    sub-t19
-    cast-t20
-    enum-known-f-2
+    cast-t14
+    sub-t15
+    cast-t16
     returns-2
-    returns-3
-    returns-4)
+    returns-3)

@@ -1,17 +1,13 @@
 -- `sync_numbers::number` meets its contract. Assumes nothing.
-use mathlib.Core.Path.{refl}
-use mathlib.Core.Bool.{false}
-use mathlib.Core.List.{_∷_}
+use Rattle.grammar.proofs.Numerals.{nonzero-of, zero-of, dash-of, number-ends, number-bad, number-zero, number-digits, number-minus}
+use Rattle.grammar.proofs.Signs.{pos-is}
 use native.Mathlib.Omega.{arith}
-use Rattle.grammar.specs.Machine.{field, figures}
-use Rattle.grammar.proofs.Signs.{pos-fits16, pos-is}
-use Rattle.grammar.proofs.Steps.{stuck-end, nonzero-of, number-bad, number-figures, number-zero, number-dash}
 use borrow.Author.Needs.{needs}
 use Rattle.sync_numbers.proofs.number.Statement.{statement}
 use Rattle.sync_numbers.proofs.number.Tie as tie
 
 returns : tie.Need-returns
-returns c = λ f g k a. stuck-end _ _ g (field f ∷ k) a (c .if1 .taken) (c .before .before .pre)
+returns c = number-ends _ _ (c .before .before .pre) (c .if1 .taken)
 
 shared-slice-read-b : tie.Need-shared-slice-read-b
 shared-slice-read-b c = search needs
@@ -22,8 +18,8 @@ class-of-requires c κs = search needs
 enum-told : tie.Need-enum-told
 enum-told c = search needs
 
-add-t14 : tie.Need-add-t14
-add-t14 c = search needs
+add-t11 : tie.Need-add-t11
+add-t11 c = search needs
 
 enum-told-2 : tie.Need-enum-told-2
 enum-told-2 c = search needs
@@ -40,16 +36,8 @@ sub-figures c = omega (arith, nonzero-of _ _ (c .before .before .class-of .ensur
 figures-requires : tie.Need-figures-requires
 figures-requires c κs = omega (arith, nonzero-of _ _ (c .before .before .class-of .ensures) (c .enum-told2 .given .1))
 
-enum-known-f : tie.Need-enum-known-f
-enum-known-f c = search needs
-
-cast-t19 : tie.Need-cast-t19
-cast-t19 c =
-    let w = rw (c .before .f .given .1) at (c .before .before .before .figures .ensures) in
-    pos-fits16 _ (omega arith)
-
-enum-known-f-2 : tie.Need-enum-known-f-2
-enum-known-f-2 c = search needs
+cast-t15 : tie.Need-cast-t15
+cast-t15 c = search needs
 
 enum-told-3 : tie.Need-enum-told-3
 enum-told-3 c = search needs
@@ -61,29 +49,21 @@ dashed-requires : tie.Need-dashed-requires
 dashed-requires c κs = search needs
 
 returns-2 : tie.Need-returns-2
-returns-2 c =
-    (omega arith, omega arith, λ f g k a. number-zero _ _ f g k a _ (c .before .before .class-of .ensures) (c .before .before .before .before .if1 .left) (c .enum-told .given .1))
+returns-2 c = number-zero _ _ (c .before .before .before .before .if1 .left) (zero-of _ _ (c .before .before .class-of .ensures) (c .enum-told .given .1))
 
 returns-3 : tie.Need-returns-3
 returns-3 c =
-    let w = rw (c .before .f .given .1) at (c .before .before .before .figures .ensures) in
-    let t = c .before .before .before .before in
-    (omega arith, w .1, λ f g k a. rw (pos-is (c .before .f .given .0 .0) (omega arith)) (w .4 false f g k refl (number-figures _ _ f g k a _ (t .before .before .class-of .ensures) (t .before .before .before .before .if1 .left) (t .enum-told2 .given .1))))
+    let t = c .before .before in
+    let b = nonzero-of _ _ (t .before .before .class-of .ensures) (t .enum-told2 .given .1) in
+    rw (pos-is (c .before .figures .result .worth) (c .before .figures .ensures .most)) (number-digits _ _ (t .before .before .before .before .if1 .left) (b .0) (b .1) _ _ (c .before .figures .ensures))
 
 returns-4 : tie.Need-returns-4
 returns-4 c =
-    let w = rw (c .before .f2 .given .1) at (c .before .before .before .figures .ensures) in
-    let t = c .before .before .before .before in
-    λ f g k a. w false f g k refl (number-figures _ _ f g k a _ (t .before .before .class-of .ensures) (t .before .before .before .before .if1 .left) (t .enum-told2 .given .1))
+    let t = c .before in
+    number-minus _ _ (t .before .before .before .before .if1 .left) (dash-of _ _ (t .before .before .class-of .ensures) (t .enum-told3 .given .1)) (c .dashed .result) (c .dashed .ensures)
 
 returns-5 : tie.Need-returns-5
-returns-5 c =
-    let t = c .before in
-    let a = t .before .before .before .before .before .before .args in
-    number-dash (a .s .now) (a .at) _ (t .before .before .class-of .ensures) (t .before .before .before .before .if1 .left) (t .enum-told3 .given .1) (c .dashed .result) (c .dashed .ensures)
-
-returns-6 : tie.Need-returns-6
-returns-6 c = λ f g k a. number-bad _ _ f g k a _ (c .before .class-of .ensures) (c .before .before .before .before .before .pre) (c .match .keys4)
+returns-5 c = number-bad _ _ (c .before .before .before .before .before .pre) _ (c .before .class-of .ensures) (c .match .keys4)
 
 pub number-spec : {M : Type 1} → statement M
 number-spec =
@@ -93,20 +73,17 @@ number-spec =
     shared-slice-read-b
     class-of-requires
     enum-told
-    add-t14
+    add-t11
     enum-told-2
     add-figures
     cast-figures
     sub-figures
     figures-requires
-    enum-known-f
-    cast-t19
-    enum-known-f-2
+    cast-t15
     enum-told-3
     add-dashed
     dashed-requires
     returns-2
     returns-3
     returns-4
-    returns-5
-    returns-6)
+    returns-5)

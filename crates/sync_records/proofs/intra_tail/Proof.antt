@@ -1,6 +1,6 @@
 -- `sync_records::intra_tail` meets its contract. Assumes nothing.
+use Rattle.grammar.proofs.Patterns.{intra-stored, intra-breaks}
 use mathlib.Core.Path.{refl}
-use Rattle.grammar.proofs.Storing.{intra-tail}
 use borrow.Author.Needs.{needs}
 use Rattle.sync_records.proofs.intra_tail.Statement.{statement}
 use Rattle.sync_records.proofs.intra_tail.Tie as tie
@@ -26,10 +26,10 @@ same-length c = search needs
 returns : tie.Need-returns
 returns c =
     let a = c .before .before .before .before .before .before .before .before .before .args in
-    intra-tail (a .s .now) (a .at) (a .out .now) (a .from) _ _ (c .before .put-record .ensures) (rw (c .before .before .before .before .r .given .1) at (c .before .before .before .before .before .before .word-at .ensures))
+    intra-stored (a .s .now) (a .at) (a .out .now) (a .from) _ _ (c .before .put-record .ensures) (rw (c .before .before .before .before .r .given .1) at (c .before .before .before .before .before .before .word-at .ensures))
 
 returns-2 : tie.Need-returns-2
-returns-2 c = (refl, rw (c .before .r2 .given .1) at (c .before .before .before .word-at .ensures))
+returns-2 c = (refl, intra-breaks _ _ _ (rw (c .before .r2 .given .1) at (c .before .before .before .word-at .ensures)))
 
 pub intra-tail-spec : {M : Type 1} → statement M
 intra-tail-spec =

@@ -1,4 +1,7 @@
 -- `sync_records::mb_tail` meets its contract. Assumes nothing.
+use mathlib.Core.List.{[], _∷_}
+use Rattle.definitions.specs.Text.{mb, mbLine, numbersThen, spaced, tailOf}
+use Rattle.grammar.proofs.Patterns.{Chain, chain-first, chain-word, chain-numbers, tail-stored}
 use lib.ListN.{replicate}
 use borrow.Author.Needs.{needs}
 use mathlib.Core.Path.{refl}
@@ -6,9 +9,6 @@ use mathlib.Core.List.{List}
 use lib.IntN.{ℤ, pos}
 use native.Mathlib.Omega.{arith}
 use Rattle.definitions.specs.Record.{recordWords}
-use Rattle.definitions.specs.Text.{mb}
-use Rattle.grammar.specs.Promises.{tail}
-use Rattle.grammar.proofs.Storing.{Stores, stores-first, stores-word, stores-more, mb-tail}
 use Rattle.sync_records.proofs.mb_tail.Statement.{statement}
 use Rattle.sync_records.proofs.mb_tail.Tie as tie
 
@@ -16,20 +16,20 @@ abbrev zeros : List ℤ
 zeros = replicate recordWords (pos 0)
 
 -- the whole line
-line-read : (c : tie.After-then-word5) → Stores (c .before .before .before .before .before .before .before .before .before .before .before .before .before .before .before .before .before .before .before .before .before .before .before .args .s .now) (tail mb) recordWords (c .before .before .before .before .before .before .before .before .before .before .before .before .before .before .before .before .before .before .before .before .before .before .before .args .at) zeros 0 (c .before .before .before .then-fields3 .last .1 .1 .1 .0) (c .then-word5 .result)
+line-read : (c : tie.After-then-word5) → Chain (tailOf mbLine) (c .before .before .before .before .before .before .before .before .before .before .before .before .before .before .before .before .before .before .before .before .before .before .before .args .s .now) (c .before .before .before .before .before .before .before .before .before .before .before .before .before .before .before .before .before .before .before .before .before .before .before .args .at) zeros 0 (c .before .before .before .then-fields3 .last .1 .1 .1 .0) (c .then-word5 .result)
 line-read c =
     let o = c .before .before .before .before .before .before .before .before .before .before .before .before .before .before .before .before .before .before .before .before .before .before .before in
     let a = o .args in
-    let v0 = stores-first (a .s .now) (a .at) zeros 0 (o .pre .0) in
-    let v1 = stores-word v0 (c .before .before .before .before .before .before .before .before .before .before .before .before .before .before .before .before .before .before .before .before .then-word .ensures) in
-    let v2 = stores-more v1 (c .before .before .before .before .before .before .before .before .before .before .before .before .before .before .before .before .before .before .then-field .ensures) (omega arith) in
-    let v3 = stores-word v2 (c .before .before .before .before .before .before .before .before .before .before .before .before .before .before .before .then-word2 .ensures) in
-    let v4 = stores-more v3 (c .before .before .before .before .before .before .before .before .before .before .before .before .before .then-fields .ensures) (omega arith) in
-    let v5 = stores-word v4 (c .before .before .before .before .before .before .before .before .before .before .then-word3 .ensures) in
-    let v6 = stores-more v5 (c .before .before .before .before .before .before .before .before .then-fields2 .ensures) (omega arith) in
-    let v7 = stores-word v6 (c .before .before .before .before .before .then-word4 .ensures) in
-    let v8 = stores-more v7 (c .before .before .before .then-fields3 .ensures) (omega arith) in
-    stores-word v8 (c .then-word5 .ensures)
+    let v0 = chain-first (a .s .now) (a .at) zeros 0 (o .pre .0) in
+    let v1 = chain-word v0 (c .before .before .before .before .before .before .before .before .before .before .before .before .before .before .before .before .before .before .before .before .then-word .ensures) in
+    let v2 = chain-numbers (spaced ∷ []) v1 (c .before .before .before .before .before .before .before .before .before .before .before .before .before .before .before .before .before .before .then-field .ensures) refl in
+    let v3 = chain-word v2 (c .before .before .before .before .before .before .before .before .before .before .before .before .before .before .before .then-word2 .ensures) in
+    let v4 = chain-numbers (numbersThen 3 []) v3 (c .before .before .before .before .before .before .before .before .before .before .before .before .before .then-fields .ensures) refl in
+    let v5 = chain-word v4 (c .before .before .before .before .before .before .before .before .before .before .then-word3 .ensures) in
+    let v6 = chain-numbers (numbersThen 7 []) v5 (c .before .before .before .before .before .before .before .before .then-fields2 .ensures) refl in
+    let v7 = chain-word v6 (c .before .before .before .before .before .then-word4 .ensures) in
+    let v8 = chain-numbers (numbersThen 63 []) v7 (c .before .before .before .then-fields3 .ensures) refl in
+    chain-word v8 (c .then-word5 .ensures)
 
 slice-aggregate-then-word : tie.Need-slice-aggregate-then-word
 slice-aggregate-then-word c = search needs
@@ -65,7 +65,7 @@ slice-aggregate-then-fields-2 : tie.Need-slice-aggregate-then-fields-2
 slice-aggregate-then-fields-2 c = search needs
 
 then-fields-requires-2 : tie.Need-then-fields-requires-2
-then-fields-requires-2 c κs = (c .before .then-word3 .ensures .within, omega arith, omega (arith, c .before .before .before .own4 .given))
+then-fields-requires-2 c κs = (c .before .then-word3 .ensures .inside, omega arith, omega (arith, c .before .before .before .own4 .given))
 
 slice-aggregate-then-word-4 : tie.Need-slice-aggregate-then-word-4
 slice-aggregate-then-word-4 c = search needs
@@ -77,7 +77,7 @@ slice-aggregate-then-fields-3 : tie.Need-slice-aggregate-then-fields-3
 slice-aggregate-then-fields-3 c = search needs
 
 then-fields-requires-3 : tie.Need-then-fields-requires-3
-then-fields-requires-3 c κs = (c .before .then-word4 .ensures .within, omega arith, omega (arith, c .before .before .before .own6 .given))
+then-fields-requires-3 c κs = (c .before .then-word4 .ensures .inside, omega arith, omega (arith, c .before .before .before .own6 .given))
 
 slice-aggregate-then-word-5 : tie.Need-slice-aggregate-then-word-5
 slice-aggregate-then-word-5 c = search needs
@@ -103,7 +103,7 @@ same-length c = search needs
 returns : tie.Need-returns
 returns c =
     let a = c .before .before .before .before .before .before .before .before .before .before .before .before .before .before .before .before .before .before .before .before .before .before .before .before .before .before .before .before .before .before .args in
-    mb-tail (a .s .now) (a .at) (a .out .now) (a .from) _ zeros _ _ refl (c .before .put-words .ensures) (rw (c .before .before .before .before .before .r .given .1) at (line-read (c .before .before .before .before .before .before .before) .is))
+    tail-stored mb (a .s .now) (a .at) (a .out .now) (a .from) _ zeros _ _ refl (c .before .put-words .ensures) (rw (c .before .before .before .before .before .r .given .1) at (line-read (c .before .before .before .before .before .before .before) .is))
 
 returns-2 : tie.Need-returns-2
 returns-2 c = (refl, rw (c .before .r2 .given .1) at (line-read (c .before .before .before) .is))

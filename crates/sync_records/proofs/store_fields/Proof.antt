@@ -1,5 +1,5 @@
 -- `sync_records::store_fields` meets its contract. Assumes nothing.
-use Rattle.grammar.proofs.Storing.{Storing, storing-first, storing-more, storing-stuck, storing-done, storing-cut}
+use Rattle.grammar.proofs.Patterns.{Storing, storing-first, storing-more, storing-stuck, storing-done, storing-cut}
 use mir.Val.{toZ, ofZ}
 use mir.Syntax.{w16}
 use lib.IntN.{ℤ}
@@ -22,7 +22,7 @@ loop-holds : tie.Need-loop-holds Inv-loop μ-loop
 loop-holds c = (refl, storing-first _ _ _ _ (c .before .pre .0))
 
 field-requires : tie.Need-field-requires Inv-loop μ-loop
-field-requires c κs = c .before .loop .inv .1 .within
+field-requires c κs = c .before .loop .inv .1 .stops .within
 
 enum-known-v : tie.Need-enum-known-v Inv-loop μ-loop
 enum-known-v c = search needs
@@ -59,7 +59,7 @@ returns c =
     storing-stuck (a .s .now) (a .at) (a .n) (l .own) (l .p) (l .i) (l .inv .1) (c .before .before .before .before .loop-test .taken) (a .out .now) (a .from) _ (rw (c .before .v2 .given .1) at (c .before .before .before .field .ensures))
 
 field-requires-2 : tie.Need-field-requires-2 Inv-loop μ-loop
-field-requires-2 c κs = c .before .loop .inv .1 .within
+field-requires-2 c κs = c .before .loop .inv .1 .stops .within
 
 enum-known-v-3 : tie.Need-enum-known-v-3 Inv-loop μ-loop
 enum-known-v-3 c = search needs

@@ -1,5 +1,6 @@
 -- `sync_records::then_field` meets its contract. Assumes nothing.
-use Rattle.grammar.proofs.Storing.{one-stored, then-stores, then-stores-bad}
+use Rattle.grammar.proofs.Patterns.{one-stored, after-numbers, after-numbers-bad, field-breaks}
+use mathlib.Core.Bool.{false}
 use mir.Val.{toZ, ofZ}
 use mir.Syntax.{w16}
 use mathlib.Core.Path.{_≡_, refl}
@@ -37,19 +38,19 @@ returns c =
     let z = c .before .v .given .0 .0 in
     let q : toZ w16 (ofZ w16 z) ≡ z = search needs in
     rw q
-    (then-stores (a .s .now) _ 1 (a .r) (a .out .now) (a .from) _ _ _ (c .before .before .before .before .before .r .given .1)
+    (after-numbers _ (a .s .now) (a .r) (a .out .now) (a .from) _ _ _ (c .before .before .before .before .before .r .given .1)
     (one-stored (a .s .now) _ (a .out .now) (a .from) z _ (rw (c .before .v .given .1) at (c .before .before .before .field .ensures))))
 
 returns-2 : tie.Need-returns-2
 returns-2 c =
     let a = c .before .before .before .before .before .before .before .before .args in
-    then-stores (a .s .now) _ 1 (a .r) (a .out .now) (a .from) (a .out .now) _ _ (c .before .before .before .before .before .r .given .1)
-    (refl, rw (c .before .v2 .given .1) at (c .before .before .before .field .ensures))
+    after-numbers _ (a .s .now) (a .r) (a .out .now) (a .from) (a .out .now) _ _ (c .before .before .before .before .before .r .given .1)
+    (refl, field-breaks false _ _ _ (rw (c .before .v2 .given .1) at (c .before .before .before .field .ensures)))
 
 returns-3 : tie.Need-returns-3
 returns-3 c =
     let a = c .before .before .before .before .args in
-    then-stores-bad (a .s .now) _ 1 (a .r) (a .out .now) (a .from) _ (c .before .r2 .given .1)
+    after-numbers-bad _ (a .s .now) (a .r) (a .out .now) (a .from) _ (c .before .r2 .given .1)
 
 pub then-field-spec : {M : Type 1} → statement M
 then-field-spec =

@@ -1,5 +1,6 @@
 -- `sync_records::then_fields` meets its contract. Assumes nothing.
-use Rattle.grammar.proofs.Storing.{then-stores, then-stores-bad}
+use Rattle.grammar.proofs.Patterns.{after-numbers, after-numbers-bad}
+use native.Mathlib.Omega.{arith}
 use borrow.Author.Needs.{needs}
 use Rattle.sync_records.proofs.then_fields.Statement.{statement}
 use Rattle.sync_records.proofs.then_fields.Tie as tie
@@ -9,7 +10,8 @@ enum-known-r c = search needs
 
 store-fields-requires : tie.Need-store-fields-requires
 store-fields-requires c κs =
-    (rw (c .before .before .r .given .1) at (c .before .before .before .before .before .pre .0), c .before .before .before .before .before .pre .1, c .before .before .before .before .before .pre .2)
+    let w = rw (c .before .before .r .given .1) at (c .before .before .before .before .before .pre .0) in
+    (omega arith, c .before .before .before .before .before .pre .1, omega (arith, c .before .before .before .before .before .pre .2))
 
 enum-known-r-2 : tie.Need-enum-known-r-2
 enum-known-r-2 c = search needs
@@ -20,12 +22,12 @@ same-length c = search needs
 returns : tie.Need-returns
 returns c =
     let a = c .before .before .before .before .before .before .before .args in
-    then-stores (a .s .now) _ _ (a .r) (a .out .now) (a .from) _ (c .before .store-fields .result) _ (c .before .before .before .before .r .given .1) (c .before .store-fields .ensures)
+    after-numbers _ (a .s .now) (a .r) (a .out .now) (a .from) _ (c .before .store-fields .result) _ (c .before .before .before .before .r .given .1) (c .before .store-fields .ensures)
 
 returns-2 : tie.Need-returns-2
 returns-2 c =
     let a = c .before .before .before .before .args in
-    then-stores-bad (a .s .now) _ _ (a .r) (a .out .now) (a .from) _ (c .before .r2 .given .1)
+    after-numbers-bad _ (a .s .now) (a .r) (a .out .now) (a .from) _ (c .before .r2 .given .1)
 
 pub then-fields-spec : {M : Type 1} → statement M
 then-fields-spec =

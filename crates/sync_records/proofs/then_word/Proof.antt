@@ -1,5 +1,6 @@
 -- `sync_records::then_word` meets its contract. Assumes nothing.
-use Rattle.grammar.proofs.Storing.{then-word, then-word-bad}
+use Rattle.grammar.proofs.Patterns.{after-word, after-word-bad}
+use native.Mathlib.Omega.{arith}
 use borrow.Author.Needs.{needs}
 use Rattle.sync_records.proofs.then_word.Statement.{statement}
 use Rattle.sync_records.proofs.then_word.Tie as tie
@@ -8,7 +9,7 @@ enum-known-r : tie.Need-enum-known-r
 enum-known-r c = search needs
 
 word-at-requires : tie.Need-word-at-requires
-word-at-requires c κs = rw (c .before .r .given .1) at (c .before .before .before .before .before .pre)
+word-at-requires c κs = let w = rw (c .before .r .given .1) at (c .before .before .before .before .before .pre) in omega arith
 
 enum-known-r-2 : tie.Need-enum-known-r-2
 enum-known-r-2 c = search needs
@@ -16,12 +17,12 @@ enum-known-r-2 c = search needs
 returns : tie.Need-returns
 returns c =
     let a = c .before .before .before .before .before .before .args in
-    then-word (a .s .now) (a .w .now) (a .r) (c .word-at .result) _ (c .before .before .r .given .1) (c .word-at .ensures)
+    after-word (a .s .now) (a .w .now) (a .r) (c .word-at .result) _ (c .before .before .r .given .1) (c .word-at .ensures)
 
 returns-2 : tie.Need-returns-2
 returns-2 c =
     let a = c .before .before .before .before .before .args in
-    then-word-bad (a .s .now) (a .w .now) (a .r) _ (c .before .r2 .given .1)
+    after-word-bad (a .s .now) (a .w .now) (a .r) _ (c .before .r2 .given .1)
 
 pub then-word-spec : {M : Type 1} → statement M
 then-word-spec =

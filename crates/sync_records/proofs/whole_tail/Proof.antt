@@ -1,12 +1,10 @@
 -- `sync_records::whole_tail` meets its contract. Assumes nothing.
+use Rattle.definitions.specs.Text.{whole, wholeLine, numbersThen, tailOf}
+use Rattle.grammar.proofs.Patterns.{Chain, chain-first, chain-word, chain-numbers, tail-stored}
 use borrow.Author.Needs.{needs}
 use mathlib.Core.Path.{refl}
 use mathlib.Core.List.{List, [], _∷_}
 use lib.IntN.{ℤ, pos}
-use native.Mathlib.Omega.{arith}
-use Rattle.definitions.specs.Text.{whole}
-use Rattle.grammar.specs.Promises.{tail}
-use Rattle.grammar.proofs.Storing.{Stores, stores-first, stores-word, stores-more, whole-tail}
 use Rattle.sync_records.proofs.whole_tail.Statement.{statement}
 use Rattle.sync_records.proofs.whole_tail.Tie as tie
 
@@ -14,16 +12,16 @@ abbrev zeros : List ℤ
 zeros = pos 0 ∷ pos 0 ∷ pos 0 ∷ pos 0 ∷ pos 0 ∷ pos 0 ∷ []
 
 -- the whole line
-line-read : (c : tie.After-then-word3) → Stores (c .before .before .before .before .before .before .before .before .before .before .before .before .before .args .s .now) (tail whole) 6 (c .before .before .before .before .before .before .before .before .before .before .before .before .before .args .at) zeros 0 (c .before .before .before .then-fields2 .last .1 .1 .1 .0) (c .then-word3 .result)
+line-read : (c : tie.After-then-word3) → Chain (tailOf wholeLine) (c .before .before .before .before .before .before .before .before .before .before .before .before .before .args .s .now) (c .before .before .before .before .before .before .before .before .before .before .before .before .before .args .at) zeros 0 (c .before .before .before .then-fields2 .last .1 .1 .1 .0) (c .then-word3 .result)
 line-read c =
     let o = c .before .before .before .before .before .before .before .before .before .before .before .before .before in
     let a = o .args in
-    let v0 = stores-first (a .s .now) (a .at) zeros 0 (o .pre .0) in
-    let v1 = stores-word v0 (c .before .before .before .before .before .before .before .before .before .before .then-word .ensures) in
-    let v2 = stores-more v1 (c .before .before .before .before .before .before .before .before .then-fields .ensures) (omega arith) in
-    let v3 = stores-word v2 (c .before .before .before .before .before .then-word2 .ensures) in
-    let v4 = stores-more v3 (c .before .before .before .then-fields2 .ensures) (omega arith) in
-    stores-word v4 (c .then-word3 .ensures)
+    let v0 = chain-first (a .s .now) (a .at) zeros 0 (o .pre .0) in
+    let v1 = chain-word v0 (c .before .before .before .before .before .before .before .before .before .before .then-word .ensures) in
+    let v2 = chain-numbers (numbersThen 1 []) v1 (c .before .before .before .before .before .before .before .before .then-fields .ensures) refl in
+    let v3 = chain-word v2 (c .before .before .before .before .before .then-word2 .ensures) in
+    let v4 = chain-numbers (numbersThen 3 []) v3 (c .before .before .before .then-fields2 .ensures) refl in
+    chain-word v4 (c .then-word3 .ensures)
 
 slice-aggregate-then-word : tie.Need-slice-aggregate-then-word
 slice-aggregate-then-word c = search needs
@@ -70,7 +68,7 @@ same-length c = search needs
 returns : tie.Need-returns
 returns c =
     let a = c .before .before .before .before .before .before .before .before .before .before .before .before .before .before .before .before .before .before .before .args in
-    whole-tail (a .s .now) (a .at) (a .out .now) (a .from) _ zeros _ _ refl (c .before .put-whole .ensures) (rw (c .before .before .before .before .r .given .1) at (line-read (c .before .before .before .before .before .before) .is))
+    tail-stored whole (a .s .now) (a .at) (a .out .now) (a .from) _ zeros _ _ refl (c .before .put-whole .ensures) (rw (c .before .before .before .before .r .given .1) at (line-read (c .before .before .before .before .before .before) .is))
 
 returns-2 : tie.Need-returns-2
 returns-2 c = (refl, rw (c .before .r2 .given .1) at (line-read (c .before .before .before) .is))
