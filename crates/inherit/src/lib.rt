@@ -111,8 +111,5 @@ pub fn resolve(set: u16, m: [Motion; 4], q: usize) -> [Motion; 4]
     requires { ⌜ (q < 4) × AllEmpty m ⌝ }
     ensures { λ r. ⌜ r ≡ merged (filled (clearOf set q) m) ⌝ }
 {
-    if set == 0 {
-        return quadrant::merge(m); // nothing to fill
-    }
     quadrant::merge(quadrant::fill(clear_of(set, q), m))
 }

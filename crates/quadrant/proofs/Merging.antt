@@ -13,8 +13,7 @@ use Rattle.definitions.specs.Record.{used}
 use Rattle.definitions.specs.Inheriting.{zeroPrediction, zeroMotion, source, lower, lowest, having, withReference, unused, mergedList, merged}
 use Rattle.definitions.proofs.Choices.{yes, no, both-true, eqZ-true, each, four-same, four-is}
 use Rattle.definitions.proofs.Steps.{settled-merged}
-use Rattle.quadrant.specs.declared.Candidate.{Candidate}
-use Rattle.quadrant.specs.Merging.{lowerOf, firstOf, oneReferenceOf, oneReference, AllEmpty, firstHaving}
+use Rattle.quadrant.specs.Merging.{lowerOf, firstOf, oneReferenceOf, oneReference, AllEmpty}
 
 -- ---- one list
 -- the lower of two, by one test
@@ -65,28 +64,23 @@ module _ (p q s t : Prediction) (r : ℤ) (is : r ≡ lower (lower (p .reference
   unfolding lowest
   r-lowest = is
 
-  -- what a block is as a candidate
-  abbrev candidate : Prediction → Candidate
-  candidate x = record { has = eqZ (x .reference) r; list = x }
-
-  -- the block that is taken, by its index
-  taken-at : (i h v d : ℕ)
-      → firstHaving (candidate (block i)) (candidate (block h)) (candidate (block v)) (candidate (block d))
-      ≡ block (firstOf (eqZ (block i .reference) r) (eqZ (block h .reference) r) (eqZ (block v .reference) r) (eqZ (block d .reference) r) i h v d)
-  taken-at i h v d = first-map block _ _ _ _ i h v d
-
-  pub merged-used : used r ≡ true → {cp cq cs ct : Candidate} → cp ≡ candidate p → cq ≡ candidate q → cs ≡ candidate s → ct ≡ candidate t
-      → {a b c d : Prediction} → a ≡ withReference r (firstHaving cp cq cs ct) → b ≡ withReference r (firstHaving cq cp ct cs)
-      → c ≡ withReference r (firstHaving cs ct cp cq) → d ≡ withReference r (firstHaving ct cs cq cp)
+  pub merged-used : used r ≡ true → {hp hq hs ht : Bool} → hp ≡ eqZ (p .reference) r → hq ≡ eqZ (q .reference) r → hs ≡ eqZ (s .reference) r → ht ≡ eqZ (t .reference) r
+      → {a b c d : Prediction} → a ≡ withReference r (firstOf hp hq hs ht p q s t) → b ≡ withReference r (firstOf hq hp ht hs q p t s)
+      → c ≡ withReference r (firstOf hs ht hp hq s t p q) → d ≡ withReference r (firstOf ht hs hq hp t s q p)
       → (a ∷ b ∷ c ∷ d ∷ []) ≡ mergedList list
   unfolding mergedList block source having firstOf
-  merged-used u ep eq es et ea eb ec ed =
+  merged-used u {hp} {hq} {hs} {ht} ep eq es et ea eb ec ed =
       let taken : ℤ → List Prediction = λ z. four (λ k. withReference z (getD list (source (having list z) k) zeroPrediction)) in
+      let a = ap (withReference r) (sym (first-map block hp hq hs ht 0 1 2 3)) in
+      let b = ap (withReference r) (sym (first-map block hq hp ht hs 1 0 3 2)) in
+      let c = ap (withReference r) (sym (first-map block hs ht hp hq 2 3 0 1)) in
+      let d = ap (withReference r) (sym (first-map block ht hs hq hp 3 2 1 0)) in
+      let at : ℕ → Prediction = λ j. withReference r (block j) in
       four-same
-      (ea ∙ ((λ i. withReference r (firstHaving (ep i) (eq i) (es i) (et i))) ∙ ap (withReference r) (taken-at 0 1 2 3)))
-      (eb ∙ ((λ i. withReference r (firstHaving (eq i) (ep i) (et i) (es i))) ∙ ap (withReference r) (taken-at 1 0 3 2)))
-      (ec ∙ ((λ i. withReference r (firstHaving (es i) (et i) (ep i) (eq i))) ∙ ap (withReference r) (taken-at 2 3 0 1)))
-      (ed ∙ ((λ i. withReference r (firstHaving (et i) (es i) (eq i) (ep i))) ∙ ap (withReference r) (taken-at 3 2 1 0)))
+      (ea ∙ (sym a ∙ (λ i. at (firstOf (ep i) (eq i) (es i) (et i) 0 1 2 3))))
+      (eb ∙ (sym b ∙ (λ i. at (firstOf (eq i) (ep i) (et i) (es i) 1 0 3 2))))
+      (ec ∙ (sym c ∙ (λ i. at (firstOf (es i) (et i) (ep i) (eq i) 2 3 0 1))))
+      (ed ∙ (sym d ∙ (λ i. at (firstOf (et i) (es i) (eq i) (ep i) 3 2 1 0))))
       ∙ (ap taken r-lowest ∙ sym (yes _ _ (ap used (sym r-lowest) ∙ u)))
 
   pub merged-unused : used r ≡ false → (unused ∷ unused ∷ unused ∷ unused ∷ []) ≡ mergedList list

@@ -7,7 +7,8 @@ use lib.ListN.{getD}
 use lib.Signed.{ltZ}
 use Rattle.definitions.specs.declared.Prediction.{Prediction}
 use Rattle.definitions.specs.declared.Motion.{Motion}
-use Rattle.quadrant.specs.declared.Candidate.{Candidate}
+use Rattle.quadrant.specs.declared.Had.{Had}
+use Rattle.quadrant.specs.declared.Parts.{Parts}
 use Rattle.definitions.specs.Basics.{pick, eqZ}
 use Rattle.definitions.specs.Record.{used}
 use Rattle.definitions.specs.Inheriting.{zeroMotion, unused}
@@ -20,12 +21,8 @@ lowerOf p q = pick (used (p .reference)) (pick (used (q .reference)) (pick (ltZ 
 unfoldable pub firstOf : {A : Type 0} → Bool → Bool → Bool → Bool → A → A → A → A → A
 firstOf own h v d a ah av ad = pick own a (pick h ah (pick v av (pick d ad a)))
 
--- the same of candidates: a block is good if its reference is r
-abbrev pub candidateFor : Prediction → Prediction → Candidate
-candidateFor p r = record { has = eqZ (p .reference) (r .reference); list = p }
-
-abbrev pub firstHaving : Candidate → Candidate → Candidate → Candidate → Prediction
-firstHaving own h v d = firstOf (own .has) (h .has) (v .has) (d .has) (own .list) (h .list) (v .list) (d .list)
+abbrev pub firstHaving : Had → Parts → Prediction
+firstHaving had p = firstOf (had .own) (had .h) (had .v) (had .d) (p .own) (p .h) (p .v) (p .d)
 
 -- the four have one reference; in both lists
 abbrev pub oneReferenceOf : Prediction → Prediction → Prediction → Prediction → Bool

@@ -2,7 +2,7 @@
 ghost use Prim.Native.Nat.{_<_};
 ghost use Rattle.definitions.specs.Inheriting.{filled, merged, mergedList, source, unused, withReference, zeroPrediction};
 ghost use Rattle.definitions.specs.Record.{used};
-ghost use Rattle.quadrant.specs.Merging.{AllEmpty, candidateFor, firstHaving, lowerOf, oneReference, oneReferenceOf};
+ghost use Rattle.quadrant.specs.Merging.{AllEmpty, firstHaving, lowerOf, oneReference, oneReferenceOf};
 ghost use lib.ListN.{getD};
 ghost use lib.Signed.{ltZ};
 ghost use mathlib.Core.List.{[], _∷_};
@@ -99,39 +99,38 @@ fn with_reference(r: Prediction, p: Prediction) -> Prediction
     }
 }
 
-// A list's part of a block's motion, and whether its reference is r.
-struct Candidate {
-    has: bool,
-    list: Prediction,
+// Of a block and its horizontal, vertical and diagonal neighbour: which of them had r, and their parts of the list.
+struct Had {
+    own: bool,
+    h: bool,
+    v: bool,
+    d: bool,
 }
 
-// p as a candidate for r.
-fn candidate_of(p: Prediction, r: Prediction) -> Candidate
-    ensures { λ c. ⌜ c ≡ candidateFor p r ⌝ }
-{
-    Candidate {
-        has: motion::same_reference(p, r),
-        list: p,
-    }
+struct Parts {
+    own: Prediction,
+    h: Prediction,
+    v: Prediction,
+    d: Prediction,
 }
 
-// A block's part of a merged list: r with the vector of the first that had r, of the block itself, its horizontal, vertical and diagonal neighbour.
-fn taken(r: Prediction, own: Candidate, h: Candidate, v: Candidate, d: Candidate) -> Prediction
-    ensures { λ t. ⌜ t ≡ withReference (r .reference) (firstHaving own h v d) ⌝ }
+// A block's part of a merged list: r with the vector of the first that had r.
+fn taken(r: Prediction, had: Had, p: Parts) -> Prediction
+    ensures { λ t. ⌜ t ≡ withReference (r .reference) (firstHaving had p) ⌝ }
 {
-    if own.has {
-        return with_reference(r, own.list);
+    if had.own {
+        return with_reference(r, p.own);
     }
-    if h.has {
-        return with_reference(r, h.list);
+    if had.h {
+        return with_reference(r, p.h);
     }
-    if v.has {
-        return with_reference(r, v.list);
+    if had.v {
+        return with_reference(r, p.v);
     }
-    if d.has {
-        return with_reference(r, d.list);
+    if had.d {
+        return with_reference(r, p.d);
     }
-    with_reference(r, own.list)
+    with_reference(r, p.own)
 }
 
 // One list of the four blocks.
@@ -140,14 +139,70 @@ fn merge_list(p: Prediction, q: Prediction, s: Prediction, t: Prediction) -> [Pr
 {
     let r = lower_of(lower_of(p, q), lower_of(s, t));
     if is_used(r) {
-        let cp = candidate_of(p, r);
-        let cq = candidate_of(q, r);
-        let cs = candidate_of(s, r);
-        let ct = candidate_of(t, r);
-        let a = taken(r, cp, cq, cs, ct);
-        let b = taken(r, cq, cp, ct, cs);
-        let c = taken(r, cs, ct, cp, cq);
-        let d = taken(r, ct, cs, cq, cp);
+        let hp = motion::same_reference(p, r);
+        let hq = motion::same_reference(q, r);
+        let hs = motion::same_reference(s, r);
+        let ht = motion::same_reference(t, r);
+        let a = taken(
+            r,
+            Had {
+                own: hp,
+                h: hq,
+                v: hs,
+                d: ht,
+            },
+            Parts {
+                own: p,
+                h: q,
+                v: s,
+                d: t,
+            },
+        );
+        let b = taken(
+            r,
+            Had {
+                own: hq,
+                h: hp,
+                v: ht,
+                d: hs,
+            },
+            Parts {
+                own: q,
+                h: p,
+                v: t,
+                d: s,
+            },
+        );
+        let c = taken(
+            r,
+            Had {
+                own: hs,
+                h: ht,
+                v: hp,
+                d: hq,
+            },
+            Parts {
+                own: s,
+                h: t,
+                v: p,
+                d: q,
+            },
+        );
+        let d = taken(
+            r,
+            Had {
+                own: ht,
+                h: hs,
+                v: hq,
+                d: hp,
+            },
+            Parts {
+                own: t,
+                h: s,
+                v: q,
+                d: p,
+            },
+        );
         return [a, b, c, d];
     }
     [UNUSED_LIST; 4]

@@ -6,17 +6,8 @@ use Rattle.definitions.specs.Inheriting.{filled, merged}
 use Rattle.definitions.proofs.Steps.{filled-keeps}
 use Rattle.quadrant.specs.Merging.{Empty, AllEmpty}
 use borrow.Author.Needs.{needs}
-use Rattle.inherit.proofs.Copying.{filled-none}
 use Rattle.inherit.proofs.resolve.Statement.{statement}
 use Rattle.inherit.proofs.resolve.Tie as tie
-
-merge-requires : tie.Need-merge-requires
-merge-requires c κs = c .before .pre .1
-
-returns : tie.Need-returns
-returns c =
-    let s = c .before .before in
-    c .merge .ensures ∙ ap merged (filled-none (s .args .set) (s .args .q) (s .args .m) (s .pre .0) (search needs) (c .before .if1 .taken))
 
 clear-of-requires : tie.Need-clear-of-requires
 clear-of-requires c κs = search needs
@@ -24,14 +15,14 @@ clear-of-requires c κs = search needs
 fill-requires : tie.Need-fill-requires
 fill-requires c κs = search needs
 
-merge-requires-2 : tie.Need-merge-requires-2
-merge-requires-2 c κs =
-    let s = c .before .before .before in
+merge-requires : tie.Need-merge-requires
+merge-requires c κs =
+    let s = c .before .before in
     subst AllEmpty (sym (c .fill .ensures)) (filled-keeps (c .before .clear-of .result) (s .args .m) (λ e. Empty (e .list0) × Empty (e .list1)) (s .pre .1))
 
-returns-2 : tie.Need-returns-2
-returns-2 c =
-    c .merge2 .ensures ∙ ap merged (c .before .fill .ensures ∙ ap (λ (clear : List Bool). filled clear (c .before .before .before .before .args .m)) (c .before .before .clear-of .ensures))
+returns : tie.Need-returns
+returns c =
+    c .merge .ensures ∙ ap merged (c .before .fill .ensures ∙ ap (λ (clear : List Bool). filled clear (c .before .before .before .args .m)) (c .before .before .clear-of .ensures))
 
 pub resolve-spec : {M : Type 1} → statement M
-resolve-spec = tie.close (tie.spec merge-requires returns clear-of-requires fill-requires merge-requires-2 returns-2)
+resolve-spec = tie.close (tie.spec clear-of-requires fill-requires merge-requires returns)

@@ -17,17 +17,17 @@ lower-of-requires-3 c κs = search needs
 is-used-requires : tie.Need-is-used-requires
 is-used-requires c κs = search needs
 
-candidate-of-requires : tie.Need-candidate-of-requires
-candidate-of-requires c κs = search needs
+same-reference-requires : tie.Need-same-reference-requires
+same-reference-requires c κs = search needs
 
-candidate-of-requires-2 : tie.Need-candidate-of-requires-2
-candidate-of-requires-2 c κs = search needs
+same-reference-requires-2 : tie.Need-same-reference-requires-2
+same-reference-requires-2 c κs = search needs
 
-candidate-of-requires-3 : tie.Need-candidate-of-requires-3
-candidate-of-requires-3 c κs = search needs
+same-reference-requires-3 : tie.Need-same-reference-requires-3
+same-reference-requires-3 c κs = search needs
 
-candidate-of-requires-4 : tie.Need-candidate-of-requires-4
-candidate-of-requires-4 c κs = search needs
+same-reference-requires-4 : tie.Need-same-reference-requires-4
+same-reference-requires-4 c κs = search needs
 
 taken-requires : tie.Need-taken-requires
 taken-requires c κs = search needs
@@ -47,7 +47,7 @@ returns c =
     let r = c .before .before .before .before .before .before .before .before .before .before .lower-of3 .result in
     let low = lowest-reference (s .p) (s .q) (s .s) (s .t) (c .before .before .before .before .before .before .before .before .before .before .before .before .lower-of .ensures) (c .before .before .before .before .before .before .before .before .before .before .before .lower-of2 .ensures) (c .before .before .before .before .before .before .before .before .before .before .lower-of3 .ensures) in
     merged-used (s .p) (s .q) (s .s) (s .t) (r .reference) low (sym (c .before .before .before .before .before .before .before .before .before .is-used .ensures) ∙ c .before .before .before .before .before .before .before .before .if1 .taken)
-    (c .before .before .before .before .before .before .before .candidate-of .ensures) (c .before .before .before .before .before .before .candidate-of2 .ensures) (c .before .before .before .before .before .candidate-of3 .ensures) (c .before .before .before .before .candidate-of4 .ensures)
+    (c .before .before .before .before .before .before .before .same-reference .ensures) (c .before .before .before .before .before .before .same-reference2 .ensures) (c .before .before .before .before .before .same-reference3 .ensures) (c .before .before .before .before .same-reference4 .ensures)
     (c .before .before .before .taken .ensures) (c .before .before .taken2 .ensures) (c .before .taken3 .ensures) (c .taken4 .ensures)
 
 returns-2 : tie.Need-returns-2
@@ -65,10 +65,10 @@ merge-list-spec =
     lower-of-requires-2
     lower-of-requires-3
     is-used-requires
-    candidate-of-requires
-    candidate-of-requires-2
-    candidate-of-requires-3
-    candidate-of-requires-4
+    same-reference-requires
+    same-reference-requires-2
+    same-reference-requires-3
+    same-reference-requires-4
     taken-requires
     taken-requires-2
     taken-requires-3
