@@ -26,6 +26,7 @@ pub mod Cases
 pub mod RecordLists
 pub mod Ratios
 pub mod Overlap
+pub mod Under
 pub mod Why
 pub mod Counting
 pub mod Singly
