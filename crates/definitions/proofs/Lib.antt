@@ -15,6 +15,7 @@ pub mod Scaling
 pub mod Records
 pub mod Parts
 pub mod Verdicts
+pub mod Sets
 pub mod Answers
 pub mod Sameness
 pub mod Blocks

@@ -20,11 +20,12 @@ use Rattle.definitions.specs.Accepted.{Inside}
 use Rattle.definitions.specs.Geometry.{baseSize, scaledSize, cOf, sampleOf, macroblocks, inside}
 use Rattle.definitions.specs.Splits.{oneEach, count}
 use Rattle.definitions.specs.Record.{motionOf, typeNumber, allOne}
-use Rattle.definitions.specs.Inheriting.{intraSet, gathered, resolved, at, motionAt, scaledPrediction, scaledMotion, inheritedMotions, chosen}
+use Rattle.definitions.specs.Inheriting.{blocksReadingIntra, intraSet, gathered, resolved, at, motionAt, scaledPrediction, scaledMotion, inheritedMotions, chosen}
 use Rattle.definitions.specs.Answer.{answerOrigin, columnsNamed, rowsNamed, subTypes, dividedBy, unusedMotion, writtenFor}
 use Rattle.definitions.specs.Demand3.{originByPaper}
 use Rattle.definitions.specs.Blocks.{quadrantOf, rasterOf}
 use Rattle.definitions.proofs.Choices.{yes, no}
+use Rattle.definitions.proofs.Sets.{intra-count}
 use Rattle.definitions.proofs.Answers.{Decided, is-outside, is-intra, is-inherited}
 use Rattle.definitions.proofs.Addresses.{column-below, row-below}
 use Rattle.definitions.proofs.Blocks.{one-same}
@@ -55,17 +56,20 @@ module _ (g : Axes) (base : List ℤ) (column row : ℕ) where
   origin-right (is-inherited e m) = sym (yes _ _ e)
 
   -- the sort
-  pub inherited-when : {answer : Answer} → Decided g base column row answer → ((o : Origin) × (s : Split) × (answer ≡ Inherited o s)) ↔ ((inside g column row ≡ true) × (ones set ≤ 8))
+  count-is : ones set ≡ blocksReadingIntra g base column row
+  count-is = intra-count g base column row
+
+  pub inherited-when : {answer : Answer} → Decided g base column row answer → ((o : Origin) × (s : Split) × (answer ≡ Inherited o s)) ↔ ((inside g column row ≡ true) × (blocksReadingIntra g base column row ≤ 8))
   unfolding sort
   inherited-when (is-outside e) = (λ w. absurd (other-sort (w .2) (λ q. omega arith)), λ w. absurd (true≢false (sym (w .0) ∙ e)))
-  inherited-when (is-intra e m) = (λ w. absurd (other-sort (w .2) (λ q. omega arith)), λ w. absurd (omega (arith, m, w .1)))
-  inherited-when (is-inherited e m) = (λ w. (e, m), λ w. (_, _, refl))
+  inherited-when (is-intra e m) = (λ w. absurd (other-sort (w .2) (λ q. omega arith)), λ w. absurd (omega (arith, count-is, m, w .1)))
+  inherited-when (is-inherited e m) = (λ w. (e, omega (arith, count-is, m)), λ w. (_, _, refl))
 
-  pub intra-when : {answer : Answer} → Decided g base column row answer → ((o : Origin) × (answer ≡ Intra o)) ↔ ((inside g column row ≡ true) × (9 ≤ ones set))
+  pub intra-when : {answer : Answer} → Decided g base column row answer → ((o : Origin) × (answer ≡ Intra o)) ↔ ((inside g column row ≡ true) × (9 ≤ blocksReadingIntra g base column row))
   unfolding sort
   intra-when (is-outside e) = (λ w. absurd (other-sort (w .1) (λ q. omega arith)), λ w. absurd (true≢false (sym (w .0) ∙ e)))
-  intra-when (is-intra e m) = (λ w. (e, m), λ w. (_, refl))
-  intra-when (is-inherited e m) = (λ w. absurd (other-sort (w .1) (λ q. omega arith)), λ w. absurd (omega (arith, m, w .1)))
+  intra-when (is-intra e m) = (λ w. (e, omega (arith, count-is, m)), λ w. (_, refl))
+  intra-when (is-inherited e m) = (λ w. absurd (other-sort (w .1) (λ q. omega arith)), λ w. absurd (omega (arith, count-is, m, w .1)))
 
   pub outside-when : {answer : Answer} → Decided g base column row answer → (answer ≡ Outside) ↔ (inside g column row ≡ false)
   unfolding sort

@@ -4,7 +4,6 @@ use mathlib.Core.Path.{_≡_}
 use mathlib.Core.Logic.{_≢_, _↔_}
 use mathlib.Core.Bool.{true, false}
 use mathlib.Core.List.{List, _∷_, map, List·Memᴰ}
-use lib.Count.{ones}
 use lib.IntN.{ℤ, pos}
 use lib.ListN.{length, take}
 use Rattle.definitions.specs.declared.Axes.{Axes}
@@ -21,7 +20,7 @@ use Rattle.definitions.specs.Basics.{pick}
 use Rattle.definitions.specs.Geometry.{axesOf, baseSize, fullSize, macroblocks, inside}
 use Rattle.definitions.specs.Splits.{Covers, pieces, oneEach, count}
 use Rattle.definitions.specs.Record.{recordWords, recordAt, motionOf, typeNumber, wellFormed}
-use Rattle.definitions.specs.Inheriting.{intraSet, inheritedMotions, motionAt}
+use Rattle.definitions.specs.Inheriting.{blocksReadingIntra, inheritedMotions, motionAt}
 use Rattle.definitions.specs.Answer.{originAt, outsideOrigin, answerOrigin, columnsNamed, rowsNamed, addressesNamed, subTypes, unusedMotion}
 use Rattle.definitions.specs.Refusals.{geometryVerdict, AllFormed}
 use Rattle.definitions.specs.Calls.{macroblockCall, pictureCall}
@@ -44,9 +43,9 @@ pub record Demand3 (g : Axes) (column row : ℕ) (base : List ℤ) (answer : Ans
   -- Whatever the other base records hold, the answer and its written record are the same.
   pub others : (other : List ℤ) → Other other → ((a : ℕ) → List·Memᴰ a (addressesNamed g answer) → recordAt other a ≡ recordAt base a) → Gives other answer written
   -- It is inherited exactly when the macroblock is inside the window and at most eight of its sixteen blocks read intra macroblocks,
-  pub inherited : ((o : Origin) × (s : Split) × (answer ≡ Inherited o s)) ↔ ((inside g column row ≡ true) × (ones (intraSet g base column row) ≤ 8))
+  pub inherited : ((o : Origin) × (s : Split) × (answer ≡ Inherited o s)) ↔ ((inside g column row ≡ true) × (blocksReadingIntra g base column row ≤ 8))
   -- and intra exactly when it is inside and nine or more do;
-  pub intra : ((o : Origin) × (answer ≡ Intra o)) ↔ ((inside g column row ≡ true) × (9 ≤ ones (intraSet g base column row)))
+  pub intra : ((o : Origin) × (answer ≡ Intra o)) ↔ ((inside g column row ≡ true) × (9 ≤ blocksReadingIntra g base column row))
   -- outside the window it inherits nothing.
   pub outside : (answer ≡ Outside) ↔ (inside g column row ≡ false)
   pub nothing : inside g column row ≡ false → (i : ℕ) → i < 16 → motionOf written i ≡ unusedMotion
