@@ -21,8 +21,10 @@ pub mod Sameness
 pub mod Blocks
 pub mod Addresses
 pub mod Rising
+pub mod Formed
 pub mod Promises
 pub mod Demand
+pub mod Written
 pub mod Cases
 pub mod RecordLists
 pub mod Ratios
@@ -36,7 +38,6 @@ pub mod SessionAddress
 pub mod SessionPicture
 pub mod SessionRefusals
 pub mod SessionExamples
-pub mod Formed
 pub mod Texts
 pub mod Lines
 pub mod Findings

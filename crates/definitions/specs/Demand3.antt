@@ -19,7 +19,7 @@ use Rattle.definitions.specs.declared.PictureReply.the-variants.{Counted
 use Rattle.definitions.specs.Basics.{pick}
 use Rattle.definitions.specs.Geometry.{axesOf, baseSize, fullSize, macroblocks, inside}
 use Rattle.definitions.specs.Splits.{Covers, pieces, oneEach, count}
-use Rattle.definitions.specs.Record.{recordWords, recordAt, motionOf, typeNumber, wellFormed}
+use Rattle.definitions.specs.Record.{recordWords, recordAt, motionOf, typeNumber, splitSaid, wellFormed}
 use Rattle.definitions.specs.Inheriting.{blocksReadingIntra, inheritedMotions, motionAt}
 use Rattle.definitions.specs.Answer.{originAt, outsideOrigin, answerOrigin, columnsNamed, rowsNamed, addressesNamed, subTypes, unusedMotion}
 use Rattle.definitions.specs.Refusals.{geometryVerdict, AllFormed}
@@ -59,6 +59,8 @@ pub record Demand3 (g : Axes) (column row : ℕ) (base : List ℤ) (answer : Ans
   pub rivals : (o : Origin) (s : Split) → answer ≡ Inherited o s → (t : Split) → oneEach (motionOf written) t ≡ true → t ≢ s → count s < count t
   -- Inherited, words 0 to 4 of the written record say the answer's split.
   pub says-split : (o : Origin) (s : Split) → answer ≡ Inherited o s → take 5 written ≡ pos (typeNumber s) ∷ map pos (subTypes s)
+  -- (And read as a base record, it says that split.)
+  pub split-said : (o : Origin) (s : Split) → answer ≡ Inherited o s → splitSaid written ≡ s
 
 -- Made singly: the other records may hold any words.
 abbrev pub AnyWords : List ℤ → List ℤ → Type 0
