@@ -18,4 +18,5 @@ pub mod Log
 pub mod Demand3
 pub mod Written
 pub mod Examples
+pub mod Unstarred
 pub mod Cases
