@@ -39,5 +39,6 @@ pub mod SessionPicture
 pub mod SessionRefusals
 pub mod SessionExamples
 pub mod Texts
+pub mod TextExamples
 pub mod Lines
 pub mod Findings

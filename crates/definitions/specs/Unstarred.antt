@@ -28,8 +28,8 @@ use Rattle.definitions.specs.Inheriting.{setOf, intraSet, gathered, sour
 use Rattle.definitions.specs.Answer.{originAt, answerOf, addressesOf, writtenFor, madeOf}
 use Rattle.definitions.specs.Refusals.{refusal, geometryTests, geometryVerdict, recordTests, addressesRead}
 use Rattle.definitions.specs.Calls.{Outcome, macroblockTests, macroblockCall}
-use Rattle.definitions.specs.Text.{RecordKind, Entry, intra, whole, mb, baseOf}
-use Rattle.definitions.specs.Log.{digitsIn, decimal, lineOf, refusedLine, programTests, judged, logFor}
+use Rattle.definitions.specs.Text.{RecordKind, Entry, intra, whole, mb, intraLine, wholeLine, LineOf, Note, Text, BreaksAt, baseOf, notRead, readAs, Reads}
+use Rattle.definitions.specs.Log.{digitsIn, decimal, lineOf, refusedLine, programTests, judged, logFor, LogOf}
 
 -- ---- What is expected
 pub data Instance : Type 0 where
@@ -226,7 +226,7 @@ abbrev entry : RecordKind → List ℤ → Entry
 entry k v = record { kind = k; fields = v }
 
 -- (refused 5 0), (refused 8 1)
-abbrev refusedLog : ℕ → ℕ → List ℕ
+abbrev pub refusedLog : ℕ → ℕ → List ℕ
 refusedLog number place = 40 ∷ 114 ∷ 101 ∷ 102 ∷ 117 ∷ 115 ∷ 101 ∷ 100 ∷ 32 ∷ (48 + number) ∷ 32 ∷ (48 + place) ∷ 41 ∷ 10 ∷ []
 
 -- ---- The table
@@ -339,3 +339,37 @@ unstarred =
 pub unstarred-hold : map given unstarred ≡ map expected unstarred
 unfolding allOf allBelow pick upTo insideAxis mOf nOf fOf twoOf columnsRead digitsOf coordinateOf stepOf addressRead blockRead sameMotion samePrediction alike oneEach fewestIn recordAt motionOf splitSaid rule1 rule2 rule3 rule4 rule5 rule6 firstBroken laidOut setOf intraSet gathered source clearOf filled lower lowest having mergedList merged someOf liveOf copiedFrom copied resolved scaledPrediction scaledMotion inheritedMotions originAt answerOf addressesOf writtenFor madeOf geometryTests recordTests addressesRead macroblockTests macroblockCall ones onesIn digitsIn decimal lineOf refusedLine programTests
 unstarred-hold = refl
+
+-- ---- Texts
+-- n + 1 zeros separated by one space, a closing bracket, and then t
+abbrev pub zeros : ℕ → List ℕ → List ℕ
+zeros zero t = 48 ∷ 41 ∷ t
+zeros (suc n) t = 48 ∷ 32 ∷ zeros n t
+
+-- (mb 0 (0 0 0 0) (0 ..) (0 ..)) with 77 zeros: an intra record whose references are used, which breaks rule 4
+abbrev pub mbLineText : List ℕ
+mbLineText = 40 ∷ 109 ∷ 98 ∷ 32 ∷ 48 ∷ 32 ∷ 40 ∷ zeros 3 (32 ∷ 40 ∷ zeros 7 (32 ∷ 40 ∷ zeros 63 (41 ∷ 10 ∷ [])))
+
+-- (base 16 16), (scaled 16 16), (at 0 0), (full 16 16), and that line
+abbrev pub mbText : List ℕ
+mbText =
+    (40 ∷ 98 ∷ 97 ∷ 115 ∷ 101 ∷ 32 ∷ 49 ∷ 54 ∷ 32 ∷ 49 ∷ 54 ∷ 41 ∷ 10 ∷ [])
+    ++ ((40 ∷ 115 ∷ 99 ∷ 97 ∷ 108 ∷ 101 ∷ 100 ∷ 32 ∷ 49 ∷ 54 ∷ 32 ∷ 49 ∷ 54 ∷ 41 ∷ 10 ∷ [])
+    ++ ((40 ∷ 97 ∷ 116 ∷ 32 ∷ 48 ∷ 32 ∷ 48 ∷ 41 ∷ 10 ∷ [])
+    ++ ((40 ∷ 102 ∷ 117 ∷ 108 ∷ 108 ∷ 32 ∷ 49 ∷ 54 ∷ 32 ∷ 49 ∷ 54 ∷ 41 ∷ 10 ∷ [])
+    ++ mbLineText)))
+
+-- What is known of texts, without a reader (crate grammar has the Whole case and a table of places)
+pub record TextsHold : Type 0 where
+  -- the log of the text with an (mb ..) line is (refused 8 0)
+  pub mb-log : LogOf mbText (refusedLog 8 0)
+  -- (intra), (whole (0 0) (0 0 0 0)) and (note)
+  pub intra-line : LineOf intraLine [] (40 ∷ 105 ∷ 110 ∷ 116 ∷ 114 ∷ 97 ∷ 41 ∷ 10 ∷ [])
+  pub whole-line : LineOf wholeLine (replicate 6 (pos 0)) (40 ∷ 119 ∷ 104 ∷ 111 ∷ 108 ∷ 101 ∷ 32 ∷ 40 ∷ zeros 1 (32 ∷ 40 ∷ zeros 3 (41 ∷ 10 ∷ [])))
+  pub note-line : Note (40 ∷ 110 ∷ 111 ∷ 116 ∷ 101 ∷ 41 ∷ 10 ∷ [])
+  -- 65,536 bytes are not too many, 65,537 are;
+  pub most-bytes : (t : List ℕ) (place : ℕ) → length t ≡ 65536 → BreaksAt t place → Reads t (notRead (record { number = 9; place = place; rule = 0 }))
+  pub too-many-bytes : (t : List ℕ) → length t ≡ 65537 → Reads t (notRead (refusal 10))
+  -- 99 record lines are not too many, 100 are.
+  pub most-lines : (t : List ℕ) (n : Numbers) (entries : List Entry) → length t ≡ 65536 → Text n entries t → length entries ≡ 99 → Reads t (readAs n entries)
+  pub too-many-lines : (t : List ℕ) (n : Numbers) (entries : List Entry) → length t ≡ 65536 → Text n entries t → length entries ≡ 100 → Reads t (notRead (refusal 10))
