@@ -11,6 +11,7 @@ pub mod Pieces
 pub mod Shapes
 pub mod Fewest
 pub mod Steps
+pub mod StepOne
 pub mod Scaling
 pub mod Records
 pub mod Parts

@@ -8,7 +8,7 @@ use native.Mathlib.Omega.{arith}
 use lib.Count.{ones}
 use lib.Dec.{T, leb→le, le→leb}
 use lib.IntN.{ℤ, pos, negsuc}
-use borrow.Author.Tests.{le-leb}
+use borrow.Author.Tests.{le-leb, not-true, not-false}
 use lib.ListN.{getD}
 use lib.Signed.{leZ, _≤ℤ_, leZ-yes}
 use Rattle.definitions.specs.declared.Axes.{Axes}
@@ -31,17 +31,18 @@ use Rattle.definitions.specs.BlockMap.{addressRead, blockRead}
 use Rattle.definitions.specs.Blocks.{quadrantOf, inQuadrant, rasterOf}
 use Rattle.definitions.specs.Splits.{oneEach}
 use Rattle.definitions.specs.Record.{recordAt, typeOf, subTypeOf, referenceOf, vectorXOf, vectorYOf, isIntra, motionOf, used, typeNumber, subTypeNumber, subSplitOf, splitSaid, rule1, rule2, rule3, rule4, rule5, rule6, firstBroken, vectorWord, wellFormed, laidOut, allOne}
-use Rattle.definitions.specs.Inheriting.{readsIntra, setOf, marked, intraSet, zeroMotion, at, motionAt, gathered, unused, resolved, scaledWord, scaledPrediction, scaledMotion, inheritedMotions, chosen}
+use Rattle.definitions.specs.Inheriting.{readsIntra, setOf, marked, intraSet, zeroMotion, at, motionAt, gathered, unused, clearOf, filled, merged, liveOf, copied, resolved, scaledWord, scaledPrediction, scaledMotion, inheritedMotions, chosen}
 use Rattle.definitions.specs.Answer.{originAt, dividedBy, unusedMotion, withoutMotion, writtenFor, madeOf}
 use Rattle.definitions.specs.Refusals.{geometryVerdict}
 use Rattle.definitions.specs.Calls.{Outcome, macroblockCall}
 use Rattle.definitions.specs.Demand3.{SinglyGives, Case}
-use Rattle.definitions.specs.Written.{vectorsInRange, AsRecord, WrittenEntire}
-use Rattle.definitions.proofs.Choices.{yes, no, and-intro, both-true, or-left, or-right, each, four-at, below-true, below-intro, below-same}
+use Rattle.definitions.specs.Written.{vectorsInRange, AsRecord, WrittenEntire, withoutStep1, Step1Unseen}
+use Rattle.definitions.proofs.Choices.{yes, no, and-intro, both-true, or-left, or-right, eqZ-true, four-at, four-same, below-true, below-intro, below-same}
 use Rattle.definitions.proofs.Rounding.{range}
 use Rattle.definitions.proofs.Accepted.{accepted-axes, across-inside, down-inside}
 use Rattle.definitions.proofs.Addresses.{address-named, address-below}
 use Rattle.definitions.proofs.Steps.{Both, usesList, resolved-keeps, resolved-settled, resolved-uses, not-used}
+use Rattle.definitions.proofs.StepOne.{unseen}
 use Rattle.definitions.proofs.Records.{References, raster-below, raster-motion, raster-is, laid-type, laid-sub-type, laid-references, laid-vectors}
 use Rattle.definitions.proofs.Formed.{rules-of, vectors-of}
 use Rattle.definitions.proofs.Sets.{set-below, intra-bit}
@@ -232,6 +233,43 @@ module _ (limit : ℕ) (g : Axes) (base : List ℤ) (column row : ℕ) (formed :
       let q : quadrantOf (block i) < 4 = omega (arith, block-below i) in
       below-true 4 (λ r. used (referenceOf (read i) r 0) || used (referenceOf (read i) r 1)) (sym (no _ _ e) ∙ rules-of limit (read i) (formed i h) .lists) (quadrantOf (block i)) q
 
+  -- one that reads an intra macroblock uses none, and has no vector
+  read-unused : (i : ℕ) → i < 16 → readsIntra g base column row i ≡ true → motionOf (read i) (block i) ≡ unusedMotion
+  unfolding motionOf rule4
+  read-unused i h e =
+      let b = block i in
+      let q : quadrantOf b < 4 = omega (arith, block-below i) in
+      let lists : (l : ℕ) → l < 2 → used (referenceOf (read i) (quadrantOf b) l) ≡ false =
+      λ l k. not-true (used (referenceOf (read i) (quadrantOf b) l))
+      (below-true 2 (λ j. not (used (referenceOf (read i) (quadrantOf b) j)))
+      (below-true 4 (λ r. allBelow 2 (λ j. not (used (referenceOf (read i) r j)))) (sym (yes _ _ e) ∙ rules-of limit (read i) (formed i h) .lists) (quadrantOf b) q) l k) in
+      let word : (l : ℕ) (u : used (referenceOf (read i) (quadrantOf b) l) ≡ false) (z : ℤ) → vectorWord limit (used (referenceOf (read i) (quadrantOf b) l)) z ≡ true → z ≡ pos 0 =
+      λ l u z w. eqZ-true z (pos 0) (ap (λ (t : Bool). t || eqZ z (pos 0)) (sym u) ∙ both-true (between (minus limit) (pos (limit - 1)) z) (used (referenceOf (read i) (quadrantOf b) l) || eqZ z (pos 0)) w .1) in
+      let v0 = vectors-of limit (read i) (formed i h) b 0 (block-below i) (omega arith) in
+      let v1 = vectors-of limit (read i) (formed i h) b 1 (block-below i) (omega arith) in
+      let u0 = lists 0 (omega arith) in
+      let u1 = lists 1 (omega arith) in
+      let r0 = not-used _ u0 in
+      let r1 = not-used _ u1 in
+      let x0 = word 0 u0 _ (v0 .x) in
+      let y0 = word 0 u0 _ (v0 .y) in
+      let x1 = word 1 u1 _ (v1 .x) in
+      let y1 = word 1 u1 _ (v1 .y) in
+      λ j. record { list0 = record { reference = r0 j; x = x0 j; y = y0 j }; list1 = record { reference = r1 j; x = x1 j; y = y1 j } }
+
+  -- so step 1 is not seen
+  quadrant-same : (q : ℕ) → q < 4 → merged (filled (clearOf set q) (getD gatheredThere q [])) ≡ merged (getD gatheredThere q [])
+  unfolding clearOf
+  quadrant-same q hq =
+      unseen (λ k. not (marked set (rasterOf q k))) (getD gatheredThere q [])
+      (λ k hk e. gathered-is q k hq hk ∙ read-unused (rasterOf q k) (raster-below q k hq hk)
+      (sym (intra-bit g base column row (rasterOf q k) (raster-below q k hq hk)) ∙ not-false (marked set (rasterOf q k)) e))
+
+  resolved-without : there ≡ withoutStep1 set gatheredThere
+  unfolding resolved
+  resolved-without =
+      ap (copied (liveOf set)) (four-same (quadrant-same 0 (omega arith)) (quadrant-same 1 (omega arith)) (quadrant-same 2 (omega arith)) (quadrant-same 3 (omega arith)))
+
   module _ (few : ones set ≤ 8) where
     uses-there : (q k : ℕ) → q < 4 → k < 4 → usesList (at there q k) ≡ true
     unfolding intraSet
@@ -412,3 +450,6 @@ written-entire limit n column row base case words answer written e =
     subst (λ (x : Answer). AsRecord limit x written) a
     (subst (λ (x : List ℤ). AsRecord limit (made .answer) x) w
     (made-as limit n column row base case (decided g base column row)))
+
+pub step-1-unseen : (limit : ℕ) → Step1Unseen limit
+step-1-unseen limit n column row base case e = resolved-without limit (axesOf n) base column row (read-formed limit n column row base case e)
