@@ -27,7 +27,7 @@ quotient w q i x u =
     (eq-zero-or-pos (i % 2))
 
 -- ---- the test of a row
--- Base block 2k + p − 4 lies under the centre of block n, where D1 is −4i. (Places count from the start of base block 2k − 4, and are 6 more.)
+-- Base block 2k + p − 4 lies under the centre of block n, where D1 is −4i. (Both sides count from the start of base block 2k − 4, and are 6 more.)
 underAt : ℕ → ℕ → ℕ → ℕ → Bool
 underAt w i n p = leb (p * w + n % 2 + 6) (4 * w + 4 * i + 4 * n) && ltb (4 * w + 4 * i + 4 * n) ((p + 1) * w + n % 2 + 6)
 

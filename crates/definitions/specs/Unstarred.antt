@@ -17,6 +17,9 @@ use Rattle.definitions.specs.declared.Split.the-variants.{S16x16, S16x8,
 use Rattle.definitions.specs.declared.Answer.the-variants.{Inherited}
 use Rattle.definitions.specs.declared.Verdict.{Verdict}
 use Rattle.definitions.specs.declared.Verdict.the-variants.{Accepted, Refused}
+use Rattle.definitions.specs.declared.Refusal.{Refusal}
+use Rattle.definitions.specs.declared.TextReply.{TextReply}
+use Rattle.definitions.specs.declared.TextReply.the-variants.{Refused as NotRead}
 use Rattle.definitions.specs.declared.MacroblockReply.{MacroblockReply}
 use Rattle.definitions.specs.declared.MacroblockReply.the-variants.{Answered, Refused as Declined}
 use Rattle.definitions.specs.Basics.{pick, minus, allBelow, allOf, upTo, forEach}
@@ -28,7 +31,7 @@ use Rattle.definitions.specs.Inheriting.{setOf, intraSet, gathered, sour
 use Rattle.definitions.specs.Answer.{originAt, answerOf, addressesOf, writtenFor, madeOf}
 use Rattle.definitions.specs.Refusals.{refusal, geometryTests, geometryVerdict, recordTests, addressesRead}
 use Rattle.definitions.specs.Calls.{Outcome, macroblockTests, macroblockCall}
-use Rattle.definitions.specs.Text.{RecordKind, Entry, intra, whole, mb, intraLine, wholeLine, LineOf, Note, Text, BreaksAt, baseOf, notRead, readAs, Reads}
+use Rattle.definitions.specs.Text.{RecordKind, Entry, intra, whole, mb, intraLine, wholeLine, LineOf, Note, Text, BreaksAt, baseOf, Reading, notRead, readAs, Reads, TextAnswer}
 use Rattle.definitions.specs.Log.{digitsIn, decimal, lineOf, refusedLine, programTests, judged, logFor, LogOf}
 
 -- ---- What is expected
@@ -110,8 +113,11 @@ block a b c d = four (pos a) (pos b) (pos c) (pos d)
 abbrev row : List ℤ → List ℤ → List ℤ → List ℤ → List ℤ
 row a b c d = a ++ (b ++ (c ++ d))
 
+abbrev all : List ℤ → List ℤ
+all v = row v v v v
+
 abbrev allBlocks : List ℤ → List ℤ
-allBlocks v = let r = row v v v v in row r r r r
+allBlocks v = all (all v)
 
 -- 64 words that are all different, from n on
 abbrev rising : ℕ → List ℤ
@@ -185,8 +191,7 @@ fromRight at =
     let a = at 1 2 in
     let b = at 3 4 in
     let c = at 5 6 in
-    let r = row b c c c in
-    row (row a a a a) r r r
+    row (all a) (row b c c c) (row b c c c) (row b c c c)
 
 -- ratio 2, the base's middle in the middle of the macroblock: a quadrant to each base macroblock
 abbrev doubled : Numbers
@@ -209,14 +214,11 @@ ofVector x y = words (pos 1) noSub (both (pos 0) (minus 1)) (allBlocks (four x y
 -- the upper half of the blocks differs from the lower, and the left from the right
 abbrev halves : ℤ → List ℤ
 halves t =
-    let a = row (block 1 2 0 0) (block 1 2 0 0) (block 1 2 0 0) (block 1 2 0 0) in
-    let b = row (block 3 4 0 0) (block 3 4 0 0) (block 3 4 0 0) (block 3 4 0 0) in
-    words t noSub (both (pos 0) (minus 1)) (row a a b b)
+    words t noSub (both (pos 0) (minus 1)) (row (all (block 1 2 0 0)) (all (block 1 2 0 0)) (all (block 3 4 0 0)) (all (block 3 4 0 0)))
 
 abbrev sides : ℤ → List ℤ
 sides t =
-    let r = row (block 1 2 0 0) (block 1 2 0 0) (block 3 4 0 0) (block 3 4 0 0) in
-    words t noSub (both (pos 0) (minus 1)) (row r r r r)
+    words t noSub (both (pos 0) (minus 1)) (all (row (block 1 2 0 0) (block 1 2 0 0) (block 3 4 0 0) (block 3 4 0 0)))
 
 -- the references of one quadrant, the others being 0 and −1
 abbrev oneQuadrant : ℤ → ℤ → List ℤ
@@ -244,9 +246,9 @@ unstarred =
       (inherits Center (quarters S4x4 S8x4 S4x8 S8x8) (words (pos 4) (four (pos 3) (pos 1) (pos 2) (pos 0)) (both (minus 1) (pos 0)) (fromRight (λ x y. block 0 0 x y))))
     -- step 3: a quadrant all intra has the horizontal one's motion, though the vertical one differs; where both are, the vertical one's.
     ∷ call doubled (noMotion ++ (first 0 1 2 ++ (first 0 3 4 ++ first 0 3 4))) (pos 2) (pos 2) 77
-      (inherits Center S16x8 (words (pos 2) noSub (both (pos 0) (minus 1)) (let r = row (block 2 4 0 0) (block 2 4 0 0) (block 2 4 0 0) (block 2 4 0 0) in let s = row (block 6 8 0 0) (block 6 8 0 0) (block 6 8 0 0) (block 6 8 0 0) in row r r s s)))
+      (inherits Center S16x8 (words (pos 2) noSub (both (pos 0) (minus 1)) (row (all (block 2 4 0 0)) (all (block 2 4 0 0)) (all (block 6 8 0 0)) (all (block 6 8 0 0)))))
     ∷ call doubled (noMotion ++ (noMotion ++ (first 0 3 4 ++ first 0 5 6))) (pos 2) (pos 2) 77
-      (inherits Center S8x16 (words (pos 3) noSub (both (pos 0) (minus 1)) (let r = row (block 6 8 0 0) (block 6 8 0 0) (block 10 12 0 0) (block 10 12 0 0) in row r r r r)))
+      (inherits Center S8x16 (words (pos 3) noSub (both (pos 0) (minus 1)) (all (row (block 6 8 0 0) (block 6 8 0 0) (block 10 12 0 0) (block 10 12 0 0)))))
     -- Limits of a geometry, each on both sides: B, E,
     ∷ geometry (across (pos 16) (pos 16) (pos 0) (pos 16)) 0
     ∷ geometry (across (pos 4096) (pos 4096) (pos 0) (pos 16)) 0
@@ -367,9 +369,13 @@ pub record TextsHold : Type 0 where
   pub intra-line : LineOf intraLine [] (40 ∷ 105 ∷ 110 ∷ 116 ∷ 114 ∷ 97 ∷ 41 ∷ 10 ∷ [])
   pub whole-line : LineOf wholeLine (replicate 6 (pos 0)) (40 ∷ 119 ∷ 104 ∷ 111 ∷ 108 ∷ 101 ∷ 32 ∷ 40 ∷ zeros 1 (32 ∷ 40 ∷ zeros 3 (41 ∷ 10 ∷ [])))
   pub note-line : Note (40 ∷ 110 ∷ 111 ∷ 116 ∷ 101 ∷ 41 ∷ 10 ∷ [])
-  -- 65,536 bytes are not too many, 65,537 are;
+  -- 65,536 bytes are not too many, 65,537 are, whatever else is wrong with them;
   pub most-bytes : (t : List ℕ) (place : ℕ) → length t ≡ 65536 → BreaksAt t place → Reads t (notRead (record { number = 9; place = place; rule = 0 }))
-  pub too-many-bytes : (t : List ℕ) → length t ≡ 65537 → Reads t (notRead (refusal 10))
-  -- 99 record lines are not too many, 100 are.
+  pub too-many-bytes : (t : List ℕ) (r : Reading) → length t ≡ 65537 → Reads t r → r ≡ notRead (refusal 10)
+  -- 99 record lines are not too many, 100 are;
   pub most-lines : (t : List ℕ) (n : Numbers) (entries : List Entry) → length t ≡ 65536 → Text n entries t → length entries ≡ 99 → Reads t (readAs n entries)
   pub too-many-lines : (t : List ℕ) (n : Numbers) (entries : List Entry) → length t ≡ 65536 → Text n entries t → length entries ≡ 100 → Reads t (notRead (refusal 10))
+  -- the text call has the words of 99 records, 7,623; with 7,622 or 7,624 it is refused by 6, whatever is wrong with the text.
+  pub right-words : (t : List ℕ) (words : List ℤ) (r : Refusal) → length words ≡ 7623 → Reads t (notRead r) → TextAnswer t words (NotRead r) words
+  pub few-words : (t : List ℕ) (words new : List ℤ) (reply : TextReply) → length words ≡ 7622 → TextAnswer t words reply new → reply ≡ NotRead (refusal 6)
+  pub many-words : (t : List ℕ) (words new : List ℤ) (reply : TextReply) → length words ≡ 7624 → TextAnswer t words reply new → reply ≡ NotRead (refusal 6)
