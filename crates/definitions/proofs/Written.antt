@@ -204,9 +204,10 @@ module _ (limit : ℕ) (g : Axes) (base : List ℤ) (column row : ℕ) (formed :
       let q : quadrantOf (block i) < 4 = omega (arith, block-below i) in
       let fit : (l : ℕ) → l < 2 → (between (minus 1) (pos 31) (referenceOf (read i) (quadrantOf (block i)) l) ≡ true) =
       λ l k. below-true 2 (λ j. between (minus 1) (pos 31) (referenceOf (read i) (quadrantOf (block i)) j)) (below-true 4 (λ r. allBelow 2 (λ j. between (minus 1) (pos 31) (referenceOf (read i) r j))) (rules-of limit (read i) (formed i h) .references) (quadrantOf (block i)) q) l k in
-      let v = vectors-of limit (read i) (formed i h) (block i) in
-      (record { reference = fit 0 (omega arith); x = both-true _ _ (v 0 (block-below i) (omega arith) .x) .0; y = both-true _ _ (v 0 (block-below i) (omega arith) .y) .0 },
-      record { reference = fit 1 (omega arith); x = both-true _ _ (v 1 (block-below i) (omega arith) .x) .0; y = both-true _ _ (v 1 (block-below i) (omega arith) .y) .0 })
+      let v = vectors-of limit (read i) (formed i h) (block i) in (
+        record { reference = fit 0 (omega arith); x = both-true _ _ (v 0 (block-below i) (omega arith) .x) .0; y = both-true _ _ (v 0 (block-below i) (omega arith) .y) .0 },
+        record { reference = fit 1 (omega arith); x = both-true _ _ (v 1 (block-below i) (omega arith) .x) .0; y = both-true _ _ (v 1 (block-below i) (omega arith) .y) .0 },
+      )
 
   gathered-is : (q k : ℕ) → q < 4 → k < 4 → at gatheredThere q k ≡ motionOf (read (rasterOf q k)) (block (rasterOf q k))
   unfolding gathered
@@ -338,11 +339,13 @@ module _ (limit : ℕ) (g : Axes) (base : List ℤ) (column row : ℕ) (formed :
           λ z e. ap (λ (y : Prediction). scaledWord (baseSize (g .horizontal)) (scaledSize (g .horizontal)) (y .x)) e ∙ zero-scaled _ _ h in
           let down : (z : Prediction) → z ≡ unused → scaledWord (baseSize (g .vertical)) (scaledSize (g .vertical)) (z .y) ≡ pos 0 =
           λ z e. ap (λ (y : Prediction). scaledWord (baseSize (g .vertical)) (scaledSize (g .vertical)) (y .y)) e ∙ zero-scaled _ _ v in
-          two (λ l. ((used (referenceOf written q l) || eqZ (vectorXOf written b l) (pos 0)) ≡ true) × ((used (referenceOf written q l) || eqZ (vectorYOf written b l) (pos 0)) ≡ true))
-          (ap (λ (z : ℤ). used z || eqZ (vectorXOf written b 0) (pos 0)) (r .0) ∙ empty p (t .zero0 k hk) _ (λ e. w .0 ∙ (ap (λ (n : Motion). n .list0 .x) m ∙ across p e)),
-          ap (λ (z : ℤ). used z || eqZ (vectorYOf written b 0) (pos 0)) (r .0) ∙ empty p (t .zero0 k hk) _ (λ e. w .1 ∙ (ap (λ (n : Motion). n .list0 .y) m ∙ down p e)))
-          (ap (λ (z : ℤ). used z || eqZ (vectorXOf written b 1) (pos 0)) (r .1) ∙ empty o (t .zero1 k hk) _ (λ e. w .2 ∙ (ap (λ (n : Motion). n .list1 .x) m ∙ across o e)),
-          ap (λ (z : ℤ). used z || eqZ (vectorYOf written b 1) (pos 0)) (r .1) ∙ empty o (t .zero1 k hk) _ (λ e. w .3 ∙ (ap (λ (n : Motion). n .list1 .y) m ∙ down o e)))
+          two (λ l. ((used (referenceOf written q l) || eqZ (vectorXOf written b l) (pos 0)) ≡ true) × ((used (referenceOf written q l) || eqZ (vectorYOf written b l) (pos 0)) ≡ true)) (
+            ap (λ (z : ℤ). used z || eqZ (vectorXOf written b 0) (pos 0)) (r .0) ∙ empty p (t .zero0 k hk) _ (λ e. w .0 ∙ (ap (λ (n : Motion). n .list0 .x) m ∙ across p e)),
+            ap (λ (z : ℤ). used z || eqZ (vectorYOf written b 0) (pos 0)) (r .0) ∙ empty p (t .zero0 k hk) _ (λ e. w .1 ∙ (ap (λ (n : Motion). n .list0 .y) m ∙ down p e)),
+          ) (
+            ap (λ (z : ℤ). used z || eqZ (vectorXOf written b 1) (pos 0)) (r .1) ∙ empty o (t .zero1 k hk) _ (λ e. w .2 ∙ (ap (λ (n : Motion). n .list1 .x) m ∙ across o e)),
+            ap (λ (z : ℤ). used z || eqZ (vectorYOf written b 1) (pos 0)) (r .1) ∙ empty o (t .zero1 k hk) _ (λ e. w .3 ∙ (ap (λ (n : Motion). n .list1 .y) m ∙ down o e)),
+          )
 
       -- so rule 5 is the range
       written-5 : (any : ℕ) → rule5 any written ≡ vectorsInRange any written

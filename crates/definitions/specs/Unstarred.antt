@@ -30,9 +30,9 @@ use Rattle.definitions.specs.Record.{recordAt, motionOf, splitSaid, rule
 use Rattle.definitions.specs.Inheriting.{setOf, intraSet, gathered, source, clearOf, filled, lower, lowest, having, mergedList, merged, someOf, liveOf, copiedFrom, copied, resolved, scaledPrediction, scaledMotion, inheritedMotions}
 use Rattle.definitions.specs.Answer.{originAt, answerOf, addressesOf, writtenFor, madeOf}
 use Rattle.definitions.specs.Refusals.{refusal, geometryTests, geometryVerdict, recordTests, addressesRead}
-use Rattle.definitions.specs.Calls.{Outcome, macroblockTests, macroblockCall}
+use Rattle.definitions.specs.Calls.{Outcome, macroblockTests, macroblockCall, madeAt, countsOf}
 use Rattle.definitions.specs.Text.{RecordKind, Entry, intra, whole, mb, intraLine, wholeLine, LineOf, Note, Text, BreaksAt, baseOf, Reading, notRead, readAs, Reads, TextAnswer}
-use Rattle.definitions.specs.Log.{digitsIn, decimal, lineOf, refusedLine, programTests, judged, logFor, LogOf}
+use Rattle.definitions.specs.Log.{digitsIn, decimal, lineOf, macroblockLine, syncLine, pictureLines, refusedLine, programTests, judged, logFor, LogOf}
 
 -- ---- What is expected
 pub data Instance : Type 0 where
@@ -159,7 +159,7 @@ differing =
     words (pos 4) (four (pos 3) (pos 3) (pos 3) (pos 3)) (both (pos 0) (pos 2)) (rising 1)
     ++ words (pos 4) (four (pos 3) (pos 3) (pos 3) (pos 3)) (both (pos 0) (pos 2)) (rising 101)
 
--- ratio 2 in one direction, 3/2 in the other: two columns of one row, and two rows of one column. Across, blocks read base blocks 3, 3, 3 and 4; down 0, 0, 1 and 2.
+-- ratio 2 in one direction, 3/2 in the other: two columns of one row, and two rows of one column. By ratio 2 blocks read base blocks 3, 3, 3 and 4; by 3/2 0, 0, 1 and 2.
 abbrev wide : Numbers
 wide = by (axis (pos 32) (pos 64) (pos 10) (pos 64)) (axis (pos 16) (pos 24) (pos 0) (pos 16))
 
@@ -198,7 +198,7 @@ abbrev doubled : Numbers
 doubled = by (axis (pos 32) (pos 64) (pos 8) (pos 48)) (axis (pos 32) (pos 64) (pos 8) (pos 48))
 
 -- ---- Limits and orders
--- a record with one thing changed
+-- a record (of type 1 with one motion, reference 0 in list 0) with one thing changed
 abbrev ofType : ℤ → List ℤ
 ofType t = words t noSub (both (pos 0) (minus 1)) (allBlocks (block 1 2 0 0))
 
@@ -231,6 +231,26 @@ entry k v = record { kind = k; fields = v }
 abbrev pub refusedLog : ℕ → ℕ → List ℕ
 refusedLog number place = 40 ∷ 114 ∷ 101 ∷ 102 ∷ 117 ∷ 115 ∷ 101 ∷ 100 ∷ 32 ∷ (48 + number) ∷ 32 ∷ (48 + place) ∷ 41 ∷ 10 ∷ []
 
+-- The clip of docs/WHY.md
+abbrev clip : Numbers
+clip = by (axis (pos 32) (pos 48) (pos 4) (pos 64)) plain
+
+abbrev clipRecord : ℤ → Entry
+clipRecord x = entry whole (four (pos 0) (minus 1) x (minus 8) ++ (pos 0 ∷ pos 0 ∷ []))
+
+abbrev clipWords : List ℤ
+clipWords =
+    let a = four (pos 5) (minus 8) (pos 0) (pos 0) in
+    words (pos 4) (four (pos 0) (pos 2) (pos 0) (pos 2)) (both (pos 0) (minus 1)) (all (row a a a (four (pos 11) (minus 8) (pos 0) (pos 0))))
+
+abbrev clipLog : List ℕ
+clipLog =
+    (40 ∷ 109 ∷ 98 ∷ 32 ∷ 48 ∷ 32 ∷ 48 ∷ 32 ∷ 53 ∷ 32 ∷ 48 ∷ 41 ∷ 10 ∷ [])
+    ++ ((40 ∷ 109 ∷ 98 ∷ 32 ∷ 49 ∷ 32 ∷ 48 ∷ 32 ∷ 52 ∷ 32 ∷ 54 ∷ 41 ∷ 10 ∷ [])
+    ++ ((40 ∷ 109 ∷ 98 ∷ 32 ∷ 50 ∷ 32 ∷ 48 ∷ 32 ∷ 49 ∷ 32 ∷ 49 ∷ 41 ∷ 10 ∷ [])
+    ++ ((40 ∷ 109 ∷ 98 ∷ 32 ∷ 51 ∷ 32 ∷ 48 ∷ 32 ∷ 53 ∷ 32 ∷ 48 ∷ 41 ∷ 10 ∷ [])
+    ++ (40 ∷ 115 ∷ 121 ∷ 110 ∷ 99 ∷ 32 ∷ 52 ∷ 32 ∷ 50 ∷ 32 ∷ 48 ∷ 32 ∷ 50 ∷ 41 ∷ 10 ∷ []))))
+
 -- ---- The table
 abbrev pub unstarred : List Instance
 unstarred =
@@ -241,14 +261,14 @@ unstarred =
     ∷ call tall differing (pos 0) (pos 2) 77 (inherits Hori (quarters S8x8 S4x8 S8x4 S4x4) inTall)
     -- base 0 intra, and base 0 with another reference in list 1: the horizontal neighbour's motion, though the vertical one serves too and differs;
     ∷ call centre (noMotion ++ (first 0 1 2 ++ (first 0 3 4 ++ first 0 5 6))) (pos 1) (pos 1) 77
-      (inherits Center (quarters S4x4 S8x4 S4x8 S8x8) (words (pos 4) (four (pos 3) (pos 1) (pos 2) (pos 0)) (both (pos 0) (minus 1)) (fromRight (λ x y. block x y 0 0))))
+    (inherits Center (quarters S4x4 S8x4 S4x8 S8x8) (words (pos 4) (four (pos 3) (pos 1) (pos 2) (pos 0)) (both (pos 0) (minus 1)) (fromRight (λ x y. block x y 0 0))))
     ∷ call centre (second 1 7 8 ++ (second 0 1 2 ++ (second 0 3 4 ++ second 0 5 6))) (pos 1) (pos 1) 77
-      (inherits Center (quarters S4x4 S8x4 S4x8 S8x8) (words (pos 4) (four (pos 3) (pos 1) (pos 2) (pos 0)) (both (minus 1) (pos 0)) (fromRight (λ x y. block 0 0 x y))))
+    (inherits Center (quarters S4x4 S8x4 S4x8 S8x8) (words (pos 4) (four (pos 3) (pos 1) (pos 2) (pos 0)) (both (minus 1) (pos 0)) (fromRight (λ x y. block 0 0 x y))))
     -- step 3: a quadrant all intra has the horizontal one's motion, though the vertical one differs; where both are, the vertical one's.
     ∷ call doubled (noMotion ++ (first 0 1 2 ++ (first 0 3 4 ++ first 0 3 4))) (pos 2) (pos 2) 77
-      (inherits Center S16x8 (words (pos 2) noSub (both (pos 0) (minus 1)) (row (all (block 2 4 0 0)) (all (block 2 4 0 0)) (all (block 6 8 0 0)) (all (block 6 8 0 0)))))
+    (inherits Center S16x8 (words (pos 2) noSub (both (pos 0) (minus 1)) (row (all (block 2 4 0 0)) (all (block 2 4 0 0)) (all (block 6 8 0 0)) (all (block 6 8 0 0)))))
     ∷ call doubled (noMotion ++ (noMotion ++ (first 0 3 4 ++ first 0 5 6))) (pos 2) (pos 2) 77
-      (inherits Center S8x16 (words (pos 3) noSub (both (pos 0) (minus 1)) (all (row (block 6 8 0 0) (block 6 8 0 0) (block 10 12 0 0) (block 10 12 0 0)))))
+    (inherits Center S8x16 (words (pos 3) noSub (both (pos 0) (minus 1)) (all (row (block 6 8 0 0) (block 6 8 0 0) (block 10 12 0 0) (block 10 12 0 0)))))
     -- Limits of a geometry, each on both sides: B, E,
     ∷ geometry (across (pos 16) (pos 16) (pos 0) (pos 16)) 0
     ∷ geometry (across (pos 4096) (pos 4096) (pos 0) (pos 16)) 0
@@ -331,15 +351,18 @@ unstarred =
     ∷ rule (words (pos 1) noSub (both (pos 0) (pos 0)) (rising 8150)) 5
     -- The words of record lines, in order,
     ∷ lines (entry intra [] ∷ entry whole (four (pos 1) (pos 2) (pos 3) (pos 4) ++ (pos 5 ∷ pos 6 ∷ [])) ∷ entry mb various ∷ [])
-      (noMotion ++ (words (pos 1) noSub (both (pos 1) (pos 2)) (allBlocks (block 3 4 5 6)) ++ various))
+    (noMotion ++ (words (pos 1) noSub (both (pos 1) (pos 2)) (allBlocks (block 3 4 5 6)) ++ various))
     -- and the log of a refusal: too many lines, though a record is malformed; and a malformed record, the second.
     ∷ log (by plain plain) (entry intra [] ∷ entry mb (ofType (pos 5)) ∷ []) (refusedLog 5 0)
     ∷ log (by (axis (pos 32) (pos 32) (pos 0) (pos 32)) plain) (entry intra [] ∷ entry mb (ofType (pos 5)) ∷ []) (refusedLog 8 1)
+    -- The clip of docs/WHY.md: its second macroblock, and its log.
+    ∷ call clip (ofVector (pos 3) (minus 8) ++ ofVector (pos 7) (minus 8)) (pos 1) (pos 0) 77 (inherits Vert (quarters S8x8 S4x8 S8x8 S4x8) clipWords)
+    ∷ log clip (clipRecord (pos 3) ∷ clipRecord (pos 7) ∷ []) clipLog
     ∷ []
 
 -- They hold.
 pub unstarred-hold : map given unstarred ≡ map expected unstarred
-unfolding allOf allBelow pick upTo insideAxis mOf nOf fOf twoOf columnsRead digitsOf coordinateOf stepOf addressRead blockRead sameMotion samePrediction alike oneEach fewestIn recordAt motionOf splitSaid rule1 rule2 rule3 rule4 rule5 rule6 firstBroken laidOut setOf intraSet gathered source clearOf filled lower lowest having mergedList merged someOf liveOf copiedFrom copied resolved scaledPrediction scaledMotion inheritedMotions originAt answerOf addressesOf writtenFor madeOf geometryTests recordTests addressesRead macroblockTests macroblockCall ones onesIn digitsIn decimal lineOf refusedLine programTests
+unfolding allOf allBelow pick upTo insideAxis mOf nOf fOf twoOf columnsRead digitsOf coordinateOf stepOf addressRead blockRead sameMotion samePrediction alike oneEach fewestIn recordAt motionOf splitSaid rule1 rule2 rule3 rule4 rule5 rule6 firstBroken laidOut setOf intraSet gathered source clearOf filled lower lowest having mergedList merged someOf liveOf copiedFrom copied resolved scaledPrediction scaledMotion inheritedMotions originAt answerOf addressesOf writtenFor madeOf geometryTests recordTests addressesRead macroblockTests macroblockCall ones onesIn madeAt countsOf digitsIn decimal lineOf macroblockLine syncLine pictureLines refusedLine programTests
 unstarred-hold = refl
 
 -- ---- Texts
