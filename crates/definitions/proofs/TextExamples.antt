@@ -1,26 +1,31 @@
 -- The examples of texts of specs/Unstarred: written out by the grammar's own rules. Assumes nothing.
-use Prim.Native.Nat.{ℕ, zero, suc, _*_}
+use Prim.Native.Nat.{ℕ, zero, suc, _*_, _-_, _≤_}
 use mathlib.Core.Path.{_≡_, refl}
 use mathlib.Core.List.{List, [], _∷_, _++_}
 use native.Mathlib.Omega.{arith}
 use lib.IntN.{ℤ, pos}
-use lib.ListN.{length}
-use Rattle.definitions.specs.declared.AxisNumbers.{AxisNumbers}
+use lib.ListN.{length, replicate}
 use Rattle.definitions.specs.declared.TextReply.{TextReply}
 use Rattle.definitions.specs.declared.TextReply.the-variants.{Refused as NotRead}
-use Rattle.definitions.specs.Basics.{pick, allBelow, upTo}
-use Rattle.definitions.specs.Record.{recordWords, recordAt, rule1, rule2, rule3, rule4, rule5, rule6, firstBroken}
+use Rattle.definitions.specs.Basics.{pick, minus, allBelow, upTo}
+use Rattle.definitions.specs.Record.{recordWords, laidOut, recordAt, rule1, rule2, rule3, rule4, rule5, rule6, firstBroken}
 use Rattle.definitions.specs.Refusals.{refusal, geometryTests, recordTests}
-use Rattle.definitions.specs.Text.{Digit, All, none, each, nought, digits, Number, unsigned, close, Note, note, Part, byte, spaced, ended, Form, nothing, isByte, isSpaced, isEnded, bytes, numbers, Kind, baseLine, scaledLine, atLine, fullLine, mbLine, LineOf, Notes, Heads, noHead, head, mb, Entry, Records, noRecord, aRecord, Text, textRecords, Reading, notRead, readAs, Reads, tooLong, broken, tooMany, read, TextAnswer, wrongWords, refused, given}
+use Rattle.definitions.specs.Text.{Digit, All, none, each, valued, nought, digits, Number, unsigned, negative, close, Note, note, Part, byte, spaced, ended, Form, nothing, isByte, isSpaced, isEnded, bytes, numbers, Kind, baseLine, scaledLine, atLine, fullLine, mbLine, LineOf, Notes, Heads, noHead, head, mb, Entry, Records, noRecord, aRecord, Text, textRecords, Reading, notRead, readAs, Reads, tooLong, broken, tooMany, read, TextAnswer, wrongWords, refused, given}
 use Rattle.definitions.specs.Log.{digitsIn, decimal, lineOf, refusedLine, programTests, LogOf}
-use Rattle.definitions.specs.Unstarred.{zeros, mbLineText, mbText, refusedLog, TextsHold}
+use Rattle.definitions.specs.Unstarred.{zeros, mbLineText, mbText, mbNumbers, mbEntries, TextsHold}
 
--- 0 and 16
+-- 0, numbers of two digits, 4 and −2
 zero-is : Number (pos 0) (48 ∷ [])
 zero-is = unsigned {n = 0} (omega arith) nought
 
-sixteen-is : Number (pos 16) (49 ∷ 54 ∷ [])
-sixteen-is = unsigned {n = 16} (omega arith) (digits {c = 49} (omega arith) (omega arith) (each {c = 54} (omega arith, omega arith) none))
+two-digits : (c d : ℕ) → 49 ≤ c → c ≤ 57 → Digit d → valued (c - 48) (d ∷ []) ≤ 32767 → Number (pos (valued (c - 48) (d ∷ []))) (c ∷ d ∷ [])
+two-digits c d low high digit n = unsigned n (digits low high (each digit none))
+
+four-is : Number (pos 4) (52 ∷ [])
+four-is = unsigned {n = 4} (omega arith) (digits {c = 52} (omega arith) (omega arith) none)
+
+minus-two-is : Number (minus 2) (45 ∷ 50 ∷ [])
+minus-two-is = negative {n = 1} (omega arith) (digits {c = 50} (omega arith) (omega arith) none)
 
 abbrev zeroNumbers : ℕ → List ℤ → List ℤ
 zeroNumbers zero vs = pos 0 ∷ vs
@@ -35,25 +40,25 @@ mb-line =
     isByte (isByte (isByte (isByte (isSpaced zero-is (isByte
     (zeros-form 3 (isByte (isByte (zeros-form 7 (isByte (isByte (zeros-form 63 (isByte (isByte nothing))))))))))))))
 
--- two numbers, a closing bracket and a line feed
-abbrev sixteens : Form (numbers 1 (byte 10 ∷ [])) (pos 16 ∷ pos 16 ∷ []) (49 ∷ 54 ∷ 32 ∷ 49 ∷ 54 ∷ 41 ∷ 10 ∷ [])
-sixteens = isSpaced sixteen-is (isEnded sixteen-is (isByte nothing))
-
-abbrev axis : AxisNumbers
-axis = record { base = pos 16; scaled = pos 16; offset = pos 0; full = pos 16 }
-
-mb-text : Text (record { horizontal = axis; vertical = axis }) (record { kind = mb; fields = pos 0 ∷ zeroNumbers 3 (zeroNumbers 7 (zeroNumbers 63 [])) } ∷ []) mbText
-mb-text = record {
-  top = _;
-  bottom = _;
-  heads =
-      head Notes.none (isByte (isByte (isByte (isByte (isByte (isByte sixteens))))))
-      (head Notes.none (isByte (isByte (isByte (isByte (isByte (isByte (isByte (isByte sixteens))))))))
-      (head Notes.none (isByte (isByte (isByte (isByte (zeros-form 1 (isByte nothing))))))
-      (head Notes.none (isByte (isByte (isByte (isByte (isByte (isByte sixteens)))))) noHead)));
-  lines = aRecord mb-line noRecord;
-  parts = refl;
-}
+mb-text : Text mbNumbers mbEntries mbText
+mb-text =
+    let n32 = two-digits 51 50 (omega arith) (omega arith) (omega arith, omega arith) (omega arith) in
+    let n16 = two-digits 49 54 (omega arith) (omega arith) (omega arith, omega arith) (omega arith) in
+    let n48 = two-digits 52 56 (omega arith) (omega arith) (omega arith, omega arith) (omega arith) in
+    let n18 = two-digits 49 56 (omega arith) (omega arith) (omega arith, omega arith) (omega arith) in
+    let n64 = two-digits 54 52 (omega arith) (omega arith) (omega arith, omega arith) (omega arith) in
+    let n80 = two-digits 56 48 (omega arith) (omega arith) (omega arith, omega arith) (omega arith) in
+    record {
+      top = _;
+      bottom = _;
+      heads =
+          head Notes.none (isByte (isByte (isByte (isByte (isByte (isByte (isSpaced n32 (isEnded n16 (isByte nothing)))))))))
+          (head Notes.none (isByte (isByte (isByte (isByte (isByte (isByte (isByte (isByte (isSpaced n48 (isEnded n18 (isByte nothing)))))))))))
+          (head Notes.none (isByte (isByte (isByte (isByte (isSpaced four-is (isEnded minus-two-is (isByte nothing)))))))
+          (head Notes.none (isByte (isByte (isByte (isByte (isByte (isByte (isSpaced n64 (isEnded n80 (isByte nothing))))))))) noHead)));
+      lines = aRecord (isByte (isByte (isByte (isByte (isByte (isByte (isByte (isByte nothing)))))))) (aRecord mb-line noRecord);
+      parts = refl;
+    }
 
 long : {t : List ℕ} {r : Reading} → length t ≡ 65537 → Reads t r → r ≡ notRead (refusal 10)
 long l (tooLong h) = refl
@@ -67,10 +72,10 @@ wrong n (refused e x) = absurd (n e)
 wrong n (given e x) = absurd (n e)
 
 pub texts-hold : TextsHold
-unfolding pick allBelow upTo recordAt rule1 rule2 rule3 rule4 rule5 rule6 firstBroken geometryTests recordTests digitsIn decimal lineOf refusedLine programTests
+unfolding pick allBelow upTo laidOut recordAt rule1 rule2 rule3 rule4 rule5 rule6 firstBroken geometryTests recordTests digitsIn decimal lineOf refusedLine programTests
 texts-hold = record {
+  mb-text = mb-text;
   mb-log = record { reading = readAs _ _; reads = read (omega arith) mb-text (omega arith); is = refl };
-  intra-line = isByte (isByte (isByte (isByte (isByte (isByte (isByte (isByte nothing)))))));
   whole-line = isByte (isByte (isByte (isByte (isByte (isByte (isByte (isByte (zeros-form 1 (isByte (isByte (zeros-form 3 (isByte (isByte nothing)))))))))))));
   note-line = note close;
   most-bytes = λ t place l b. broken (omega arith) b;

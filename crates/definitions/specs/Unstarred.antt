@@ -31,7 +31,7 @@ use Rattle.definitions.specs.Inheriting.{setOf, intraSet, gathered, sour
 use Rattle.definitions.specs.Answer.{originAt, answerOf, addressesOf, writtenFor, madeOf}
 use Rattle.definitions.specs.Refusals.{refusal, geometryTests, geometryVerdict, recordTests, addressesRead}
 use Rattle.definitions.specs.Calls.{Outcome, macroblockTests, macroblockCall, madeAt, countsOf}
-use Rattle.definitions.specs.Text.{RecordKind, Entry, intra, whole, mb, intraLine, wholeLine, LineOf, Note, Text, BreaksAt, baseOf, Reading, notRead, readAs, Reads, TextAnswer}
+use Rattle.definitions.specs.Text.{RecordKind, Entry, intra, whole, mb, wholeLine, LineOf, Note, Text, BreaksAt, baseOf, Reading, notRead, readAs, Reads, TextAnswer}
 use Rattle.definitions.specs.Log.{digitsIn, decimal, lineOf, macroblockLine, syncLine, pictureLines, refusedLine, programTests, judged, logFor, LogOf}
 
 -- ---- What is expected
@@ -355,8 +355,10 @@ unstarred =
     -- and the log of a refusal: too many lines, though a record is malformed; and a malformed record, the second.
     ∷ log (by plain plain) (entry intra [] ∷ entry mb (ofType (pos 5)) ∷ []) (refusedLog 5 0)
     ∷ log (by (axis (pos 32) (pos 32) (pos 0) (pos 32)) plain) (entry intra [] ∷ entry mb (ofType (pos 5)) ∷ []) (refusedLog 8 1)
-    -- The clip of docs/WHY.md: its second macroblock, and its log.
+    -- The clip of docs/WHY.md: its second macroblock, its third, which reads base column 1, and its log.
     ∷ call clip (ofVector (pos 3) (minus 8) ++ ofVector (pos 7) (minus 8)) (pos 1) (pos 0) 77 (inherits Vert (quarters S8x8 S4x8 S8x8 S4x8) clipWords)
+    ∷ call clip (ofVector (pos 3) (minus 8) ++ ofVector (pos 7) (minus 8)) (pos 2) (pos 0) 77
+    (record { reply = Answered (Inherited (record { class = Corner; column = 1; row = 0 }) S16x16); words = ofVector (pos 11) (minus 8) })
     ∷ log clip (clipRecord (pos 3) ∷ clipRecord (pos 7) ∷ []) clipLog
     ∷ []
 
@@ -375,21 +377,28 @@ zeros (suc n) t = 48 ∷ 32 ∷ zeros n t
 abbrev pub mbLineText : List ℕ
 mbLineText = 40 ∷ 109 ∷ 98 ∷ 32 ∷ 48 ∷ 32 ∷ 40 ∷ zeros 3 (32 ∷ 40 ∷ zeros 7 (32 ∷ 40 ∷ zeros 63 (41 ∷ 10 ∷ [])))
 
--- (base 16 16), (scaled 16 16), (at 0 0), (full 16 16), and that line
+-- (base 32 16), (scaled 48 18), (at 4 -2), (full 64 80), (intra), and that line
 abbrev pub mbText : List ℕ
 mbText =
-    (40 ∷ 98 ∷ 97 ∷ 115 ∷ 101 ∷ 32 ∷ 49 ∷ 54 ∷ 32 ∷ 49 ∷ 54 ∷ 41 ∷ 10 ∷ [])
-    ++ ((40 ∷ 115 ∷ 99 ∷ 97 ∷ 108 ∷ 101 ∷ 100 ∷ 32 ∷ 49 ∷ 54 ∷ 32 ∷ 49 ∷ 54 ∷ 41 ∷ 10 ∷ [])
-    ++ ((40 ∷ 97 ∷ 116 ∷ 32 ∷ 48 ∷ 32 ∷ 48 ∷ 41 ∷ 10 ∷ [])
-    ++ ((40 ∷ 102 ∷ 117 ∷ 108 ∷ 108 ∷ 32 ∷ 49 ∷ 54 ∷ 32 ∷ 49 ∷ 54 ∷ 41 ∷ 10 ∷ [])
-    ++ mbLineText)))
+    (40 ∷ 98 ∷ 97 ∷ 115 ∷ 101 ∷ 32 ∷ 51 ∷ 50 ∷ 32 ∷ 49 ∷ 54 ∷ 41 ∷ 10 ∷ [])
+    ++ ((40 ∷ 115 ∷ 99 ∷ 97 ∷ 108 ∷ 101 ∷ 100 ∷ 32 ∷ 52 ∷ 56 ∷ 32 ∷ 49 ∷ 56 ∷ 41 ∷ 10 ∷ [])
+    ++ ((40 ∷ 97 ∷ 116 ∷ 32 ∷ 52 ∷ 32 ∷ 45 ∷ 50 ∷ 41 ∷ 10 ∷ [])
+    ++ ((40 ∷ 102 ∷ 117 ∷ 108 ∷ 108 ∷ 32 ∷ 54 ∷ 52 ∷ 32 ∷ 56 ∷ 48 ∷ 41 ∷ 10 ∷ [])
+    ++ ((40 ∷ 105 ∷ 110 ∷ 116 ∷ 114 ∷ 97 ∷ 41 ∷ 10 ∷ [])
+    ++ mbLineText))))
+
+abbrev pub mbNumbers : Numbers
+mbNumbers = by (axis (pos 32) (pos 48) (pos 4) (pos 64)) (axis (pos 16) (pos 18) (minus 2) (pos 80))
+
+abbrev pub mbEntries : List Entry
+mbEntries = entry intra [] ∷ entry mb (replicate 77 (pos 0)) ∷ []
 
 -- What is known of texts, without a reader (crate grammar has the Whole case and a table of places)
 pub record TextsHold : Type 0 where
-  -- the log of the text with an (mb ..) line is (refused 8 0)
-  pub mb-log : LogOf mbText (refusedLog 8 0)
-  -- (intra), (whole (0 0) (0 0 0 0)) and (note)
-  pub intra-line : LineOf intraLine [] (40 ∷ 105 ∷ 110 ∷ 116 ∷ 114 ∷ 97 ∷ 41 ∷ 10 ∷ [])
+  -- a text with an (mb ..) line, what stands in it, and its log, (refused 8 1)
+  pub mb-text : Text mbNumbers mbEntries mbText
+  pub mb-log : LogOf mbText (refusedLog 8 1)
+  -- (whole (0 0) (0 0 0 0)) and (note)
   pub whole-line : LineOf wholeLine (replicate 6 (pos 0)) (40 ∷ 119 ∷ 104 ∷ 111 ∷ 108 ∷ 101 ∷ 32 ∷ 40 ∷ zeros 1 (32 ∷ 40 ∷ zeros 3 (41 ∷ 10 ∷ [])))
   pub note-line : Note (40 ∷ 110 ∷ 111 ∷ 116 ∷ 101 ∷ 41 ∷ 10 ∷ [])
   -- 65,536 bytes are not too many, 65,537 are, whatever else is wrong with them;
