@@ -37,12 +37,12 @@ use Rattle.definitions.proofs.Steps.{resolved-settled}
 use Rattle.definitions.proofs.Records.{each16, laid-types, laid-motion}
 
 -- two answers of different sorts are not the same
-sort : Answer → ℕ
+unfoldable pub sort : Answer → ℕ
 sort Outside = 0
 sort (Intra n) = 1
 sort (Inherited n s) = 2
 
-other-sort : {a b : Answer} → a ≡ b → (sort a ≡ sort b → ⊥) → ⊥
+pub other-sort : {a b : Answer} → a ≡ b → (sort a ≡ sort b → ⊥) → ⊥
 other-sort e f = f (ap sort e)
 
 -- a record says the split that it was laid out by

@@ -1,8 +1,8 @@
 -- On well-formed bases step 2 gives the same with and without step 1 before it, so that no output shows step 1: a block that reads intra uses no list, and step 2
 -- gives it what step 1 would. Assumes zeroPrediction.
-use Prim.Native.Nat.{ℕ, zero, suc, _+_, _*_, _/_, _%_, _<_}
+use Prim.Native.Nat.{ℕ, _<_}
 use mathlib.Core.Path.{_≡_, refl, sym, ap, subst, _∙_}
-use mathlib.Core.Bool.{Bool, true, false, not, _&&_, _||_, true≢false}
+use mathlib.Core.Bool.{Bool, true, false, _&&_, true≢false}
 use mathlib.Core.List.{List, [], _∷_}
 use native.Mathlib.Nat.{le-antisymm}
 use native.Mathlib.Omega.{arith}
@@ -13,11 +13,11 @@ use lib.Signed.{_≤ℤ_}
 use borrow.Author.Tests.{eqb-true}
 use Rattle.definitions.specs.declared.Prediction.{Prediction}
 use Rattle.definitions.specs.declared.Motion.{Motion}
-use Rattle.definitions.specs.Basics.{pick, minus, eqZ, allBelow, four}
+use Rattle.definitions.specs.Basics.{pick, eqZ, allBelow, four}
 use Rattle.definitions.specs.Record.{used}
 use Rattle.definitions.specs.Inheriting.{zeroPrediction, zeroMotion, source, filled, referenceAt, lowest, having, withReference, unused, mergedList, merged, someOf}
 use Rattle.definitions.specs.Answer.{unusedMotion}
-use Rattle.definitions.proofs.Choices.{yes, no, implies, implied, both-true, and-intro, below-true, below-intro, eqZ-true, each, four-at, four-same}
+use Rattle.definitions.proofs.Choices.{yes, no, implies, implied, both-true, below-true, below-intro, eqZ-true, each, four-at, four-same}
 use Rattle.definitions.proofs.Steps.{source-below, having-some, lowest-under, vector-had, not-used}
 
 ≤ℤ-antisym : (a b : ℤ) → a ≤ℤ b → b ≤ℤ a → a ≡ b

@@ -1,17 +1,17 @@
 -- The examples of texts of specs/Unstarred: written out by the grammar's own rules. Assumes nothing.
 use Prim.Native.Nat.{ℕ, zero, suc, _*_, _-_, _≤_}
 use mathlib.Core.Path.{_≡_, refl}
-use mathlib.Core.List.{List, [], _∷_, _++_}
+use mathlib.Core.List.{List, [], _∷_}
 use native.Mathlib.Omega.{arith}
 use lib.IntN.{ℤ, pos}
-use lib.ListN.{length, replicate}
+use lib.ListN.{length}
 use Rattle.definitions.specs.declared.TextReply.{TextReply}
 use Rattle.definitions.specs.declared.TextReply.the-variants.{Refused as NotRead}
 use Rattle.definitions.specs.Basics.{pick, minus, allBelow, upTo}
 use Rattle.definitions.specs.Record.{recordWords, laidOut, recordAt, rule1, rule2, rule3, rule4, rule5, rule6, firstBroken}
 use Rattle.definitions.specs.Refusals.{refusal, geometryTests, recordTests}
-use Rattle.definitions.specs.Text.{Digit, All, none, each, valued, nought, digits, Number, unsigned, negative, close, Note, note, Part, byte, spaced, ended, Form, nothing, isByte, isSpaced, isEnded, bytes, numbers, Kind, baseLine, scaledLine, atLine, fullLine, mbLine, LineOf, Notes, Heads, noHead, head, mb, Entry, Records, noRecord, aRecord, Text, textRecords, Reading, notRead, readAs, Reads, tooLong, broken, tooMany, read, TextAnswer, wrongWords, refused, given}
-use Rattle.definitions.specs.Log.{digitsIn, decimal, lineOf, refusedLine, programTests, LogOf}
+use Rattle.definitions.specs.Text.{Digit, none, each, valued, nought, digits, Number, unsigned, negative, close, note, Part, Form, nothing, isByte, isSpaced, isEnded, numbers, mbLine, LineOf, Notes, noHead, head, noRecord, aRecord, Text, textRecords, Reading, notRead, readAs, Reads, tooLong, broken, tooMany, read, TextAnswer, wrongWords, refused, given}
+use Rattle.definitions.specs.Log.{digitsIn, decimal, lineOf, refusedLine, programTests}
 use Rattle.definitions.specs.Unstarred.{zeros, mbLineText, mbText, mbNumbers, mbEntries, TextsHold}
 
 -- 0, numbers of two digits, 4 and −2

@@ -1,5 +1,5 @@
 -- A written record as a motion record: its first broken rule, and that each block uses a list (specs/Written). Assumes nothing.
-use Prim.Native.Nat.{ℕ, zero, suc, _+_, _-_, _*_, _/_, _%_, _≤_, _<_}
+use Prim.Native.Nat.{ℕ, zero, suc, _+_, _-_, _*_, _/_, _≤_, _<_}
 use mathlib.Core.Path.{_≡_, refl, sym, ap, subst, _∙_}
 use mathlib.Core.Bool.{Bool, true, false, not, _&&_, _||_}
 use mathlib.Core.List.{List, []}
@@ -19,10 +19,8 @@ use Rattle.definitions.specs.declared.SubSplit.the-variants.{S8x8, S8x4,
 use Rattle.definitions.specs.declared.Split.{Split}
 use Rattle.definitions.specs.declared.Split.the-variants.{S16x16, S16x8, S8x16, S8x8 as Quarters}
 use Rattle.definitions.specs.declared.Numbers.{Numbers}
-use Rattle.definitions.specs.declared.Origin.{Origin}
 use Rattle.definitions.specs.declared.Answer.{Answer}
 use Rattle.definitions.specs.declared.Answer.the-variants.{Outside, Intra, Inherited}
-use Rattle.definitions.specs.declared.Verdict.the-variants.{Accepted}
 use Rattle.definitions.specs.declared.MacroblockReply.{MacroblockReply}
 use Rattle.definitions.specs.Basics.{pick, minus, eqZ, between, allBelow, upTo, four}
 use Rattle.definitions.specs.Geometry.{axesOf, baseSize, scaledSize, inside}
@@ -30,12 +28,11 @@ use Rattle.definitions.specs.Accepted.{Sized}
 use Rattle.definitions.specs.BlockMap.{addressRead, blockRead}
 use Rattle.definitions.specs.Blocks.{quadrantOf, inQuadrant, rasterOf}
 use Rattle.definitions.specs.Splits.{oneEach}
-use Rattle.definitions.specs.Record.{recordAt, typeOf, subTypeOf, referenceOf, vectorXOf, vectorYOf, isIntra, motionOf, used, typeNumber, subTypeNumber, subSplitOf, splitSaid, rule1, rule2, rule3, rule4, rule5, rule6, firstBroken, vectorWord, wellFormed, laidOut, allOne}
-use Rattle.definitions.specs.Inheriting.{readsIntra, setOf, marked, intraSet, zeroMotion, at, motionAt, gathered, unused, clearOf, filled, merged, liveOf, copied, resolved, scaledWord, scaledPrediction, scaledMotion, inheritedMotions, chosen}
+use Rattle.definitions.specs.Record.{recordAt, referenceOf, vectorXOf, vectorYOf, isIntra, motionOf, used, typeNumber, subTypeNumber, rule1, rule2, rule3, rule4, rule5, rule6, firstBroken, vectorWord, wellFormed, laidOut, allOne}
+use Rattle.definitions.specs.Inheriting.{readsIntra, marked, intraSet, zeroMotion, at, motionAt, gathered, unused, clearOf, filled, merged, liveOf, copied, resolved, scaledWord, scaledPrediction, scaledMotion, inheritedMotions, chosen}
 use Rattle.definitions.specs.Answer.{originAt, dividedBy, unusedMotion, withoutMotion, writtenFor, madeOf}
-use Rattle.definitions.specs.Refusals.{geometryVerdict}
-use Rattle.definitions.specs.Calls.{Outcome, macroblockCall}
-use Rattle.definitions.specs.Demand3.{SinglyGives, Case}
+use Rattle.definitions.specs.Calls.{Outcome}
+use Rattle.definitions.specs.Demand3.{Case}
 use Rattle.definitions.specs.Written.{vectorsInRange, AsRecord, WrittenEntire, withoutStep1, Step1Unseen}
 use Rattle.definitions.proofs.Choices.{yes, no, and-intro, both-true, or-left, or-right, eqZ-true, four-at, four-same, below-true, below-intro, below-same}
 use Rattle.definitions.proofs.Rounding.{range}
@@ -43,11 +40,11 @@ use Rattle.definitions.proofs.Accepted.{accepted-axes, across-inside, d
 use Rattle.definitions.proofs.Addresses.{address-named, address-below}
 use Rattle.definitions.proofs.Steps.{Both, usesList, resolved-keeps, resolved-settled, resolved-uses, not-used}
 use Rattle.definitions.proofs.StepOne.{unseen}
-use Rattle.definitions.proofs.Records.{References, raster-below, raster-motion, raster-is, laid-type, laid-sub-type, laid-references, laid-vectors}
+use Rattle.definitions.proofs.Records.{References, raster-below, raster-motion, laid-references, laid-vectors}
 use Rattle.definitions.proofs.Formed.{rules-of, vectors-of}
 use Rattle.definitions.proofs.Sets.{set-below, intra-bit}
 use Rattle.definitions.proofs.Answers.{Decided, is-outside, is-intra, is-inherited, decided}
-use Rattle.definitions.proofs.Promises.{motions-written, fewest-written, split-said}
+use Rattle.definitions.proofs.Promises.{sort, other-sort, motions-written, fewest-written, split-said}
 use Rattle.definitions.proofs.Demand.{call-accepted, gives-made}
 
 -- ---- ranges
@@ -390,14 +387,6 @@ module _ (limit : ℕ) (g : Axes) (base : List ℤ) (column row : ℕ) (formed :
       written-rule o any = left-over any written (said-1 s (motionAt motions)) (said-2 s (motionAt motions)) written-3 written-4 (written-6 o) (written-5 any)
 
 -- ---- what is made in a case
-sort : Answer → ℕ
-sort Outside = 0
-sort (Intra o) = 1
-sort (Inherited o s) = 2
-
-other-sort : {a b : Answer} → a ≡ b → (sort a ≡ sort b → ⊥) → ⊥
-other-sort e f = f (ap sort e)
-
 module _ (limit : ℕ) (n : Numbers) (column row : ℕ) (base : List ℤ) (case : Case limit n column row base) where
   abbrev axes : Axes
   axes = axesOf n

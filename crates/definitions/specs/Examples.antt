@@ -1,5 +1,5 @@
 -- "Bench examples" of document 01: the starred ones, in one table, proved by one statement; the Whole case; and a table of refusal 9's places. The Whole case from its
--- text on, and the places, are proved in crate grammar (proofs/Examples).
+-- text on, and the places, are proved in crate grammar (proofs/Examples). Unstarred has a table of other examples.
 use Prim.Native.Nat.{ℕ}
 use mathlib.Core.Path.{_≡_, refl}
 use mathlib.Core.Bool.{Bool, true, false, not, _&&_}
