@@ -1,5 +1,5 @@
 -- Examples that document 01 does not star, in one table beside the starred one (Examples): each definition is held by one, so that a definition and its code changed
--- alike are refused. Records are given by their words, and what is expected by numbers worked out by hand.
+-- alike are refused. Records are given by their words, and what is expected by numbers that were worked out apart from these definitions.
 use Prim.Native.Nat.{ℕ, zero, suc, _+_}
 use mathlib.Core.Path.{_≡_, refl}
 use mathlib.Core.List.{List, [], _∷_, _++_, map}
