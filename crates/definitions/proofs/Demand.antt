@@ -39,7 +39,7 @@ use Rattle.definitions.proofs.Sameness.{same-made}
 use Rattle.definitions.proofs.Addresses.{address-named, address-below}
 use Rattle.definitions.proofs.Pieces.{covered}
 use Rattle.definitions.proofs.Records.{laid-length}
-use Rattle.definitions.proofs.Promises.{origin-right, inherited-when, intra-when, outside-when, nothing-written, motions-written, fewest-written, split-written, columns-below, rows-below}
+use Rattle.definitions.proofs.Promises.{origin-right, inherited-when, intra-when, outside-when, nothing-written, motions-written, fewest-written, split-written, said-written, columns-below, rows-below}
 
 -- ---- bases that agree on some records
 -- the records at the addresses are the same
@@ -91,6 +91,7 @@ module _ (n : Numbers) (column row : ℕ) (accepted : geometryVerdict n ≡ Acce
         motions = motions-written axes base column row;
         rivals = λ m s e. fewest-written axes base column row d m s e .more;
         says-split = split-written axes base column row;
+        split-said = said-written axes base column row;
       }
 
 -- ---- what is written, and when a column (row) lies in the picture

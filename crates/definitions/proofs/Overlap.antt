@@ -23,7 +23,7 @@ use Rattle.definitions.proofs.Choices.{yes, both-true, and-intro, below
 use Rattle.definitions.proofs.Positions.{near}
 use Rattle.definitions.proofs.Map.{foursBefore, foursBehind, digitAt, twoAt, digits-is, two-is, f-is, not-first}
 
-times : (k : ℕ) {m n : ℕ} → m ≡ n → m * k ≡ n * k
+pub times : (k : ℕ) {m n : ℕ} → m ≡ n → m * k ≡ n * k
 times k e = ap (λ (x : ℕ). x * k) e
 
 -- ---- the bounds
@@ -164,7 +164,7 @@ fits b s c k x y i j q a n e t =
 abbrev shift : Bool → Bool → ℕ
 shift k-even two = pick k-even (pick two 0 4) 2
 
-abbrev ahead : Bool → ℕ → ℕ → ℕ → ℕ
+abbrev pub ahead : Bool → ℕ → ℕ → ℕ → ℕ
 ahead k-even f g i = digitAt k-even f g i + shift k-even (twoAt k-even f g)
 
 first-block : (k : ℕ) (t u : Bool) → even k ≡ t → (u ≡ true → t ≡ true → 2 ≤ k) → 4 * pick (t && u) (k / 2 - 1) (k / 2) + 4 ≡ 2 * k + shift t u
@@ -173,7 +173,7 @@ first-block k true true e h = omega (arith, h refl refl, eqb-true (k % 2) 0 e)
 first-block k true false e h = omega (arith, eqb-true (k % 2) 0 e)
 first-block k false u e h = omega (arith, eqb-false (k % 2) 0 e)
 
-reads : (b s c i : ℕ) → Inside b s c → coordinateOf b s c i + 4 ≡ 2 * kOf b s c + ahead (even (kOf b s c)) (foursBefore b s c) (foursBehind b s c) i
+pub reads : (b s c i : ℕ) → Inside b s c → coordinateOf b s c i + 4 ≡ 2 * kOf b s c + ahead (even (kOf b s c)) (foursBefore b s c) (foursBehind b s c) i
 unfolding coordinateOf
 reads b s c i a =
     let digit = ap (λ (ds : List ℕ). getD ds i 0) (digits-is b s c a) in

@@ -12,19 +12,23 @@ use lib.ListN.{getD, take}
 use Rattle.definitions.specs.declared.Axes.{Axes}
 use Rattle.definitions.specs.declared.Origin.{Origin}
 use Rattle.definitions.specs.declared.Motion.{Motion}
+use Rattle.definitions.specs.declared.SubSplit.{SubSplit}
+use Rattle.definitions.specs.declared.SubSplit.the-variants.{S8x8, S8x4, S4x8, S4x4}
 use Rattle.definitions.specs.declared.Split.{Split}
 use Rattle.definitions.specs.declared.Split.the-variants.{S16x16, S16x8, S8x16, S8x8 as Quarters}
 use Rattle.definitions.specs.declared.Answer.{Answer}
 use Rattle.definitions.specs.declared.Answer.the-variants.{Outside, Intra, Inherited}
+use Rattle.definitions.specs.Basics.{pick, upTo}
 use Rattle.definitions.specs.Accepted.{Inside}
 use Rattle.definitions.specs.Geometry.{baseSize, scaledSize, cOf, sampleOf, macroblocks, inside}
 use Rattle.definitions.specs.Splits.{oneEach, count}
-use Rattle.definitions.specs.Record.{motionOf, typeNumber, allOne}
-use Rattle.definitions.specs.Inheriting.{intraSet, gathered, resolved, at, motionAt, scaledPrediction, scaledMotion, inheritedMotions, chosen}
+use Rattle.definitions.specs.Record.{motionOf, typeNumber, subTypeNumber, subSplitOf, splitSaid, laidOut, allOne}
+use Rattle.definitions.specs.Inheriting.{blocksReadingIntra, intraSet, gathered, resolved, at, motionAt, scaledPrediction, scaledMotion, inheritedMotions, chosen}
 use Rattle.definitions.specs.Answer.{answerOrigin, columnsNamed, rowsNamed, subTypes, dividedBy, unusedMotion, writtenFor}
 use Rattle.definitions.specs.Demand3.{originByPaper}
 use Rattle.definitions.specs.Blocks.{quadrantOf, rasterOf}
 use Rattle.definitions.proofs.Choices.{yes, no}
+use Rattle.definitions.proofs.Sets.{intra-count}
 use Rattle.definitions.proofs.Answers.{Decided, is-outside, is-intra, is-inherited}
 use Rattle.definitions.proofs.Addresses.{column-below, row-below}
 use Rattle.definitions.proofs.Blocks.{one-same}
@@ -33,13 +37,29 @@ use Rattle.definitions.proofs.Steps.{resolved-settled}
 use Rattle.definitions.proofs.Records.{each16, laid-types, laid-motion}
 
 -- two answers of different sorts are not the same
-sort : Answer → ℕ
+unfoldable pub sort : Answer → ℕ
 sort Outside = 0
 sort (Intra n) = 1
 sort (Inherited n s) = 2
 
-other-sort : {a b : Answer} → a ≡ b → (sort a ≡ sort b → ⊥) → ⊥
+pub other-sort : {a b : Answer} → a ≡ b → (sort a ≡ sort b → ⊥) → ⊥
 other-sort e f = f (ap sort e)
+
+-- a record says the split that it was laid out by
+sub-said : (t : SubSplit) → subSplitOf (pos (subTypeNumber t)) ≡ t
+unfolding pick
+sub-said S8x8 = refl
+sub-said S8x4 = refl
+sub-said S4x8 = refl
+sub-said S4x4 = refl
+
+pub split-said : (s : Split) (m : ℕ → Motion) → splitSaid (laidOut (dividedBy s m)) ≡ s
+unfolding pick splitSaid laidOut upTo
+split-said S16x16 m = refl
+split-said S16x8 m = refl
+split-said S8x16 m = refl
+split-said (Quarters t) m =
+    λ i. Quarters (record { a = sub-said (t .a) i; b = sub-said (t .b) i; c = sub-said (t .c) i; d = sub-said (t .d) i })
 
 module _ (g : Axes) (base : List ℤ) (column row : ℕ) where
   abbrev set : ℕ
@@ -55,17 +75,20 @@ module _ (g : Axes) (base : List ℤ) (column row : ℕ) where
   origin-right (is-inherited e m) = sym (yes _ _ e)
 
   -- the sort
-  pub inherited-when : {answer : Answer} → Decided g base column row answer → ((o : Origin) × (s : Split) × (answer ≡ Inherited o s)) ↔ ((inside g column row ≡ true) × (ones set ≤ 8))
+  count-is : ones set ≡ blocksReadingIntra g base column row
+  count-is = intra-count g base column row
+
+  pub inherited-when : {answer : Answer} → Decided g base column row answer → ((o : Origin) × (s : Split) × (answer ≡ Inherited o s)) ↔ ((inside g column row ≡ true) × (blocksReadingIntra g base column row ≤ 8))
   unfolding sort
   inherited-when (is-outside e) = (λ w. absurd (other-sort (w .2) (λ q. omega arith)), λ w. absurd (true≢false (sym (w .0) ∙ e)))
-  inherited-when (is-intra e m) = (λ w. absurd (other-sort (w .2) (λ q. omega arith)), λ w. absurd (omega (arith, m, w .1)))
-  inherited-when (is-inherited e m) = (λ w. (e, m), λ w. (_, _, refl))
+  inherited-when (is-intra e m) = (λ w. absurd (other-sort (w .2) (λ q. omega arith)), λ w. absurd (omega (arith, count-is, m, w .1)))
+  inherited-when (is-inherited e m) = (λ w. (e, omega (arith, count-is, m)), λ w. (_, _, refl))
 
-  pub intra-when : {answer : Answer} → Decided g base column row answer → ((o : Origin) × (answer ≡ Intra o)) ↔ ((inside g column row ≡ true) × (9 ≤ ones set))
+  pub intra-when : {answer : Answer} → Decided g base column row answer → ((o : Origin) × (answer ≡ Intra o)) ↔ ((inside g column row ≡ true) × (9 ≤ blocksReadingIntra g base column row))
   unfolding sort
   intra-when (is-outside e) = (λ w. absurd (other-sort (w .1) (λ q. omega arith)), λ w. absurd (true≢false (sym (w .0) ∙ e)))
-  intra-when (is-intra e m) = (λ w. (e, m), λ w. (_, refl))
-  intra-when (is-inherited e m) = (λ w. absurd (other-sort (w .1) (λ q. omega arith)), λ w. absurd (omega (arith, m, w .1)))
+  intra-when (is-intra e m) = (λ w. (e, omega (arith, count-is, m)), λ w. (_, refl))
+  intra-when (is-inherited e m) = (λ w. absurd (other-sort (w .1) (λ q. omega arith)), λ w. absurd (omega (arith, count-is, m, w .1)))
 
   pub outside-when : {answer : Answer} → Decided g base column row answer → (answer ≡ Outside) ↔ (inside g column row ≡ false)
   unfolding sort
@@ -136,6 +159,10 @@ module _ (g : Axes) (base : List ℤ) (column row : ℕ) where
       types-are S16x8 = refl
       types-are S8x16 = refl
       types-are (Quarters t) = refl
+
+  pub said-written : {answer : Answer} → (o : Origin) (s : Split) → answer ≡ Inherited o s → splitSaid (writtenFor answer motions) ≡ s
+  unfolding writtenFor
+  said-written n s q = ap (λ (a : Answer). splitSaid (writtenFor a motions)) q ∙ split-said s (motionAt motions)
 
   -- the base macroblocks that are named lie inside the base
   module _ (h : inside g column row ≡ true → Inside (baseSize (g .horizontal)) (scaledSize (g .horizontal)) (cOf (g .horizontal) (sampleOf column))) (v : inside g column row ≡ true → Inside (baseSize (g .vertical)) (scaledSize (g .vertical)) (cOf (g .vertical) (sampleOf row))) where

@@ -31,7 +31,7 @@ pub diagonal-below : (k : ℕ) → k < 4 → diagonalNeighbour k < 4
 diagonal-below = each (λ k. diagonalNeighbour k < 4) (omega arith) (omega arith) (omega arith) (omega arith)
 
 -- The source of a place is one of the four places, and it is good if any of the four is.
-source-below : (g : List Bool) (k : ℕ) → k < 4 → source g k < 4
+pub source-below : (g : List Bool) (k : ℕ) → k < 4 → source g k < 4
 unfolding source
 source-below g k h =
     let Below : ℕ → Type 0 = λ j. j < 4 in
@@ -50,7 +50,7 @@ none-near g =
     each (λ k. getD g k false ≡ false → getD g (horizontalNeighbour k) false ≡ false → getD g (verticalNeighbour k) false ≡ false → getD g (diagonalNeighbour k) false ≡ false → someOf g ≡ false)
     (λ a b c d. none-good g a b c d) (λ a b c d. none-good g b a d c) (λ a b c d. none-good g c d a b) (λ a b c d. none-good g d c b a)
 
-source-good : (g : List Bool) → someOf g ≡ true → (k : ℕ) → k < 4 → getD g (source g k) false ≡ true
+pub source-good : (g : List Bool) → someOf g ≡ true → (k : ℕ) → k < 4 → getD g (source g k) false ≡ true
 unfolding source
 source-good g e k h =
     let Good : ℕ → Type 0 = λ j. getD g j false ≡ true in
@@ -64,7 +64,7 @@ source-good g e k h =
 abbrev pub Under : ℤ → ℤ → Type 0
 Under x z = (used x ≡ true) × (x ≤ℤ z)
 
-≤ℤ-trans : (a b c : ℤ) → a ≤ℤ b → b ≤ℤ c → a ≤ℤ c
+pub ≤ℤ-trans : (a b c : ℤ) → a ≤ℤ b → b ≤ℤ c → a ≤ℤ c
 ≤ℤ-trans (pos a) (pos b) (pos c) h k = leZ-yes (le→leb a c (le-trans (leb→le a b (h .le)) (leb→le b c (k .le))))
 ≤ℤ-trans (pos a) (pos b) (negsuc c) h k = absurd (k .le)
 ≤ℤ-trans (pos a) (negsuc b) c h k = absurd (h .le)
@@ -172,7 +172,7 @@ module _ (p : List Prediction) (k : ℕ) (h : k < 4) where
       by false u = ap (λ (e : Prediction). e .reference) (merged-none u) ∙ sym (not-used (lowest p) u)
 
   -- the block from which a vector is taken had r, so all of that block's part of the list is taken
-  vector-had : lowest p ≡ referenceAt p vectorFrom
+  pub vector-had : lowest p ≡ referenceAt p vectorFrom
   unfolding having
   vector-had =
       let good = source-good (having p (lowest p)) (having-some p) k h in

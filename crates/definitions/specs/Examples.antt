@@ -1,5 +1,5 @@
 -- "Bench examples" of document 01: the starred ones, in one table, proved by one statement; the Whole case; and a table of refusal 9's places. The Whole case from its
--- text on, and the places, are proved in crate grammar (proofs/Examples).
+-- text on, and the places, are proved in crate grammar (proofs/Examples). Unstarred has a table of other examples.
 use Prim.Native.Nat.{ℕ}
 use mathlib.Core.Path.{_≡_, refl}
 use mathlib.Core.Bool.{Bool, true, false, not, _&&_}
@@ -14,12 +14,12 @@ use Rattle.definitions.specs.declared.Numbers.{Numbers}
 use Rattle.definitions.specs.declared.Prediction.{Prediction}
 use Rattle.definitions.specs.declared.MacroblockReply.{MacroblockReply}
 use Rattle.definitions.specs.declared.MacroblockReply.the-variants.{Answered, Refused}
-use Rattle.definitions.specs.Basics.{pick, minus, eqZ, allBelow, allOf, upTo}
+use Rattle.definitions.specs.Basics.{pick, minus, eqZ, allBelow, allOf, upTo, four}
 use Rattle.definitions.specs.Geometry.{axesOf, axisOf, insideAxis, cOf, mOf, nOf, fOf, twoOf, baseSize, scaledSize}
 use Rattle.definitions.specs.BlockMap.{digitsOf, coordinateOf, stepOf, addressRead, blockRead}
 use Rattle.definitions.specs.Splits.{sameMotion, samePrediction, alike, oneEach, fewestIn}
 use Rattle.definitions.specs.Record.{recordWords, recordAt, motionOf, splitSaid, rule1, rule2, rule3, rule4, rule5, rule6, firstBroken, narrow, laidOut, allOne}
-use Rattle.definitions.specs.Inheriting.{setOf, intraSet, gathered, source, clearOf, filled, lower, lowest, having, unused, zeroPrediction, mergedList, merged, someOf, liveOf, copiedFrom, copied, resolved, scaledWord, scaledPrediction, scaledMotion, inheritedMotions}
+use Rattle.definitions.specs.Inheriting.{setOf, intraSet, gathered, source, clearOf, filled, lower, lowest, having, unused, zeroPrediction, zeroMotion, mergedList, merged, someOf, liveOf, copiedFrom, copied, resolved, scaledWord, scaledPrediction, scaledMotion, inheritedMotions}
 use Rattle.definitions.specs.Answer.{originAt, answerOf, answerType, addressesOf, withoutMotion, writtenFor, madeOf}
 use Rattle.definitions.specs.Refusals.{geometryTests, recordTests, addressesRead}
 use Rattle.definitions.specs.Calls.{macroblockTests, macroblockCall, madeAt, countsOf}
@@ -75,7 +75,10 @@ holds (axis b s o p e) = seen (axisOf (axisFor b s o)) p e
 holds (word b s v w) = eqZ (scaledWord b s v) w
 holds (macroblock base members type) =
     eqb (ones (setFor base)) members && replyType (macroblockCall narrow centred base (pos 1) (pos 1) (replicate recordWords (pos 0)) .reply) type
-holds (fill base i k) = eqb (source (clearOf (setFor base) (quadrantOf i)) (inQuadrant i)) k
+holds (fill base i k) =
+    let before = getD (gathered (axesOf centred) base 1 1) (quadrantOf i) [] in
+    let after = filled (clearOf (setFor base) (quadrantOf i)) before in
+    sameMotion (getD after (inQuadrant i) zeroMotion) (getD before k zeroMotion)
 holds (merge p k) = allBelow 4 (λ j. samePrediction (getD (mergedList p) j zeroPrediction) (getD p k zeroPrediction))
 
 -- an intra record, and one of type 1
@@ -117,6 +120,12 @@ starred =
 pub starred-hold : T (allOf holds starred)
 unfolding allOf allBelow pick upTo insideAxis mOf nOf fOf twoOf columnsRead digitsOf coordinateOf stepOf addressRead blockRead sameMotion samePrediction alike oneEach fewestIn recordAt motionOf splitSaid rule1 rule2 rule3 rule4 rule5 rule6 firstBroken laidOut setOf intraSet gathered source clearOf filled lower lowest having mergedList merged someOf liveOf copiedFrom copied resolved scaledPrediction scaledMotion inheritedMotions originAt answerOf addressesOf writtenFor madeOf geometryTests recordTests addressesRead macroblockTests macroblockCall ones onesIn
 starred-hold = tt
+
+-- The last of them holds for any vectors.
+pub starred-merge : (x y : ℕ → ℤ)
+    → mergedList (four (λ k. record { reference = getD (pos 2 ∷ pos 1 ∷ pos 1 ∷ pos 0 ∷ []) k (pos 0); x = x k; y = y k })) ≡ four (λ k. record { reference = pos 0; x = x 3; y = y 3 })
+unfolding pick source lower lowest having mergedList
+starred-merge x y = refl
 
 -- Whole case ("Sync text and log"): base 16 16, scaled 32 32, at 0 0, full 48 32, one record (whole (0 -1) (4 -8 0 0))
 abbrev wholeAxis : ℕ → AxisNumbers

@@ -11,12 +11,20 @@ use Rattle.definitions.specs.declared.Axes.{Axes}
 use Rattle.definitions.specs.declared.Prediction.{Prediction}
 use Rattle.definitions.specs.declared.Motion.{Motion}
 use Rattle.definitions.specs.declared.Split.{Split}
-use Rattle.definitions.specs.Basics.{pick, minus, eqZ, signed, four}
+use Rattle.definitions.specs.Basics.{pick, minus, eqZ, signed, howMany, four}
 use Rattle.definitions.specs.Geometry.{baseSize, scaledSize}
 use Rattle.definitions.specs.BlockMap.{addressRead, blockRead}
 use Rattle.definitions.specs.Record.{recordAt, isIntra, motionOf, used}
 use Rattle.definitions.specs.Blocks.{quadrantOf, inQuadrant, rasterOf, horizontalNeighbour, verticalNeighbour, diagonalNeighbour}
 use Rattle.definitions.specs.Splits.{splits, fewestIn}
+
+-- block i of the macroblock reads an intra macroblock
+abbrev pub readsIntra : Axes → List ℤ → ℕ → ℕ → ℕ → Bool
+readsIntra g base column row i = isIntra (recordAt base (addressRead g column row i))
+
+-- how many of the sixteen blocks do
+unfoldable pub blocksReadingIntra : Axes → List ℤ → ℕ → ℕ → ℕ
+blocksReadingIntra g base column row = howMany 16 (readsIntra g base column row)
 
 -- A sixteen-bit set marks the blocks that read intra macroblocks: bit i stands for block i.
 unfoldable pub setOf : ℕ → (ℕ → Bool) → ℕ
@@ -27,9 +35,9 @@ abbrev pub marked : ℕ → ℕ → Bool
 marked set i = eqb (set / 2 ^ i % 2) 1
 
 unfoldable pub intraSet : Axes → List ℤ → ℕ → ℕ → ℕ
-intraSet g base column row = setOf 16 (λ i. isIntra (recordAt base (addressRead g column row i)))
+intraSet g base column row = setOf 16 (readsIntra g base column row)
 
--- Its count of members decides: nine or more, the answer is intra.
+-- Its count of members decides: nine or more, the answer is intra. (The count is blocksReadingIntra, and a bit is its block's: proofs/Sets.)
 abbrev pub mostlyIntra : ℕ → Bool
 mostlyIntra set = leb 9 (ones set)
 

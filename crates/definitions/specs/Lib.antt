@@ -16,5 +16,7 @@ pub mod Session
 pub mod Text
 pub mod Log
 pub mod Demand3
+pub mod Written
 pub mod Examples
+pub mod Unstarred
 pub mod Cases

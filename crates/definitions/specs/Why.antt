@@ -1,14 +1,44 @@
--- Why the rounding of step 4 is right, and why what the block map reads belongs to the block: the two overlap. (That alone does not single out a digit of the map;
--- proofs/Map has its other laws.) WhyEntire gathers these reasons, and proofs/Why shows them. No other definition cites them.
-use Prim.Native.Nat.{ℕ, _+_, _*_, _-_, _<_, _≤_}
+-- Why the table (the block map) and the rounding of step 4 are right. The table: on its own grid each block reads the base block under its centre, which singles out
+-- every digit; and in the window as it is seen the two overlap. WhyEntire gathers these reasons, and proofs/Why shows them. No other definition cites them.
+use Prim.Native.Nat.{ℕ, _+_, _*_, _-_, _/_, _%_, _<_, _≤_}
 use mathlib.Core.Path.{_≡_}
 use lib.IntN.{ℤ, pos, negℤ, natAbs, _*ℤ_, _-ℤ_}
 use lib.Signed.{_≤ℤ_}
 use Rattle.definitions.specs.Basics.{minus}
 use Rattle.definitions.specs.Accepted.{Sized, Inside}
+use Rattle.definitions.specs.Geometry.{kOf, d1Of, d2Of, roundedOf}
 use Rattle.definitions.specs.BlockMap.{coordinateOf}
 use Rattle.definitions.specs.Inheriting.{scaledWord}
 
+-- ---- The table
+-- The map knows the base's 8 by 8 block k by D1 and D2, its two ends counted from the macroblock's centre and rounded to multiples of four, which is the grid of the
+-- macroblock's own blocks. Each of its two 4 by 4 blocks is then w = (D2 − D1)/2 wide,
+abbrev pub widthOf : ℕ → ℕ → ℕ → ℕ
+widthOf b s c = natAbs (roundedOf (d2Of b s c) -ℤ roundedOf (d1Of b s c)) / 2
+
+-- and so are their neighbours: the base block at 4 by 4 coordinate q covers q·w to (q + 1)·w. Block 2k starts at D1, so the macroblock's centre lies at 2k·w − D1.
+-- (D1 ≤ 0 ≤ D2, so that both differences are what they are without natAbs.)
+abbrev pub middleOf : ℕ → ℕ → ℕ → ℕ
+middleOf b s c = natAbs (pos (2 * kOf b s c * widthOf b s c) -ℤ roundedOf (d1Of b s c))
+
+-- The centre of block i of 0..3 along an axis is 4i − 6 from the macroblock's centre, here m. (Inside, m is not below 8, so that no difference here or in Overlaps is
+-- below 0.)
+abbrev pub centreOf : ℕ → ℕ → ℕ
+centreOf m i = m + 4 * i - 6
+
+-- Base block q, of blocks w wide, lies under x, the centre of block i. Where x is on the border of two, q is the one on the side of the middle of block i's 8 by 8
+-- quadrant: the one behind x where i is even, the one before x where i is odd.
+pub record Under (w q i x : ℕ) : Type 0 where
+  pub even : i % 2 ≡ 0 → (q * w ≤ x) × (x < (q + 1) * w)
+  pub odd : i % 2 ≡ 1 → (q * w < x) × (x ≤ (q + 1) * w)
+
+-- In the window as it is seen, unrounded, with c for the macroblock's centre: the block with centre x covers x − 2 to x + 2. The base block at 4 by 4 coordinate q
+-- covers base samples 4q to 4(q + 1), so its scaled picture covers 4q·S/B to 4(q + 1)·S/B. The two overlap: each starts before the other ends. (Written times B.)
+pub record Overlaps (b s q x : ℕ) : Type 0 where
+  pub starts : 4 * q * s < (x + 2) * b
+  pub ends : (x - 2) * b < 4 * (q + 1) * s
+
+-- ---- The rounding
 -- A vector word v, scaled, would be v·S/B, which need not be whole. How far a whole number v′ is from it, times B: |B·v′ − S·v|
 abbrev pub errorOf : ℕ → ℕ → ℤ → ℤ → ℕ
 errorOf b s v v′ = natAbs (pos b *ℤ v′ -ℤ pos s *ℤ v)
@@ -19,19 +49,18 @@ pub record Nearest (b s : ℕ) (v v′ : ℤ) : Type 0 where
   pub near : 2 * errorOf b s v v′ ≤ b
   pub half : 2 * errorOf b s v v′ ≡ b → natAbs v * s < natAbs v′ * b
 
--- The centre of block i of 0..3 along an axis, in enhancement samples from the window's start as c is. c is the macroblock's middle. (Inside it
--- is not below 8, so that no difference here or in Overlaps is below 0.)
-abbrev pub centreOf : ℕ → ℕ → ℕ
-centreOf c i = c + 4 * i - 6
-
--- The block with centre x covers x − 2 to x + 2. The base block at 4 by 4 coordinate q covers base samples 4q to 4(q + 1), so its scaled picture covers
--- 4q·S/B to 4(q + 1)·S/B. The two overlap: each starts before the other ends. (Written times B.)
-pub record Overlaps (b s q x : ℕ) : Type 0 where
-  pub starts : 4 * q * s < (x + 2) * b
-  pub ends : (x - 2) * b < 4 * (q + 1) * s
-
--- For every accepted B and S, every vector word v, and every macroblock inside
+-- ---- The reasons
+-- For every accepted B and S, every macroblock inside with block i along an axis, and every vector word v
 pub record WhyEntire : Type 0 where
+  -- the base block that a block reads lies under its centre,
+  pub under : (b s c i : ℕ) → Inside b s c → i < 4 → Under (widthOf b s c) (coordinateOf b s c i) i (centreOf (middleOf b s c) i)
+  -- and is the only one that does;
+  pub only-under : (b s c i q : ℕ) → Inside b s c → i < 4 → Under (widthOf b s c) q i (centreOf (middleOf b s c) i) → q ≡ coordinateOf b s c i
+  -- so a formula gives it, with no table, no F and no class in it: with D1 = −4i and D2 = 4j, block n reads 2k + ⌊(2n − 3 + 2i)/(i + j)⌋ where n is even, and
+  -- 2k + ⌈(2n − 3 + 2i)/(i + j)⌉ − 1 where n is odd. (w is 2(i + j), the centre 2k·w + 4i + 4n − 6; ⌈x/w⌉ − 1 is ⌊(x − 1)/w⌋.)
+  pub formula : (b s c n : ℕ) → Inside b s c → n < 4 → coordinateOf b s c n ≡ (centreOf (middleOf b s c) n - n % 2) / widthOf b s c
+  -- in the window as it is seen, the block overlaps the scaled picture of the base block that it reads;
+  pub overlap : (b s c i : ℕ) → Inside b s c → i < 4 → Overlaps b s (coordinateOf b s c i) (centreOf c i)
   -- the scaled word is the whole number nearest to v·S/B,
   pub nearest : (b s : ℕ) (v : ℤ) → Sized b s → Nearest b s v (scaledWord b s v)
   -- and the only one;
@@ -41,5 +70,3 @@ pub record WhyEntire : Type 0 where
   -- a word of −limit..limit − 1 becomes one of −2·limit..2·(limit − 1), for rule 5's limit and any other;
   pub range : (b s limit : ℕ) (v : ℤ) → Sized b s → minus limit ≤ℤ v → v ≤ℤ pos (limit - 1)
       → (minus (2 * limit) ≤ℤ scaledWord b s v) × (scaledWord b s v ≤ℤ pos (2 * (limit - 1)))
-  -- each block along an axis overlaps the scaled picture of the base block that it reads.
-  pub overlap : (b s c i : ℕ) → Inside b s c → i < 4 → Overlaps b s (coordinateOf b s c i) (centreOf c i)

@@ -1,0 +1,88 @@
+-- The examples of texts of specs/Unstarred: written out by the grammar's own rules. Assumes nothing.
+use Prim.Native.Nat.{ℕ, zero, suc, _*_, _-_, _≤_}
+use mathlib.Core.Path.{_≡_, refl}
+use mathlib.Core.List.{List, [], _∷_}
+use native.Mathlib.Omega.{arith}
+use lib.IntN.{ℤ, pos}
+use lib.ListN.{length}
+use Rattle.definitions.specs.declared.TextReply.{TextReply}
+use Rattle.definitions.specs.declared.TextReply.the-variants.{Refused as NotRead}
+use Rattle.definitions.specs.Basics.{pick, minus, allBelow, upTo}
+use Rattle.definitions.specs.Record.{recordWords, laidOut, recordAt, rule1, rule2, rule3, rule4, rule5, rule6, firstBroken}
+use Rattle.definitions.specs.Refusals.{refusal, geometryTests, recordTests}
+use Rattle.definitions.specs.Text.{Digit, none, each, valued, nought, digits, Number, unsigned, negative, close, note, Part, Form, nothing, isByte, isSpaced, isEnded, numbers, mbLine, LineOf, Notes, noHead, head, noRecord, aRecord, Text, textRecords, Reading, notRead, readAs, Reads, tooLong, broken, tooMany, read, TextAnswer, wrongWords, refused, given}
+use Rattle.definitions.specs.Log.{digitsIn, decimal, lineOf, refusedLine, programTests}
+use Rattle.definitions.specs.Unstarred.{zeros, mbLineText, mbText, mbNumbers, mbEntries, TextsHold}
+
+-- 0, numbers of two digits, 4 and −2
+zero-is : Number (pos 0) (48 ∷ [])
+zero-is = unsigned {n = 0} (omega arith) nought
+
+two-digits : (c d : ℕ) → 49 ≤ c → c ≤ 57 → Digit d → valued (c - 48) (d ∷ []) ≤ 32767 → Number (pos (valued (c - 48) (d ∷ []))) (c ∷ d ∷ [])
+two-digits c d low high digit n = unsigned n (digits low high (each digit none))
+
+four-is : Number (pos 4) (52 ∷ [])
+four-is = unsigned {n = 4} (omega arith) (digits {c = 52} (omega arith) (omega arith) none)
+
+minus-two-is : Number (minus 2) (45 ∷ 50 ∷ [])
+minus-two-is = negative {n = 1} (omega arith) (digits {c = 50} (omega arith) (omega arith) none)
+
+abbrev zeroNumbers : ℕ → List ℤ → List ℤ
+zeroNumbers zero vs = pos 0 ∷ vs
+zeroNumbers (suc n) vs = pos 0 ∷ zeroNumbers n vs
+
+zeros-form : (n : ℕ) {ps : List Part} {vs : List ℤ} {t : List ℕ} → Form ps vs t → Form (numbers n ps) (zeroNumbers n vs) (zeros n t)
+zeros-form zero f = isEnded zero-is f
+zeros-form (suc n) f = isSpaced zero-is (zeros-form n f)
+
+mb-line : LineOf mbLine (pos 0 ∷ zeroNumbers 3 (zeroNumbers 7 (zeroNumbers 63 []))) mbLineText
+mb-line =
+    isByte (isByte (isByte (isByte (isSpaced zero-is (isByte
+    (zeros-form 3 (isByte (isByte (zeros-form 7 (isByte (isByte (zeros-form 63 (isByte (isByte nothing))))))))))))))
+
+mb-text : Text mbNumbers mbEntries mbText
+mb-text =
+    let n32 = two-digits 51 50 (omega arith) (omega arith) (omega arith, omega arith) (omega arith) in
+    let n16 = two-digits 49 54 (omega arith) (omega arith) (omega arith, omega arith) (omega arith) in
+    let n48 = two-digits 52 56 (omega arith) (omega arith) (omega arith, omega arith) (omega arith) in
+    let n18 = two-digits 49 56 (omega arith) (omega arith) (omega arith, omega arith) (omega arith) in
+    let n64 = two-digits 54 52 (omega arith) (omega arith) (omega arith, omega arith) (omega arith) in
+    let n80 = two-digits 56 48 (omega arith) (omega arith) (omega arith, omega arith) (omega arith) in
+    record {
+      top = _;
+      bottom = _;
+      heads =
+          head Notes.none (isByte (isByte (isByte (isByte (isByte (isByte (isSpaced n32 (isEnded n16 (isByte nothing)))))))))
+          (head Notes.none (isByte (isByte (isByte (isByte (isByte (isByte (isByte (isByte (isSpaced n48 (isEnded n18 (isByte nothing)))))))))))
+          (head Notes.none (isByte (isByte (isByte (isByte (isSpaced four-is (isEnded minus-two-is (isByte nothing)))))))
+          (head Notes.none (isByte (isByte (isByte (isByte (isByte (isByte (isSpaced n64 (isEnded n80 (isByte nothing))))))))) noHead)));
+      lines = aRecord (isByte (isByte (isByte (isByte (isByte (isByte (isByte (isByte nothing)))))))) (aRecord mb-line noRecord);
+      parts = refl;
+    }
+
+long : {t : List ℕ} {r : Reading} → length t ≡ 65537 → Reads t r → r ≡ notRead (refusal 10)
+long l (tooLong h) = refl
+long l (broken h b) = absurd (omega arith)
+long l (tooMany h x m) = refl
+long l (read h x m) = absurd (omega arith)
+
+wrong : {t : List ℕ} {words new : List ℤ} {reply : TextReply} → (length words ≡ recordWords * textRecords → ⊥) → TextAnswer t words reply new → reply ≡ NotRead (refusal 6)
+wrong n (wrongWords m) = refl
+wrong n (refused e x) = absurd (n e)
+wrong n (given e x) = absurd (n e)
+
+pub texts-hold : TextsHold
+unfolding pick allBelow upTo laidOut recordAt rule1 rule2 rule3 rule4 rule5 rule6 firstBroken geometryTests recordTests digitsIn decimal lineOf refusedLine programTests
+texts-hold = record {
+  mb-text = mb-text;
+  mb-log = record { reading = readAs _ _; reads = read (omega arith) mb-text (omega arith); is = refl };
+  whole-line = isByte (isByte (isByte (isByte (isByte (isByte (isByte (isByte (zeros-form 1 (isByte (isByte (zeros-form 3 (isByte (isByte nothing)))))))))))));
+  note-line = note close;
+  most-bytes = λ t place l b. broken (omega arith) b;
+  too-many-bytes = λ t r l x. long l x;
+  most-lines = λ t n entries l x e. read (omega arith) x (omega arith);
+  too-many-lines = λ t n entries l x e. tooMany (omega arith) x (omega arith);
+  right-words = λ t words r l x. refused (omega arith) x;
+  few-words = λ t words new reply l x. wrong (λ e. omega arith) x;
+  many-words = λ t words new reply l x. wrong (λ e. omega arith) x;
+}
