@@ -12,7 +12,7 @@ use Rattle.definitions.specs.Record.{recordWords, laidOut, recordAt, rul
 use Rattle.definitions.specs.Refusals.{refusal, geometryTests, recordTests}
 use Rattle.definitions.specs.Text.{Digit, none, each, valued, zeroAlone, digits, Number, unsigned, negative, close, note, Part, Form, nothing, isByte, isSpaced, isEnded, numbersThen, mbLine, LineOf, Notes, noHead, head, noRecord, aRecord, Text, textRecords, Reading, notRead, readAs, Reads, tooLong, broken, tooMany, read, TextAnswer, wrongWords, refused, given}
 use Rattle.definitions.specs.Log.{digitsIn, decimal, lineOf, refusedLine, programTests}
-use Rattle.definitions.specs.Unstarred.{zeros, mbLineText, mbText, mbNumbers, mbEntries, TextsHold}
+use Rattle.definitions.specs.Unstarred.{zerosThen, mbLineText, mbText, mbNumbers, mbEntries, TextsHold}
 
 -- 0, numbers of two digits, 4 and −2
 zero-is : Number (pos 0) (48 ∷ [])
@@ -31,7 +31,7 @@ abbrev zeroNumbers : ℕ → List ℤ → List ℤ
 zeroNumbers zero vs = pos 0 ∷ vs
 zeroNumbers (suc n) vs = pos 0 ∷ zeroNumbers n vs
 
-zeros-form : (n : ℕ) {ps : List Part} {vs : List ℤ} {t : List ℕ} → Form ps vs t → Form (numbersThen n ps) (zeroNumbers n vs) (zeros n t)
+zeros-form : (n : ℕ) {ps : List Part} {vs : List ℤ} {t : List ℕ} → Form ps vs t → Form (numbersThen n ps) (zeroNumbers n vs) (zerosThen n t)
 zeros-form zero f = isEnded zero-is f
 zeros-form (suc n) f = isSpaced zero-is (zeros-form n f)
 

@@ -56,79 +56,79 @@ pub data Result : Type 0 where
   outcome : Outcome MacroblockReply → Result
   verdict : Verdict → Result
   broken : ℕ → Result
-  recordWords : List ℤ → Result
+  wordsAre : List ℤ → Result
   bytes : List ℕ → Result
 
 abbrev pub given : Instance → Result
-given (call n base column row words o) = outcome (macroblockCall narrow n base column row (replicate words (pos 0)))
+given (call n base column rowOf4 words o) = outcome (macroblockCall narrow n base column rowOf4 (replicate words (pos 0)))
 given (geometry n k) = verdict (geometryVerdict n)
 given (rule r k) = broken (firstBroken narrow r)
-given (lines entries words) = recordWords (baseOf entries)
+given (lines entries words) = wordsAre (baseOf entries)
 given (log n entries l) = bytes (logFor (judged n (length entries) (baseOf entries)))
 
 abbrev pub expected : Instance → Result
-expected (call n base column row words o) = outcome o
+expected (call n base column rowOf4 words o) = outcome o
 expected (geometry n k) = verdict (verdictBy k)
 expected (rule r k) = broken k
-expected (lines entries words) = recordWords words
+expected (lines entries words) = wordsAre words
 expected (log n entries l) = bytes l
 
 -- ---- Geometries: B, S, o and E of an axis, across and down
-abbrev axis : ℤ → ℤ → ℤ → ℤ → AxisNumbers
-axis b s o e = record { base = b; scaled = s; offset = o; full = e }
+abbrev axisWith : ℤ → ℤ → ℤ → ℤ → AxisNumbers
+axisWith b s o e = record { base = b; scaled = s; offset = o; full = e }
 
 abbrev by : AxisNumbers → AxisNumbers → Numbers
 by h v = record { horizontal = h; vertical = v }
 
 -- nothing is wrong with this one
 abbrev plain : AxisNumbers
-plain = axis (pos 16) (pos 16) (pos 0) (pos 16)
+plain = axisWith (pos 16) (pos 16) (pos 0) (pos 16)
 
 -- one axis at a limit, the other plain
-abbrev across : ℤ → ℤ → ℤ → ℤ → Numbers
-across b s o e = by (axis b s o e) plain
+abbrev withAcross : ℤ → ℤ → ℤ → ℤ → Numbers
+withAcross b s o e = by (axisWith b s o e) plain
 
-abbrev down : ℤ → ℤ → ℤ → ℤ → Numbers
-down b s o e = by plain (axis b s o e)
+abbrev withDown : ℤ → ℤ → ℤ → ℤ → Numbers
+withDown b s o e = by plain (axisWith b s o e)
 
 -- ---- Records by their words: type, sub-types, references, vector words
 abbrev words : ℤ → List ℤ → List ℤ → List ℤ → List ℤ
 words type sub references vectors = type ∷ (sub ++ (references ++ vectors))
 
-abbrev four : ℤ → ℤ → ℤ → ℤ → List ℤ
-four a b c d = a ∷ b ∷ c ∷ d ∷ []
+abbrev listOf4 : ℤ → ℤ → ℤ → ℤ → List ℤ
+listOf4 a b c d = a ∷ b ∷ c ∷ d ∷ []
 
 abbrev noSub : List ℤ
-noSub = four (pos 0) (pos 0) (pos 0) (pos 0)
+noSub = listOf4 (pos 0) (pos 0) (pos 0) (pos 0)
 
 -- references of list 0 and list 1, the same in each quadrant
 abbrev both : ℤ → ℤ → List ℤ
-both a b = four a b a b ++ four a b a b
+both a b = listOf4 a b a b ++ listOf4 a b a b
 
 -- a block's vector words: in list 0, in list 1
 abbrev block : ℕ → ℕ → ℕ → ℕ → List ℤ
-block a b c d = four (pos a) (pos b) (pos c) (pos d)
+block a b c d = listOf4 (pos a) (pos b) (pos c) (pos d)
 
 -- four blocks, four rows
-abbrev row : List ℤ → List ℤ → List ℤ → List ℤ → List ℤ
-row a b c d = a ++ (b ++ (c ++ d))
+abbrev rowOf4 : List ℤ → List ℤ → List ℤ → List ℤ → List ℤ
+rowOf4 a b c d = a ++ (b ++ (c ++ d))
 
-abbrev all : List ℤ → List ℤ
-all v = row v v v v
+abbrev ofAll : List ℤ → List ℤ
+ofAll v = rowOf4 v v v v
 
 abbrev allBlocks : List ℤ → List ℤ
-allBlocks v = all (all v)
+allBlocks v = ofAll (ofAll v)
 
 -- 64 words that are all different, from n on
 abbrev rising : ℕ → List ℤ
 rising n = upTo 64 (λ w. pos (w + n))
 
 -- one vector in all blocks, in list 0 or in list 1, with reference r
-abbrev first : ℕ → ℕ → ℕ → List ℤ
-first r x y = words (pos 1) noSub (both (pos r) (minus 1)) (allBlocks (block x y 0 0))
+abbrev firstList : ℕ → ℕ → ℕ → List ℤ
+firstList r x y = words (pos 1) noSub (both (pos r) (minus 1)) (allBlocks (block x y 0 0))
 
-abbrev second : ℕ → ℕ → ℕ → List ℤ
-second r x y = words (pos 1) noSub (both (minus 1) (pos r)) (allBlocks (block 0 0 x y))
+abbrev secondList : ℕ → ℕ → ℕ → List ℤ
+secondList r x y = words (pos 1) noSub (both (minus 1) (pos r)) (allBlocks (block 0 0 x y))
 
 abbrev noMotion : List ℤ
 noMotion = words (pos 0) noSub (both (minus 1) (minus 1)) (allBlocks (block 0 0 0 0))
@@ -149,22 +149,22 @@ declines left number place ruleBroken = record { reply = Declined (record { numb
 -- references that differ by quadrant, each vector 0 where they are −1; sub-types 0 1 2 3 in order
 abbrev various : List ℤ
 various =
-    words (pos 4) (four (pos 0) (pos 1) (pos 2) (pos 3)) (four (pos 0) (minus 1) (pos 1) (pos 5) ++ four (minus 1) (pos 7) (pos 3) (minus 1))
-    (row (row (block 1 2 0 0) (block 1 2 0 0) (block 3 4 5 6) (block 3 4 5 6)) (row (block 1 2 0 0) (block 1 2 0 0) (block 7 8 9 10) (block 7 8 9 10))
-    (row (block 0 0 11 12) (block 0 0 13 14) (block 15 16 0 0) (block 17 18 0 0)) (row (block 0 0 11 12) (block 0 0 13 14) (block 19 20 0 0) (block 21 22 0 0)))
+    words (pos 4) (listOf4 (pos 0) (pos 1) (pos 2) (pos 3)) (listOf4 (pos 0) (minus 1) (pos 1) (pos 5) ++ listOf4 (minus 1) (pos 7) (pos 3) (minus 1))
+    (rowOf4 (rowOf4 (block 1 2 0 0) (block 1 2 0 0) (block 3 4 5 6) (block 3 4 5 6)) (rowOf4 (block 1 2 0 0) (block 1 2 0 0) (block 7 8 9 10) (block 7 8 9 10))
+    (rowOf4 (block 0 0 11 12) (block 0 0 13 14) (block 15 16 0 0) (block 17 18 0 0)) (rowOf4 (block 0 0 11 12) (block 0 0 13 14) (block 19 20 0 0) (block 21 22 0 0)))
 
 -- all words differ; the second is the first and 100 more
 abbrev differing : List ℤ
 differing =
-    words (pos 4) (four (pos 3) (pos 3) (pos 3) (pos 3)) (both (pos 0) (pos 2)) (rising 1)
-    ++ words (pos 4) (four (pos 3) (pos 3) (pos 3) (pos 3)) (both (pos 0) (pos 2)) (rising 101)
+    words (pos 4) (listOf4 (pos 3) (pos 3) (pos 3) (pos 3)) (both (pos 0) (pos 2)) (rising 1)
+    ++ words (pos 4) (listOf4 (pos 3) (pos 3) (pos 3) (pos 3)) (both (pos 0) (pos 2)) (rising 101)
 
 -- ratio 2 in one direction, 3/2 in the other: two columns of one row, and two rows of one column. By ratio 2 blocks read base blocks 3, 3, 3 and 4; by 3/2 0, 0, 1 and 2.
 abbrev wide : Numbers
-wide = by (axis (pos 32) (pos 64) (pos 10) (pos 64)) (axis (pos 16) (pos 24) (pos 0) (pos 16))
+wide = by (axisWith (pos 32) (pos 64) (pos 10) (pos 64)) (axisWith (pos 16) (pos 24) (pos 0) (pos 16))
 
 abbrev tall : Numbers
-tall = by (axis (pos 16) (pos 24) (pos 0) (pos 16)) (axis (pos 32) (pos 64) (pos 10) (pos 64))
+tall = by (axisWith (pos 16) (pos 24) (pos 0) (pos 16)) (axisWith (pos 32) (pos 64) (pos 10) (pos 64))
 
 abbrev inWide : List ℤ
 inWide =
@@ -172,18 +172,18 @@ inWide =
     let b = block 202 153 206 156 in
     let c = block 58 45 62 48 in
     let e = block 90 69 94 72 in
-    words (pos 4) (four (pos 0) (pos 2) (pos 1) (pos 3)) (both (pos 0) (pos 2))
-    (row (row a a a b) (row a a a b) (row c c c (block 234 177 238 180)) (row e e e (block 266 201 270 204)))
+    words (pos 4) (listOf4 (pos 0) (pos 2) (pos 1) (pos 3)) (both (pos 0) (pos 2))
+    (rowOf4 (rowOf4 a a a b) (rowOf4 a a a b) (rowOf4 c c c (block 234 177 238 180)) (rowOf4 e e e (block 266 201 270 204)))
 
 abbrev inTall : List ℤ
 inTall =
-    let r = row (block 74 100 77 104) (block 74 100 77 104) (block 80 108 83 112) (block 86 116 89 120) in
-    words (pos 4) (four (pos 0) (pos 2) (pos 1) (pos 3)) (both (pos 0) (pos 2))
-    (row r r r (row (block 152 204 155 208) (block 152 204 155 208) (block 158 212 161 216) (block 164 220 167 224)))
+    let r = rowOf4 (block 74 100 77 104) (block 74 100 77 104) (block 80 108 83 112) (block 86 116 89 120) in
+    words (pos 4) (listOf4 (pos 0) (pos 2) (pos 1) (pos 3)) (both (pos 0) (pos 2))
+    (rowOf4 r r r (rowOf4 (block 152 204 155 208) (block 152 204 155 208) (block 158 212 161 216) (block 164 220 167 224)))
 
 -- the starred macroblock at 16,16 (B and S 32, o 4): the first quadrant's blocks read base 0, 1, 2 and 3, one each
 abbrev centre : Numbers
-centre = by (axis (pos 32) (pos 32) (pos 4) (pos 32)) (axis (pos 32) (pos 32) (pos 4) (pos 32))
+centre = by (axisWith (pos 32) (pos 32) (pos 4) (pos 32)) (axisWith (pos 32) (pos 32) (pos 4) (pos 32))
 
 -- block 0 has base 1's motion, on its right, and not base 2's, below it
 abbrev fromRight : (ℕ → ℕ → List ℤ) → List ℤ
@@ -191,11 +191,11 @@ fromRight at =
     let a = at 1 2 in
     let b = at 3 4 in
     let c = at 5 6 in
-    row (all a) (row b c c c) (row b c c c) (row b c c c)
+    rowOf4 (ofAll a) (rowOf4 b c c c) (rowOf4 b c c c) (rowOf4 b c c c)
 
 -- ratio 2, the base's middle in the middle of the macroblock: a quadrant to each base macroblock
-abbrev doubled : Numbers
-doubled = by (axis (pos 32) (pos 64) (pos 8) (pos 48)) (axis (pos 32) (pos 64) (pos 8) (pos 48))
+abbrev twiceAsLarge : Numbers
+twiceAsLarge = by (axisWith (pos 32) (pos 64) (pos 8) (pos 48)) (axisWith (pos 32) (pos 64) (pos 8) (pos 48))
 
 -- ---- Limits and orders
 -- a record (of type 1 with one motion, reference 0 in list 0) with one thing changed
@@ -209,20 +209,20 @@ abbrev ofReferences : List ℤ → List ℤ
 ofReferences r = words (pos 1) noSub r (allBlocks (block 0 0 0 0))
 
 abbrev ofVector : ℤ → ℤ → List ℤ
-ofVector x y = words (pos 1) noSub (both (pos 0) (minus 1)) (allBlocks (four x y (pos 0) (pos 0)))
+ofVector x y = words (pos 1) noSub (both (pos 0) (minus 1)) (allBlocks (listOf4 x y (pos 0) (pos 0)))
 
 -- the upper half of the blocks differs from the lower, and the left from the right
 abbrev halves : ℤ → List ℤ
 halves t =
-    words t noSub (both (pos 0) (minus 1)) (row (all (block 1 2 0 0)) (all (block 1 2 0 0)) (all (block 3 4 0 0)) (all (block 3 4 0 0)))
+    words t noSub (both (pos 0) (minus 1)) (rowOf4 (ofAll (block 1 2 0 0)) (ofAll (block 1 2 0 0)) (ofAll (block 3 4 0 0)) (ofAll (block 3 4 0 0)))
 
 abbrev sides : ℤ → List ℤ
 sides t =
-    words t noSub (both (pos 0) (minus 1)) (all (row (block 1 2 0 0) (block 1 2 0 0) (block 3 4 0 0) (block 3 4 0 0)))
+    words t noSub (both (pos 0) (minus 1)) (ofAll (rowOf4 (block 1 2 0 0) (block 1 2 0 0) (block 3 4 0 0) (block 3 4 0 0)))
 
 -- the references of one quadrant, the others being 0 and −1
 abbrev oneQuadrant : ℤ → ℤ → List ℤ
-oneQuadrant a b = four a b (pos 0) (minus 1) ++ four (pos 0) (minus 1) (pos 0) (minus 1)
+oneQuadrant a b = listOf4 a b (pos 0) (minus 1) ++ listOf4 (pos 0) (minus 1) (pos 0) (minus 1)
 
 abbrev entry : RecordKind → List ℤ → Entry
 entry k v = record { kind = k; fields = v }
@@ -233,15 +233,15 @@ refusedLog number place = 40 ∷ 114 ∷ 101 ∷ 102 ∷ 117 ∷ 115 ∷ 101 ∷
 
 -- The clip of docs/WHY.md
 abbrev clip : Numbers
-clip = by (axis (pos 32) (pos 48) (pos 4) (pos 64)) plain
+clip = by (axisWith (pos 32) (pos 48) (pos 4) (pos 64)) plain
 
 abbrev clipRecord : ℤ → Entry
-clipRecord x = entry whole (four (pos 0) (minus 1) x (minus 8) ++ (pos 0 ∷ pos 0 ∷ []))
+clipRecord x = entry whole (listOf4 (pos 0) (minus 1) x (minus 8) ++ (pos 0 ∷ pos 0 ∷ []))
 
 abbrev clipWords : List ℤ
 clipWords =
-    let a = four (pos 5) (minus 8) (pos 0) (pos 0) in
-    words (pos 4) (four (pos 0) (pos 2) (pos 0) (pos 2)) (both (pos 0) (minus 1)) (all (row a a a (four (pos 11) (minus 8) (pos 0) (pos 0))))
+    let a = listOf4 (pos 5) (minus 8) (pos 0) (pos 0) in
+    words (pos 4) (listOf4 (pos 0) (pos 2) (pos 0) (pos 2)) (both (pos 0) (minus 1)) (ofAll (rowOf4 a a a (listOf4 (pos 11) (minus 8) (pos 0) (pos 0))))
 
 abbrev clipLog : List ℕ
 clipLog =
@@ -260,69 +260,69 @@ unstarred =
     ∷ call wide differing (pos 2) (pos 0) 77 (inherits Vert (quarters S8x8 S4x8 S8x4 S4x4) inWide)
     ∷ call tall differing (pos 0) (pos 2) 77 (inherits Hori (quarters S8x8 S4x8 S8x4 S4x4) inTall)
     -- base 0 intra, and base 0 with another reference in list 1: the horizontal neighbour's motion, though the vertical one serves too and differs;
-    ∷ call centre (noMotion ++ (first 0 1 2 ++ (first 0 3 4 ++ first 0 5 6))) (pos 1) (pos 1) 77
-    (inherits Center (quarters S4x4 S8x4 S4x8 S8x8) (words (pos 4) (four (pos 3) (pos 1) (pos 2) (pos 0)) (both (pos 0) (minus 1)) (fromRight (λ x y. block x y 0 0))))
-    ∷ call centre (second 1 7 8 ++ (second 0 1 2 ++ (second 0 3 4 ++ second 0 5 6))) (pos 1) (pos 1) 77
-    (inherits Center (quarters S4x4 S8x4 S4x8 S8x8) (words (pos 4) (four (pos 3) (pos 1) (pos 2) (pos 0)) (both (minus 1) (pos 0)) (fromRight (λ x y. block 0 0 x y))))
+    ∷ call centre (noMotion ++ (firstList 0 1 2 ++ (firstList 0 3 4 ++ firstList 0 5 6))) (pos 1) (pos 1) 77
+    (inherits Center (quarters S4x4 S8x4 S4x8 S8x8) (words (pos 4) (listOf4 (pos 3) (pos 1) (pos 2) (pos 0)) (both (pos 0) (minus 1)) (fromRight (λ x y. block x y 0 0))))
+    ∷ call centre (secondList 1 7 8 ++ (secondList 0 1 2 ++ (secondList 0 3 4 ++ secondList 0 5 6))) (pos 1) (pos 1) 77
+    (inherits Center (quarters S4x4 S8x4 S4x8 S8x8) (words (pos 4) (listOf4 (pos 3) (pos 1) (pos 2) (pos 0)) (both (minus 1) (pos 0)) (fromRight (λ x y. block 0 0 x y))))
     -- step 3: a quadrant all intra has the horizontal one's motion, though the vertical one differs; where both are, the vertical one's.
-    ∷ call doubled (noMotion ++ (first 0 1 2 ++ (first 0 3 4 ++ first 0 3 4))) (pos 2) (pos 2) 77
-    (inherits Center S16x8 (words (pos 2) noSub (both (pos 0) (minus 1)) (row (all (block 2 4 0 0)) (all (block 2 4 0 0)) (all (block 6 8 0 0)) (all (block 6 8 0 0)))))
-    ∷ call doubled (noMotion ++ (noMotion ++ (first 0 3 4 ++ first 0 5 6))) (pos 2) (pos 2) 77
-    (inherits Center S8x16 (words (pos 3) noSub (both (pos 0) (minus 1)) (all (row (block 6 8 0 0) (block 6 8 0 0) (block 10 12 0 0) (block 10 12 0 0)))))
+    ∷ call twiceAsLarge (noMotion ++ (firstList 0 1 2 ++ (firstList 0 3 4 ++ firstList 0 3 4))) (pos 2) (pos 2) 77
+    (inherits Center S16x8 (words (pos 2) noSub (both (pos 0) (minus 1)) (rowOf4 (ofAll (block 2 4 0 0)) (ofAll (block 2 4 0 0)) (ofAll (block 6 8 0 0)) (ofAll (block 6 8 0 0)))))
+    ∷ call twiceAsLarge (noMotion ++ (noMotion ++ (firstList 0 3 4 ++ firstList 0 5 6))) (pos 2) (pos 2) 77
+    (inherits Center S8x16 (words (pos 3) noSub (both (pos 0) (minus 1)) (ofAll (rowOf4 (block 6 8 0 0) (block 6 8 0 0) (block 10 12 0 0) (block 10 12 0 0)))))
     -- Limits of a geometry, each on both sides: B, E,
-    ∷ geometry (across (pos 16) (pos 16) (pos 0) (pos 16)) 0
-    ∷ geometry (across (pos 4096) (pos 4096) (pos 0) (pos 16)) 0
-    ∷ geometry (across (pos 0) (pos 0) (pos 0) (pos 16)) 1
-    ∷ geometry (across (pos 24) (pos 24) (pos 0) (pos 16)) 1
-    ∷ geometry (across (pos 4112) (pos 4112) (pos 0) (pos 16)) 1
-    ∷ geometry (down (pos 4112) (pos 4112) (pos 0) (pos 16)) 1
-    ∷ geometry (across (pos 16) (pos 16) (pos 0) (pos 4096)) 0
-    ∷ geometry (across (pos 16) (pos 16) (pos 0) (pos 0)) 2
-    ∷ geometry (across (pos 16) (pos 16) (pos 0) (pos 24)) 2
-    ∷ geometry (across (pos 16) (pos 16) (pos 0) (pos 4112)) 2
-    ∷ geometry (down (pos 16) (pos 16) (pos 0) (pos 4112)) 2
+    ∷ geometry (withAcross (pos 16) (pos 16) (pos 0) (pos 16)) 0
+    ∷ geometry (withAcross (pos 4096) (pos 4096) (pos 0) (pos 16)) 0
+    ∷ geometry (withAcross (pos 0) (pos 0) (pos 0) (pos 16)) 1
+    ∷ geometry (withAcross (pos 24) (pos 24) (pos 0) (pos 16)) 1
+    ∷ geometry (withAcross (pos 4112) (pos 4112) (pos 0) (pos 16)) 1
+    ∷ geometry (withDown (pos 4112) (pos 4112) (pos 0) (pos 16)) 1
+    ∷ geometry (withAcross (pos 16) (pos 16) (pos 0) (pos 4096)) 0
+    ∷ geometry (withAcross (pos 16) (pos 16) (pos 0) (pos 0)) 2
+    ∷ geometry (withAcross (pos 16) (pos 16) (pos 0) (pos 24)) 2
+    ∷ geometry (withAcross (pos 16) (pos 16) (pos 0) (pos 4112)) 2
+    ∷ geometry (withDown (pos 16) (pos 16) (pos 0) (pos 4112)) 2
     -- S,
-    ∷ geometry (across (pos 16) (pos 18) (pos 0) (pos 16)) 0
-    ∷ geometry (across (pos 16) (pos 32) (pos 0) (pos 16)) 0
-    ∷ geometry (across (pos 16) (pos 14) (pos 0) (pos 16)) 3
-    ∷ geometry (across (pos 16) (pos 17) (pos 0) (pos 16)) 3
-    ∷ geometry (across (pos 16) (pos 34) (pos 0) (pos 16)) 3
-    ∷ geometry (down (pos 16) (pos 34) (pos 0) (pos 16)) 3
+    ∷ geometry (withAcross (pos 16) (pos 18) (pos 0) (pos 16)) 0
+    ∷ geometry (withAcross (pos 16) (pos 32) (pos 0) (pos 16)) 0
+    ∷ geometry (withAcross (pos 16) (pos 14) (pos 0) (pos 16)) 3
+    ∷ geometry (withAcross (pos 16) (pos 17) (pos 0) (pos 16)) 3
+    ∷ geometry (withAcross (pos 16) (pos 34) (pos 0) (pos 16)) 3
+    ∷ geometry (withDown (pos 16) (pos 34) (pos 0) (pos 16)) 3
     -- and o.
-    ∷ geometry (across (pos 16) (pos 16) (pos 2) (pos 16)) 0
-    ∷ geometry (across (pos 16) (pos 16) (minus 8192) (pos 16)) 0
-    ∷ geometry (across (pos 16) (pos 16) (pos 8190) (pos 16)) 0
-    ∷ geometry (across (pos 16) (pos 16) (pos 1) (pos 16)) 4
-    ∷ geometry (across (pos 16) (pos 16) (minus 8194) (pos 16)) 4
-    ∷ geometry (across (pos 16) (pos 16) (pos 8192) (pos 16)) 4
-    ∷ geometry (down (pos 16) (pos 16) (pos 8192) (pos 16)) 4
+    ∷ geometry (withAcross (pos 16) (pos 16) (pos 2) (pos 16)) 0
+    ∷ geometry (withAcross (pos 16) (pos 16) (minus 8192) (pos 16)) 0
+    ∷ geometry (withAcross (pos 16) (pos 16) (pos 8190) (pos 16)) 0
+    ∷ geometry (withAcross (pos 16) (pos 16) (pos 1) (pos 16)) 4
+    ∷ geometry (withAcross (pos 16) (pos 16) (minus 8194) (pos 16)) 4
+    ∷ geometry (withAcross (pos 16) (pos 16) (pos 8192) (pos 16)) 4
+    ∷ geometry (withDown (pos 16) (pos 16) (pos 8192) (pos 16)) 4
     -- Two neighbouring refusals apply: the lower one is given, on whichever axis it applies.
-    ∷ geometry (across (pos 8) (pos 8) (pos 0) (pos 8)) 1
-    ∷ geometry (by (axis (pos 16) (pos 16) (pos 0) (pos 8)) (axis (pos 8) (pos 8) (pos 0) (pos 16))) 1
-    ∷ geometry (across (pos 16) (pos 15) (pos 0) (pos 8)) 2
-    ∷ geometry (by (axis (pos 16) (pos 15) (pos 0) (pos 16)) (axis (pos 16) (pos 16) (pos 0) (pos 8))) 2
-    ∷ geometry (across (pos 16) (pos 15) (pos 1) (pos 16)) 3
-    ∷ geometry (by (axis (pos 16) (pos 16) (pos 1) (pos 16)) (axis (pos 16) (pos 15) (pos 0) (pos 16))) 3
-    ∷ call (across (pos 16) (pos 16) (pos 1) (pos 16)) [] (pos 0) (pos 0) 77 (declines 77 4 0 0)
+    ∷ geometry (withAcross (pos 8) (pos 8) (pos 0) (pos 8)) 1
+    ∷ geometry (by (axisWith (pos 16) (pos 16) (pos 0) (pos 8)) (axisWith (pos 8) (pos 8) (pos 0) (pos 16))) 1
+    ∷ geometry (withAcross (pos 16) (pos 15) (pos 0) (pos 8)) 2
+    ∷ geometry (by (axisWith (pos 16) (pos 15) (pos 0) (pos 16)) (axisWith (pos 16) (pos 16) (pos 0) (pos 8))) 2
+    ∷ geometry (withAcross (pos 16) (pos 15) (pos 1) (pos 16)) 3
+    ∷ geometry (by (axisWith (pos 16) (pos 16) (pos 1) (pos 16)) (axisWith (pos 16) (pos 15) (pos 0) (pos 16))) 3
+    ∷ call (withAcross (pos 16) (pos 16) (pos 1) (pos 16)) [] (pos 0) (pos 0) 77 (declines 77 4 0 0)
     ∷ call (by plain plain) [] (pos 0) (pos 0) 76 (declines 76 5 0 0)
     ∷ call (by plain plain) noMotion (pos 1) (pos 0) 76 (declines 76 6 0 0)
-    ∷ call (across (pos 16) (pos 32) (pos 0) (pos 16)) (ofType (pos 5)) (pos 1) (pos 0) 77 (declines 77 7 0 0)
+    ∷ call (withAcross (pos 16) (pos 32) (pos 0) (pos 16)) (ofType (pos 5)) (pos 1) (pos 0) 77 (declines 77 7 0 0)
     -- 5, 6 and 7, and 8 with its place and rule
     ∷ call (by plain plain) (noMotion ++ (pos 0 ∷ [])) (pos 0) (pos 0) 77 (declines 77 5 0 0)
     ∷ call (by plain plain) noMotion (pos 0) (pos 0) 78 (declines 78 6 0 0)
     ∷ call (by plain plain) noMotion (minus 1) (pos 0) 77 (declines 77 7 0 0)
     ∷ call (by plain plain) noMotion (pos 0) (pos 1) 77 (declines 77 7 0 0)
-    ∷ call (across (pos 16) (pos 32) (pos 0) (pos 16)) (ofType (pos 5)) (pos 0) (pos 0) 77 (declines 77 8 0 1)
-    ∷ call centre (first 0 1 2 ++ (ofReferences (both (pos 32) (minus 1)) ++ (ofType (pos 5) ++ first 0 5 6))) (pos 1) (pos 1) 77 (declines 77 8 1 3)
+    ∷ call (withAcross (pos 16) (pos 32) (pos 0) (pos 16)) (ofType (pos 5)) (pos 0) (pos 0) 77 (declines 77 8 0 1)
+    ∷ call centre (firstList 0 1 2 ++ (ofReferences (both (pos 32) (minus 1)) ++ (ofType (pos 5) ++ firstList 0 5 6))) (pos 1) (pos 1) 77 (declines 77 8 1 3)
     -- Limits of a record, each on both sides: type and sub-types,
     ∷ rule (ofType (pos 1)) 0
     ∷ rule (ofType (pos 4)) 0
     ∷ rule (ofType (pos 5)) 1
     ∷ rule (ofType (minus 1)) 1
-    ∷ rule (ofSub (pos 4) (four (pos 0) (pos 1) (pos 2) (pos 3))) 0
-    ∷ rule (ofSub (pos 4) (four (pos 4) (pos 0) (pos 0) (pos 0))) 2
-    ∷ rule (ofSub (pos 4) (four (pos 0) (pos 0) (pos 0) (minus 1))) 2
-    ∷ rule (ofSub (pos 3) (four (pos 0) (pos 0) (pos 0) (pos 1))) 2
+    ∷ rule (ofSub (pos 4) (listOf4 (pos 0) (pos 1) (pos 2) (pos 3))) 0
+    ∷ rule (ofSub (pos 4) (listOf4 (pos 4) (pos 0) (pos 0) (pos 0))) 2
+    ∷ rule (ofSub (pos 4) (listOf4 (pos 0) (pos 0) (pos 0) (minus 1))) 2
+    ∷ rule (ofSub (pos 3) (listOf4 (pos 0) (pos 0) (pos 0) (pos 1))) 2
     -- references,
     ∷ rule (ofReferences (both (pos 31) (minus 1))) 0
     ∷ rule (ofReferences (both (minus 1) (pos 31))) 0
@@ -342,19 +342,19 @@ unstarred =
     ∷ rule (halves (pos 1)) 6
     ∷ rule (halves (pos 3)) 6
     ∷ rule (sides (pos 2)) 6
-    ∷ rule (words (pos 4) (four (pos 0) (pos 2) (pos 1) (pos 3)) (both (pos 0) (pos 2)) (rising 1)) 6
+    ∷ rule (words (pos 4) (listOf4 (pos 0) (pos 2) (pos 1) (pos 3)) (both (pos 0) (pos 2)) (rising 1)) 6
     -- Two neighbouring rules are broken: the first of them.
-    ∷ rule (ofSub (pos 5) (four (pos 1) (pos 0) (pos 0) (pos 0))) 1
-    ∷ rule (words (pos 1) (four (pos 1) (pos 0) (pos 0) (pos 0)) (both (pos 32) (minus 1)) (allBlocks (block 0 0 0 0))) 2
-    ∷ rule (ofReferences (four (minus 1) (minus 1) (pos 32) (minus 1) ++ four (pos 0) (minus 1) (pos 0) (minus 1))) 3
+    ∷ rule (ofSub (pos 5) (listOf4 (pos 1) (pos 0) (pos 0) (pos 0))) 1
+    ∷ rule (words (pos 1) (listOf4 (pos 1) (pos 0) (pos 0) (pos 0)) (both (pos 32) (minus 1)) (allBlocks (block 0 0 0 0))) 2
+    ∷ rule (ofReferences (listOf4 (minus 1) (minus 1) (pos 32) (minus 1) ++ listOf4 (pos 0) (minus 1) (pos 0) (minus 1))) 3
     ∷ rule (words (pos 1) noSub (oneQuadrant (minus 1) (minus 1)) (allBlocks (block 1 2 0 0))) 4
     ∷ rule (words (pos 1) noSub (both (pos 0) (pos 0)) (rising 8150)) 5
     -- The words of record lines, in order,
-    ∷ lines (entry intra [] ∷ entry whole (four (pos 1) (pos 2) (pos 3) (pos 4) ++ (pos 5 ∷ pos 6 ∷ [])) ∷ entry mb various ∷ [])
+    ∷ lines (entry intra [] ∷ entry whole (listOf4 (pos 1) (pos 2) (pos 3) (pos 4) ++ (pos 5 ∷ pos 6 ∷ [])) ∷ entry mb various ∷ [])
     (noMotion ++ (words (pos 1) noSub (both (pos 1) (pos 2)) (allBlocks (block 3 4 5 6)) ++ various))
     -- and the log of a refusal: too many lines, though a record is malformed; and a malformed record, the second.
     ∷ log (by plain plain) (entry intra [] ∷ entry mb (ofType (pos 5)) ∷ []) (refusedLog 5 0)
-    ∷ log (by (axis (pos 32) (pos 32) (pos 0) (pos 32)) plain) (entry intra [] ∷ entry mb (ofType (pos 5)) ∷ []) (refusedLog 8 1)
+    ∷ log (by (axisWith (pos 32) (pos 32) (pos 0) (pos 32)) plain) (entry intra [] ∷ entry mb (ofType (pos 5)) ∷ []) (refusedLog 8 1)
     -- The clip of docs/WHY.md: its second macroblock, its third, which reads base column 1, and its log.
     ∷ call clip (ofVector (pos 3) (minus 8) ++ ofVector (pos 7) (minus 8)) (pos 1) (pos 0) 77 (inherits Vert (quarters S8x8 S4x8 S8x8 S4x8) clipWords)
     ∷ call clip (ofVector (pos 3) (minus 8) ++ ofVector (pos 7) (minus 8)) (pos 2) (pos 0) 77
@@ -369,13 +369,13 @@ unstarred-hold = refl
 
 -- ---- Texts
 -- n + 1 zeros separated by one space, a closing bracket, and then t
-abbrev pub zeros : ℕ → List ℕ → List ℕ
-zeros zero t = 48 ∷ 41 ∷ t
-zeros (suc n) t = 48 ∷ 32 ∷ zeros n t
+abbrev pub zerosThen : ℕ → List ℕ → List ℕ
+zerosThen zero t = 48 ∷ 41 ∷ t
+zerosThen (suc n) t = 48 ∷ 32 ∷ zerosThen n t
 
 -- (mb 0 (0 0 0 0) (0 ..) (0 ..)) with 77 zeros: an intra record whose references are used, which breaks rule 4
 abbrev pub mbLineText : List ℕ
-mbLineText = 40 ∷ 109 ∷ 98 ∷ 32 ∷ 48 ∷ 32 ∷ 40 ∷ zeros 3 (32 ∷ 40 ∷ zeros 7 (32 ∷ 40 ∷ zeros 63 (41 ∷ 10 ∷ [])))
+mbLineText = 40 ∷ 109 ∷ 98 ∷ 32 ∷ 48 ∷ 32 ∷ 40 ∷ zerosThen 3 (32 ∷ 40 ∷ zerosThen 7 (32 ∷ 40 ∷ zerosThen 63 (41 ∷ 10 ∷ [])))
 
 -- (base 32 16), (scaled 48 18), (at 4 -2), (full 64 80), (intra), and that line
 abbrev pub mbText : List ℕ
@@ -388,7 +388,7 @@ mbText =
     ++ mbLineText))))
 
 abbrev pub mbNumbers : Numbers
-mbNumbers = by (axis (pos 32) (pos 48) (pos 4) (pos 64)) (axis (pos 16) (pos 18) (minus 2) (pos 80))
+mbNumbers = by (axisWith (pos 32) (pos 48) (pos 4) (pos 64)) (axisWith (pos 16) (pos 18) (minus 2) (pos 80))
 
 abbrev pub mbEntries : List Entry
 mbEntries = entry intra [] ∷ entry mb (replicate 77 (pos 0)) ∷ []
@@ -399,7 +399,7 @@ pub record TextsHold : Type 0 where
   pub mb-text : Text mbNumbers mbEntries mbText
   pub mb-log : LogOf mbText (refusedLog 8 1)
   -- (whole (0 0) (0 0 0 0)) and (note)
-  pub whole-line : LineOf wholeLine (replicate 6 (pos 0)) (40 ∷ 119 ∷ 104 ∷ 111 ∷ 108 ∷ 101 ∷ 32 ∷ 40 ∷ zeros 1 (32 ∷ 40 ∷ zeros 3 (41 ∷ 10 ∷ [])))
+  pub whole-line : LineOf wholeLine (replicate 6 (pos 0)) (40 ∷ 119 ∷ 104 ∷ 111 ∷ 108 ∷ 101 ∷ 32 ∷ 40 ∷ zerosThen 1 (32 ∷ 40 ∷ zerosThen 3 (41 ∷ 10 ∷ [])))
   pub note-line : Note (40 ∷ 110 ∷ 111 ∷ 116 ∷ 101 ∷ 41 ∷ 10 ∷ [])
   -- 65,536 bytes are not too many, 65,537 are, whatever else is wrong with them;
   pub most-bytes : (t : List ℕ) (place : ℕ) → length t ≡ 65536 → BreaksAt t place → Reads t (notRead (record { number = 9; place = place; rule = 0 }))
