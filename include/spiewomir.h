@@ -189,7 +189,7 @@ SpiewomirJudged spiewomir_session_abandon(SpiewomirSession session);
  * refused. */
 SpiewomirTotals spiewomir_session_totals(SpiewomirSession session);
 
-/* A sync text has one bracket form a line, a line feed after each, items parted by
+/* A sync text has one bracket form a line, a line feed after each, items separated by
  * one space: (base W H), (scaled W H), (at X Y), (full W H) in that order, then none
  * or more lines, one for each base record in raster order: (intra), or (whole (R0 R1)
  * (X0 Y0 X1 Y1)), which is type 1 with this motion in all blocks, or (mb T

@@ -20,7 +20,6 @@ use Rattle.definitions.specs.declared.Split.{Split}
 use Rattle.definitions.specs.declared.Split.the-variants.{S16x16, S16x8, S8x16, S8x8 as Quarters}
 use Rattle.definitions.specs.declared.Numbers.{Numbers}
 use Rattle.definitions.specs.declared.Answer.{Answer}
-use Rattle.definitions.specs.declared.Answer.the-variants.{Outside, Intra, Inherited}
 use Rattle.definitions.specs.declared.MacroblockReply.{MacroblockReply}
 use Rattle.definitions.specs.Basics.{pick, minus, eqZ, between, allBelow, upTo, four}
 use Rattle.definitions.specs.Geometry.{axesOf, baseSize, scaledSize, inside}

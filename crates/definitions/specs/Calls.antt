@@ -1,5 +1,5 @@
 -- "Calls" of document 01: one macroblock, and the picture. Each tests its refusals in rising order, and refused leaves what it was lent.
-use Prim.Native.Nat.{ℕ, _+_, _*_, _/_, _%_, _<_}
+use Prim.Native.Nat.{ℕ, _+_, _*_, _<_}
 use mathlib.Core.Path.{_≡_}
 use mathlib.Core.Bool.{Bool, true, false}
 use mathlib.Core.List.{List, [], _∷_, _++_}
@@ -18,7 +18,7 @@ use Rattle.definitions.specs.declared.MacroblockReply.the-variants.{Answ
 use Rattle.definitions.specs.declared.PictureReply.{PictureReply}
 use Rattle.definitions.specs.declared.PictureReply.the-variants.{Counted, Refused as NotMade}
 use Rattle.definitions.specs.Basics.{howMany, upTo, forEach}
-use Rattle.definitions.specs.Geometry.{axesOf, fullSize, macroblocks}
+use Rattle.definitions.specs.Geometry.{axesOf, macroblocks}
 use Rattle.definitions.specs.Raster.{fullCount, columnAt, rowAt}
 use Rattle.definitions.specs.Record.{recordWords, recordAt}
 use Rattle.definitions.specs.Answer.{Made, madeOf}

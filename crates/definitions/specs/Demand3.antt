@@ -1,5 +1,5 @@
 -- Demand 3 of the buyer (document 00) as document 01 reads it ("For demand 3"): one record type, with a field for each sentence of the demand.
-use Prim.Native.Nat.{ℕ, _+_, _*_, _≤_, _<_}
+use Prim.Native.Nat.{ℕ, _*_, _≤_, _<_}
 use mathlib.Core.Path.{_≡_}
 use mathlib.Core.Logic.{_≢_, _↔_}
 use mathlib.Core.Bool.{true, false}
@@ -19,7 +19,7 @@ use Rattle.definitions.specs.declared.PictureReply.the-variants.{Counted
 use Rattle.definitions.specs.Basics.{pick}
 use Rattle.definitions.specs.Geometry.{axesOf, baseSize, fullSize, macroblocks, inside}
 use Rattle.definitions.specs.Splits.{Covers, pieces, oneEach, count}
-use Rattle.definitions.specs.Record.{recordWords, recordAt, motionOf, typeNumber, splitSaid, wellFormed}
+use Rattle.definitions.specs.Record.{recordWords, recordAt, motionOf, typeNumber, splitSaid}
 use Rattle.definitions.specs.Inheriting.{blocksReadingIntra, inheritedMotions, motionAt}
 use Rattle.definitions.specs.Answer.{originAt, outsideOrigin, answerOrigin, columnsNamed, rowsNamed, addressesNamed, subTypes, unusedMotion}
 use Rattle.definitions.specs.Refusals.{geometryVerdict, AllFormed}

@@ -1,7 +1,7 @@
 -- "Inheriting" of document 01, steps 1 to 5.
 use Prim.Native.Nat.{ℕ, zero, suc, _+_, _*_, _/_, _%_, _^_}
 use mathlib.Core.Bool.{Bool, false, not, _||_}
-use mathlib.Core.List.{List, [], _∷_}
+use mathlib.Core.List.{List, []}
 use lib.Count.{ones}
 use lib.Dec.{eqb, leb}
 use lib.IntN.{ℤ, pos, natAbs}

@@ -14,7 +14,7 @@ use Rattle.definitions.specs.declared.Refusal.{Refusal}
 use Rattle.definitions.specs.declared.Verdict.{Verdict}
 use Rattle.definitions.specs.declared.Verdict.the-variants.{Accepted, Refused}
 use Rattle.definitions.specs.Basics.{pick, minus, between, upTo}
-use Rattle.definitions.specs.Geometry.{axesOf, baseSize, fullSize, macroblocks, inside}
+use Rattle.definitions.specs.Geometry.{axesOf, fullSize, macroblocks, inside}
 use Rattle.definitions.specs.Raster.{baseCount}
 use Rattle.definitions.specs.Record.{recordWords, recordAt, wellFormed, firstBroken}
 use Rattle.definitions.specs.Answer.{originAt, addressesOf}

@@ -6,7 +6,6 @@ ghost use Rattle.definitions.specs.Basics.{eqZ};
 ghost use Rattle.definitions.specs.Blocks.{quadrantOf};
 ghost use lib.IntN.{pos};
 ghost use lib.ListN.{getD};
-ghost use mathlib.Core.List.{[], _∷_};
 ghost use mathlib.Core.Path.{_≡_};
 use common::raster;
 use definitions::Motion;

@@ -7,8 +7,7 @@ use lib.IntN.{ℤ}
 use lib.ListN.{length, length-append}
 use Rattle.definitions.specs.declared.Numbers.{Numbers}
 use Rattle.definitions.specs.Record.{recordWords}
-use Rattle.definitions.specs.Answer.{unusedMotion}
-use Rattle.definitions.specs.Text.{LineOf, RecordKind, intra, whole, mb, kindOf, Entry, Records, noRecord, aNote, aRecord, Text, wholeMotion, wordsFor, baseOf}
+use Rattle.definitions.specs.Text.{LineOf, RecordKind, intra, whole, mb, kindOf, Entry, Records, noRecord, aNote, aRecord, Text, wordsFor, baseOf}
 use Rattle.definitions.proofs.Records.{laid-length}
 use Rattle.grammar.proofs.Runs.{form-count}
 

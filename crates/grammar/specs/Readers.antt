@@ -11,7 +11,7 @@ use lib.Seq.{sets}
 use lib.IntN.{ℤ}
 use Rattle.definitions.specs.declared.Numbers.{Numbers}
 use Rattle.definitions.specs.Record.{recordWords}
-use Rattle.definitions.specs.Text.{Digit, All, valued, Number, Listed, Item, Note, Notes, Part, byte, spaced, ended, Form, bytesThen, numbersThen, tailOf, LineOf, RecordKind, kindOf, Entry, Records, Text, BreaksAt, wordsFor, wordsOf, baseOf, textRecords}
+use Rattle.definitions.specs.Text.{Digit, All, valued, Number, Listed, Item, Note, Notes, Part, byte, spaced, ended, Form, bytesThen, numbersThen, tailOf, LineOf, RecordKind, kindOf, Entry, Records, Text, BreaksAt, baseOf, textRecords}
 use Rattle.grammar.specs.declared.ByteClass.{ByteClass}
 use Rattle.grammar.specs.declared.ByteClass.the-variants.{Alpha, Zero, Nonzero, Dash, Open, Close, Space, Other}
 use Rattle.grammar.specs.declared.Got.{Got}

@@ -1,14 +1,12 @@
 // What is made of one macroblock, on a geometry and records that were checked: the calls share it.
 ghost use Prim.Native.Nat.{_<_, _≤_};
 ghost use Rattle.definitions.specs.Accepted.{AcceptedAxis};
-ghost use Rattle.definitions.specs.Answer.{subTypes, withoutMotion};
-ghost use Rattle.definitions.specs.Inheriting.{chosen, clearOf, filled, merged, motionAt};
-ghost use Rattle.definitions.specs.Record.{laidOut, recordWords, subTypeNumber, typeNumber};
+ghost use Rattle.definitions.specs.Inheriting.{chosen, clearOf, filled, merged};
+ghost use Rattle.definitions.specs.Record.{recordWords};
 ghost use Rattle.gather.specs.Reads.{QuadrantReadable, quadrantRead};
 ghost use Rattle.macroblock.specs.Made.{Makeable, Ready, Small, inheritedBy, intraBy, madeInside, motionsBy, originBy, nowhere, onePart, madeBy, readIn, readOf, resolvedBy};
-ghost use lib.ListN.{getD, length};
+ghost use lib.ListN.{length};
 ghost use mathlib.Core.Bool.{_&&_, true};
-ghost use mathlib.Core.List.{[], _∷_};
 ghost use mathlib.Core.Path.{_≡_};
 use definitions::Answer;
 use definitions::Axes;
@@ -31,10 +29,9 @@ use inherit::mostly_intra;
 use motion::scale_by;
 use motion::scale_motion;
 use records::layout::INTRA;
-use records::layout::NO_MOTION;
 use records::layout::OUTSIDE;
-use records::write::write_one;
 use records::write::write_split;
+use records::write::write_unused;
 use split::choose;
 
 // An axis at a macroblock: whether it is inside there, and then what of its step the making asks for (outside, zeros).
@@ -86,14 +83,6 @@ pub fn axis_read(a: Axis, x: u32) -> AxisRead
         return read_in(axis_step(a, p));
     }
     read_nowhere()
-}
-
-// A record without motion, of type 0 (intra) or 5 (outside).
-fn write_unused(out: &mut [i16], kind: u8)
-    requires { ⌜ length (now out) ≡ recordWords ⌝ }
-    ensures { λ _. ⌜ now (out .exit) ≡ withoutMotion kind ⌝ }
-{
-    write_one(out, kind, NO_MOTION);
 }
 
 // ---- Inside

@@ -1,5 +1,5 @@
 // A block's motion: whether two are the same, and step 4 of "Inheriting", the vectors scaled.
-ghost use Prim.Native.Nat.{ℕ, _*_, _+_, _/_, _<_, _≤_};
+ghost use Prim.Native.Nat.{_*_, _+_, _/_, _<_, _≤_};
 ghost use Rattle.definitions.proofs.Shapes.{quadrantShape};
 ghost use Rattle.definitions.specs.Accepted.{AcceptedAxis};
 ghost use Rattle.definitions.specs.Inheriting.{at, chosen, scaledMotion, scaledWord, zeroMotion};

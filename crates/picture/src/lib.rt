@@ -1,5 +1,5 @@
 // The picture call of document 01: all base records are checked, then every macroblock is made in raster order.
-ghost use Prim.Native.Nat.{_*_, _+_, _<_, _≤_};
+ghost use Prim.Native.Nat.{_*_, _+_, _<_};
 ghost use Rattle.definitions.specs.Accepted.{AcceptedAxes, AcceptedAxis};
 ghost use Rattle.definitions.specs.Calls.{countsOf, madeAt, pictureCall};
 ghost use Rattle.definitions.specs.Record.{recordWords, narrow};

@@ -3,12 +3,13 @@ ghost use mathlib.Core.Path.{_≡_};
 ghost use mathlib.Core.List.{_∷_};
 ghost use lib.IntN.{pos};
 ghost use lib.ListN.{length, getD};
-ghost use Rattle.definitions.specs.Answer.{dividedBy};
+ghost use Rattle.definitions.specs.Answer.{dividedBy, withoutMotion};
 ghost use Rattle.definitions.specs.Basics.{upTo, forEach};
 ghost use Rattle.definitions.specs.Blocks.{rasterOf};
 ghost use Rattle.definitions.specs.Inheriting.{motionAt};
 ghost use Rattle.definitions.specs.Record.{allOne, laidOut, recordWords, referencesOf, vectorsOf};
 ghost use Rattle.records.specs.Writing.{contentsOf};
+use crate::layout::NO_MOTION;
 use crate::layout::REFERENCES;
 use crate::layout::TYPE;
 use crate::layout::VECTORS;
@@ -125,4 +126,12 @@ pub fn write_one(out: &mut [i16], kind: u8, m: Motion)
     ensures { λ _. ⌜ now (out .exit) ≡ laidOut (allOne kind m) ⌝ }
 {
     write_record(out, kind, [0; 4], [[m; 4]; 4]);
+}
+
+// A record without motion, of type 0 (intra) or 5 (outside).
+pub fn write_unused(out: &mut [i16], kind: u8)
+    requires { ⌜ length (now out) ≡ recordWords ⌝ }
+    ensures { λ _. ⌜ now (out .exit) ≡ withoutMotion kind ⌝ }
+{
+    write_record(out, kind, [0; 4], [[NO_MOTION; 4]; 4]);
 }

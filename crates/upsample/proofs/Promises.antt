@@ -1,6 +1,5 @@
 -- What the calls hand over is as demand 3 says: the theorem of definitions, at their replies. Assumes nothing.
-use Prim.Native.Nat.{_+_, _*_}
-use mathlib.Core.Path.{_≡_, sym, ap, _∙_}
+use mathlib.Core.Path.{_≡_, sym, _∙_}
 use mathlib.Core.List.{List}
 use lib.IntN.{ℤ, pos, natAbs}
 use lib.Signed.{pos-natAbs}
@@ -8,9 +7,9 @@ use Rattle.definitions.specs.declared.Numbers.{Numbers}
 use Rattle.definitions.specs.declared.Answer.{Answer}
 use Rattle.definitions.specs.declared.MacroblockReply.{MacroblockReply}
 use Rattle.definitions.specs.declared.MacroblockReply.the-variants.{Answered, Refused as Declined}
-use Rattle.definitions.specs.Geometry.{axesOf, fullSize, macroblocks}
-use Rattle.definitions.specs.Record.{recordAt, narrow}
-use Rattle.definitions.specs.Calls.{macroblockCall, pictureCall}
+use Rattle.definitions.specs.Geometry.{axesOf, fullSize}
+use Rattle.definitions.specs.Record.{narrow}
+use Rattle.definitions.specs.Calls.{macroblockCall}
 use Rattle.definitions.proofs.Demand.{demand3, call-accepted, AskedAt, asked-at}
 use Rattle.upsample.specs.Promised.{SinglyPromised}
 use Rattle.upsample.proofs.Within.{within-natural}

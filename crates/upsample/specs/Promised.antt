@@ -1,18 +1,11 @@
 -- Demand 3 of what the calls hand over, as their contracts say it: a refused call promises nothing here.
-use Prim.Native.Nat.{ℕ, _+_, _*_, _<_}
-use mathlib.Core.Path.{_≡_}
 use mathlib.Core.List.{List}
-use lib.IntN.{ℤ, pos, natAbs}
+use lib.IntN.{ℤ, natAbs}
 use Rattle.definitions.specs.declared.Numbers.{Numbers}
-use Rattle.definitions.specs.declared.Answer.{Answer}
 use Rattle.definitions.specs.declared.MacroblockReply.{MacroblockReply}
 use Rattle.definitions.specs.declared.MacroblockReply.the-variants.{Answered, Refused as Declined}
-use Rattle.definitions.specs.declared.PictureReply.{PictureReply}
-use Rattle.definitions.specs.declared.PictureReply.the-variants.{Counted, Refused as NotMade}
-use Rattle.definitions.specs.Geometry.{axesOf, fullSize, macroblocks}
-use Rattle.definitions.specs.Record.{recordAt, narrow}
-use Rattle.definitions.specs.Calls.{macroblockCall}
-use Rattle.definitions.specs.Demand3.{Demand3Singly, Demand3Picture}
+use Rattle.definitions.specs.Record.{narrow}
+use Rattle.definitions.specs.Demand3.{Demand3Singly}
 
 -- one macroblock: its answer and its written record are as demanded (answered, column and row are not below 0)
 abbrev pub SinglyPromised : Numbers → List ℤ → ℤ → ℤ → List ℤ → MacroblockReply → List ℤ → Type 0

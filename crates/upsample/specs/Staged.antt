@@ -1,6 +1,5 @@
 -- The one-macroblock call of document 01 in the stages of the code: after the geometry is accepted, and after lengths and position are.
 use Prim.Native.Nat.{ℕ, _+_, _*_, _≤_, _<_}
-use mathlib.Core.Path.{_≡_}
 use mathlib.Core.Bool.{Bool}
 use mathlib.Core.List.{List, _∷_, map, List·Memᴰ}
 use lib.IntN.{ℤ, natAbs}
@@ -8,16 +7,12 @@ use lib.ListN.{length}
 use Rattle.definitions.specs.declared.Axes.{Axes}
 use Rattle.definitions.specs.declared.MacroblockReply.{MacroblockReply}
 use Rattle.definitions.specs.declared.MacroblockReply.the-variants.{Answered, Refused as Declined}
-use Rattle.definitions.specs.declared.PictureReply.{PictureReply}
-use Rattle.definitions.specs.declared.PictureReply.the-variants.{Counted, Refused as NotMade}
-use Rattle.definitions.specs.Basics.{upTo, forEach}
-use Rattle.definitions.specs.Accepted.{AcceptedAxes}
 use Rattle.definitions.specs.Geometry.{columnsRead}
 use Rattle.definitions.specs.Record.{recordWords, narrow}
 use Rattle.definitions.specs.Answer.{madeOf}
-use Rattle.definitions.specs.Refusals.{Test, verdictOf, baseTest, outputTest, positionTest, recordTests, addressesRead, allAddresses, AllFormed}
-use Rattle.definitions.specs.Calls.{Outcome, byVerdict, madeAt, countsOf}
-use Rattle.definitions.specs.Raster.{baseAddress, baseCount, fullCount}
+use Rattle.definitions.specs.Refusals.{Test, verdictOf, baseTest, outputTest, positionTest, recordTests, addressesRead}
+use Rattle.definitions.specs.Calls.{Outcome, byVerdict}
+use Rattle.definitions.specs.Raster.{baseAddress}
 
 -- one macroblock, once its geometry is accepted: refusals 5 to 8
 unfoldable pub axesTests : Axes → List ℤ → ℤ → ℤ → List ℤ → List Test

@@ -1,13 +1,12 @@
 // The one-macroblock call of document 01.
-ghost use Prim.Native.Nat.{_*_, _<_, _≤_};
+ghost use Prim.Native.Nat.{_<_, _≤_};
 ghost use Rattle.common.specs.Bases.{BaseRight};
 ghost use Rattle.definitions.specs.Accepted.{AcceptedAxes};
 ghost use Rattle.definitions.specs.Answer.{addressesOf};
 ghost use Rattle.definitions.specs.Calls.{macroblockCall};
 ghost use Rattle.definitions.specs.Geometry.{baseSize};
 ghost use Rattle.definitions.specs.Record.{recordWords, narrow};
-ghost use Rattle.definitions.specs.Refusals.{recordTests, refusal, verdictOf, withinAxis};
-ghost use Rattle.definitions.specs.Raster.{baseCount};
+ghost use Rattle.definitions.specs.Refusals.{recordTests, refusal, verdictOf};
 ghost use Rattle.macroblock.specs.Made.{originBy};
 ghost use Rattle.upsample.specs.Promised.{SinglyPromised};
 ghost use Rattle.upsample.specs.Staged.{InBase, axesCall, sizedCall, rowAddresses};

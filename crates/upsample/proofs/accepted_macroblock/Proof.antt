@@ -20,7 +20,7 @@ use lib.IntN.{natAbs}
 use native.Mathlib.Omega.{arith}
 use mathlib.Core.Bool.{true, _&&_}
 use mathlib.Core.Path.{_≡_, sym, ap, _∙_}
-use Prim.Native.Nat.{ℕ, _<_, _*_}
+use Prim.Native.Nat.{_<_, _*_}
 use borrow.Author.Needs.{needs}
 use Rattle.upsample.proofs.accepted_macroblock.Statement.{statement}
 use Rattle.upsample.proofs.accepted_macroblock.Tie as tie

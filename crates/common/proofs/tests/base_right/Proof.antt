@@ -1,6 +1,4 @@
 -- `common::tests::base_right` meets its contract. Assumes nothing.
-use mathlib.Core.Path.{ap}
-use lib.Dec.{eqb}
 use borrow.Author.Needs.{needs}
 use Rattle.common.proofs.tests.base_right.Statement.{statement}
 use Rattle.common.proofs.tests.base_right.Tie as tie

@@ -1,6 +1,4 @@
 -- `session::Session::fresh` meets its contract. Assumes nothing.
-use Rattle.session.specs.Values.{zeros}
-use mathlib.Core.Bool.{false}
 use borrow.Author.Needs.{needs}
 use Rattle.session.proofs.Session.fresh.Statement.{statement}
 use Rattle.session.proofs.Session.fresh.Tie as tie
