@@ -1,4 +1,4 @@
-// Refusals 5, 6 and 7: each is tested here and nowhere else.
+// Refusals 5, 6 and 7 of the calls on records: each is tested here and nowhere else.
 ghost use Prim.Native.Nat.{_*_, _≤_};
 ghost use Rattle.definitions.specs.Accepted.{AcceptedAxes};
 ghost use Rattle.definitions.specs.Geometry.{fullSize};

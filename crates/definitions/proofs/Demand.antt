@@ -277,11 +277,11 @@ module _ (limit : ℕ) where
   asked-at n base column row words v =
       let g = axesOf n in
       let records = recordTests limit base (addressesRead g (natAbs column) (natAbs row)) in
-      let place = positionTest g column row in
-      let p = both-passed (geometryTests n) (baseTest g base ∷ outputTest 1 words ∷ place ∷ records) v in
-      let q = first-passed (baseTest g base) (outputTest 1 words ∷ place ∷ records) (p .1) in
-      let r = first-passed (outputTest 1 words) (place ∷ records) (q .1) in
-      let t = first-passed place records (r .1) in
+      let position = positionTest g column row in
+      let p = both-passed (geometryTests n) (baseTest g base ∷ outputTest 1 words ∷ position ∷ records) v in
+      let q = first-passed (baseTest g base) (outputTest 1 words ∷ position ∷ records) (p .1) in
+      let r = first-passed (outputTest 1 words) (position ∷ records) (q .1) in
+      let t = first-passed position records (r .1) in
       let both = both-true (withinAxis (fullSize (g .horizontal)) column) (withinAxis (fullSize (g .vertical)) row) (not-false _ (t .0)) in
       record { column-within = both .0; row-within = both .1; words-length = eqb-true (length words) recordWords (not-false (eqb (length words) recordWords) (r .0)) }
 

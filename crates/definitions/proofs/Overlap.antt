@@ -1,7 +1,7 @@
 -- Each block of a macroblock inside overlaps the scaled picture of the base block that it reads. Assumes nothing.
 --
--- All places are times B, so that they are whole. Base samples 8k and 8(k + 1) scale to 8kS and 8(k + 1)S, the two places that c lies between. p(k) and
--- p(k+1) are these rounded, so each gives bounds of its own (Bounds). Base block 2k + j − 4 starts (j − 4)/2 steps of 8S behind the first place: twice its
+-- All positions are times B, so that they are whole. Base samples 8k and 8(k + 1) scale to 8kS and 8(k + 1)S, the two positions that c lies between. p(k) and
+-- p(k+1) are these rounded, so each gives bounds of its own (Bounds). Base block 2k + j − 4 starts (j − 4)/2 steps of 8S behind the first position: twice its
 -- start is 6 − j times the first and j − 4 times the second, so it has bounds too. Whether these suffice for the block that a row names depends only on d1,
 -- d2 and the number of the block, and is computed for all of them (rows-fit).
 use Prim.Native.Nat.{ℕ, zero, suc, _+_, _*_, _/_, _%_, _-_, _≤_, _<_}
@@ -92,7 +92,7 @@ bounds b s c a =
     (omega arith)
 
 -- ---- the start of base block 2k + j − 4, by the bounds
--- Its highest place is not behind the end of block i, its lowest not before the start. (Twice the place, from c, and 97 − 16j more. Where 6 − j or j − 4 is
+-- Its highest position is not behind the end of block i, its lowest not before the start. (Twice the position, from c, and 97 − 16j more. Where 6 − j or j − 4 is
 -- below 0, j − 6 or 4 − j stands on the other side, with the other bound.)
 abbrev highest : ℕ → ℕ → ℕ → ℕ
 highest j x y = (6 - j) * topOf x + (j - 4) * (y + 1) + 16 * j

@@ -1,4 +1,4 @@
--- Where c lies between its two places p(k) and p(k+1), and M and N by the parity of k. Assumes nothing.
+-- Where c lies between its two positions p(k) and p(k+1), and M and N by the parity of k. Assumes nothing.
 use Prim.Native.Nat.{ℕ, _+_, _*_, _/_, _%_, _-_, _≤_, _<_}
 use mathlib.Core.Path.{_≡_, ap, _∙_}
 use mathlib.Core.Bool.{true, false}
@@ -19,7 +19,7 @@ second-above b s c hb hs =
     let h : zOf b s c + 1 ≤ 8 * (kOf b s c + 1) = omega arith in
     le-div-iff-mul-le hb .1 (omega (arith, lt-div-mul-add {a = c * b + b / 2} hs, mul-le-mul-right s h))
 
--- from a place to the next: eight base samples, not shrunk and at most doubled
+-- from a position to the next: eight base samples, not shrunk and at most doubled
 pub step-low : (b s j : ℕ) → 0 < b → b ≤ s → pOf b s j + 8 ≤ pOf b s (j + 1)
 step-low b s j hb h =
     le-div-iff-mul-le hb .1 (omega (arith, div-mul-le-self (8 * j * s + b / 2) b))
@@ -35,7 +35,7 @@ k-below b s c hb e h =
     let l : zOf b s c < b = div-lt-iff-lt-mul hs .1 (omega (arith, mul-le-mul-right b h)) in
     omega arith
 
--- the first place and the last
+-- the first position and the last
 pub at-zero : (b s : ℕ) → 0 < b → pOf b s 0 ≡ 0
 at-zero b s hb = div-eq-of-lt (omega arith)
 
@@ -44,7 +44,7 @@ at-end b s j hb e =
     let m : 8 * j * s ≡ b * s = ap (λ (x : ℕ). x * s) e in
     div-eq-of-lt-le b (omega arith) (omega arith)
 
--- ---- of a macroblock inside: where the two places lie, for omega to read
+-- ---- of a macroblock inside: where the two positions lie, for omega to read
 pub record Near (b s c : ℕ) : Type 0 where
   pub first : pOf b s (kOf b s c) ≤ c + 1
   pub second : c + 1 ≤ pOf b s (kOf b s c + 1)
@@ -78,7 +78,7 @@ room b s c a =
     let hl : kOf b s c ≤ 511 = omega arith in
     record { cb = mul-le-mul (n .c-top) (a .sized .base-high); k = omega arith; ks = mul-le-mul hl hs }
 
--- the first place of all is at least 8 before c, the last at least 8 behind it
+-- the first position of all is at least 8 before c, the last at least 8 behind it
 pub first-edge : (b s c : ℕ) → Inside b s c → kOf b s c ≡ 0 → (pOf b s (kOf b s c) ≡ 0) × (pOf b s (kOf b s c) + 8 ≤ c)
 first-edge b s c a e =
     let z : pOf b s (kOf b s c) ≡ 0 = ap (pOf b s) e ∙ at-zero b s (omega arith) in

@@ -1,4 +1,4 @@
--- A session's place, and refusals 20 to 22, over lists of calls (AddressRight of specs/Session). Assumes nothing.
+-- A session's address, and refusals 20 to 22, over lists of calls (AddressRight of specs/Session). Assumes nothing.
 use Prim.Native.Nat.{ℕ, _<_}
 use mathlib.Core.Path.{_≡_, refl, sym, ap, subst, _∙_}
 use mathlib.Core.Bool.{Bool, true, false, not, _&&_}

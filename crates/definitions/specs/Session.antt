@@ -62,7 +62,7 @@ onwardTests s = test (nothingBegun s) (refusal 20) ∷ test (finished s) (refusa
 abbrev pub beginTests : State → List Test
 beginTests s = test (unfinished s) (refusal 22) ∷ []
 
--- ---- What each call gaveAfter; 20 to 22 precede 1 to 8
+-- ---- What each call gives; 20 to 22 precede 1 to 8
 -- Begin can be refused by 1 to 4.
 unfoldable pub beginVerdict : State → Numbers → Verdict
 beginVerdict s n = verdictOf (beginTests s ++ geometryTests n)
@@ -176,7 +176,7 @@ pub record TotalsRight : Type 0 where
   pub counts : (calls : List Call) → exchange (stateAfter fresh calls) totals ≡ totalsGave (countsOf (madeSince calls))
   pub sum : (calls : List Call) → sumOf (countsOf (madeSince calls)) ≡ length (madeSince calls)
 
--- After a list of calls from a fresh session: the geometry begun, the number of macroblocks made, and what one call more gaveAfter
+-- After a list of calls from a fresh session: the geometry begun, the number of macroblocks made, and what one call more gives
 abbrev pub geometryAfter : List Call → Option Numbers
 geometryAfter calls = geometrySince (exchanges fresh calls)
 

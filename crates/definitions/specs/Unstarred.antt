@@ -60,17 +60,17 @@ pub data Result : Type 0 where
   bytes : List ℕ → Result
 
 abbrev pub given : Instance → Result
-given (call n base column rowOf4 words o) = outcome (macroblockCall narrow n base column rowOf4 (replicate words (pos 0)))
+given (call n base column row lentCount o) = outcome (macroblockCall narrow n base column row (replicate lentCount (pos 0)))
 given (geometry n k) = verdict (geometryVerdict n)
 given (rule r k) = broken (firstBroken narrow r)
-given (lines entries words) = wordsAre (baseOf entries)
+given (lines entries w) = wordsAre (baseOf entries)
 given (log n entries l) = bytes (logFor (judged n (length entries) (baseOf entries)))
 
 abbrev pub expected : Instance → Result
-expected (call n base column rowOf4 words o) = outcome o
+expected (call n base column row lentCount o) = outcome o
 expected (geometry n k) = verdict (verdictBy k)
 expected (rule r k) = broken k
-expected (lines entries words) = wordsAre words
+expected (lines entries w) = wordsAre w
 expected (log n entries l) = bytes l
 
 -- ---- Geometries: B, S, o and E of an axis, across and down
@@ -153,7 +153,7 @@ various =
     (rowOf4 (rowOf4 (block 1 2 0 0) (block 1 2 0 0) (block 3 4 5 6) (block 3 4 5 6)) (rowOf4 (block 1 2 0 0) (block 1 2 0 0) (block 7 8 9 10) (block 7 8 9 10))
     (rowOf4 (block 0 0 11 12) (block 0 0 13 14) (block 15 16 0 0) (block 17 18 0 0)) (rowOf4 (block 0 0 11 12) (block 0 0 13 14) (block 19 20 0 0) (block 21 22 0 0)))
 
--- all words differ; the second is the first and 100 more
+-- all vector words differ; the second is the first and 100 more
 abbrev differing : List ℤ
 differing =
     words (pos 4) (listOf4 (pos 3) (pos 3) (pos 3) (pos 3)) (both (pos 0) (pos 2)) (rising 1)

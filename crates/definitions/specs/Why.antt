@@ -27,7 +27,7 @@ abbrev pub centreOf : ℕ → ℕ → ℕ
 centreOf m i = m + 4 * i - 6
 
 -- Base block q, of blocks w wide, lies under x, the centre of block i. Where x is on the border of two, q is the one on the side of the middle of block i's 8 by 8
--- quadrant: the one behind x where i is even, the one before x where i is odd.
+-- quadrant: the one that starts at x where i is even, the one that ends at x where i is odd.
 pub record Under (w q i x : ℕ) : Type 0 where
   pub even : i % 2 ≡ 0 → (q * w ≤ x) × (x < (q + 1) * w)
   pub odd : i % 2 ≡ 1 → (q * w < x) × (x ≤ (q + 1) * w)
@@ -67,6 +67,6 @@ pub record WhyEntire : Type 0 where
   pub only-nearest : (b s : ℕ) (v v′ : ℤ) → Sized b s → Nearest b s v v′ → v′ ≡ scaledWord b s v
   -- −v becomes the same but for its sign;
   pub odd : (b s : ℕ) (v : ℤ) → Sized b s → scaledWord b s (negℤ v) ≡ negℤ (scaledWord b s v)
-  -- a word of −limit..limit − 1 becomes one of −2·limit..2·(limit − 1), for rule 5's limit and any other;
+  -- a word of −limit..limit − 1 becomes one of −2·limit..2·(limit − 1), for rule 5's limit and any other.
   pub range : (b s limit : ℕ) (v : ℤ) → Sized b s → minus limit ≤ℤ v → v ≤ℤ pos (limit - 1)
       → (minus (2 * limit) ≤ℤ scaledWord b s v) × (scaledWord b s v ≤ℤ pos (2 * (limit - 1)))

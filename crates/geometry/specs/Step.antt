@@ -18,6 +18,6 @@ pub record AtSample (a : Axis) (p : ℕ) : Type 0 where
 abbrev pub decimals : ℕ → List ℕ
 decimals r = r / 1000 ∷ r / 100 % 10 ∷ r / 10 % 10 ∷ r % 10 ∷ []
 
--- a table by k % 2, |M| / 4 and |N| / 4 that has each row of the block map at its place
+-- a table by k % 2, |M| / 4 and |N| / 4 that has each row of the block map at these indices
 pub record Complete (table : List (List (List ℕ))) : Type 0 where
   pub row : (k : ℕ) (m n : ℤ) → length (digitsOf (even k) m n) ≡ 4 → decimals (getD (getD (getD table (k % 2) []) (natAbs m / 4) []) (natAbs n / 4) 0) ≡ digitsOf (even k) m n

@@ -25,14 +25,14 @@ fn is_marked(set: u16, i: u32) -> bool
 }
 
 // The first block of each quadrant.
-const CORNER: [u32; 4] = [0, 2, 8, 10];
+const FIRST_BLOCK: [u32; 4] = [0, 2, 8, 10];
 
 // The blocks of quadrant q that read no intra macroblock.
 fn clear_of(set: u16, q: usize) -> [bool; 4]
     requires { ⌜ q < 4 ⌝ }
     ensures { λ r. ⌜ r ≡ clearOf set q ⌝ }
 {
-    let i = CORNER[q];
+    let i = FIRST_BLOCK[q];
     [
         !is_marked(set, i),
         !is_marked(set, i + 1),

@@ -7,11 +7,11 @@ use lib.Seq.{sets}
 use Rattle.definitions.specs.Basics.{forEach}
 use Rattle.definitions.specs.Log.{decimal}
 
--- there is room for the bytes from a place on
+-- there is room for the bytes from an offset on
 abbrev pub Fits : List ℕ → ℕ → List ℕ → Type 0
 Fits out at bytes = at + length bytes ≤ length out
 
--- the bytes stand there, all others are as they were, and next is the place after them
+-- the bytes stand there, all others are as they were, and next is the offset after them
 pub record Put (old : List ℕ) (at : ℕ) (bytes new : List ℕ) (next : ℕ) : Type 0 where
   pub stored : new ≡ sets old at bytes
   pub after : next ≡ at + length bytes

@@ -1,4 +1,4 @@
-// The lines of a log, written into lent bytes from a place on. Each function gives the place after what it wrote.
+// The lines of a log, written into lent bytes from an offset on. Each function gives the offset after what it wrote.
 ghost use Rattle.definitions.specs.Log.{decimal, lineOf};
 ghost use Rattle.log_lines.specs.Put.{Fits, Put, itemsOf};
 ghost use mathlib.Core.List.{[], _∷_};
@@ -70,7 +70,7 @@ pub fn put_line(out: &mut [u8], at: usize, word: &[u8], numbers: &[u32]) -> usiz
 {
     let opened = put_byte(out, at, b'(');
     let named = put_word(out, opened, word);
-    let told = put_items(out, named, numbers);
-    let closed = put_byte(out, told, b')');
+    let listed = put_items(out, named, numbers);
+    let closed = put_byte(out, listed, b')');
     put_byte(out, closed, b'\n')
 }

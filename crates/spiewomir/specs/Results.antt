@@ -31,8 +31,8 @@ classNumber Center = 3
 -- the sub-types that an answer has, 0 unless it is inherited with an 8×8 split
 abbrev pub answerSubTypes : Answer → List ℕ
 answerSubTypes Outside = 0 ∷ 0 ∷ 0 ∷ 0 ∷ []
-answerSubTypes (Intra n) = 0 ∷ 0 ∷ 0 ∷ 0 ∷ []
-answerSubTypes (Inherited n s) = subTypes s
+answerSubTypes (Intra o) = 0 ∷ 0 ∷ 0 ∷ 0 ∷ []
+answerSubTypes (Inherited o s) = subTypes s
 
 -- refusal 0 stands for none
 abbrev pub answerResult : Answer → MacroblockResult

@@ -24,7 +24,7 @@ axesCall g base column row words =
     let made = madeOf g base (natAbs column) (natAbs row) in
     byVerdict (verdictOf (axesTests g base column row words)) Declined words (record { reply = Answered (made .answer); words = made .written })
 
--- and once the lengths and its place are: refusal 8
+-- and once the lengths and its position are: refusal 8
 unfoldable pub sizedCall : Axes → List ℤ → ℕ → ℕ → List ℤ → Outcome MacroblockReply
 sizedCall g base column row words =
     let made = madeOf g base column row in
