@@ -10,7 +10,7 @@ use Rattle.definitions.specs.declared.MacroblockReply.the-variants.{Answered, R
 use Rattle.definitions.specs.Geometry.{axesOf, fullSize}
 use Rattle.definitions.specs.Record.{narrow}
 use Rattle.definitions.specs.Calls.{macroblockCall}
-use Rattle.definitions.proofs.Demand.{demand3, call-accepted, AskedAt, asked-at}
+use Rattle.definitions.proofs.Demand.{demand3, call-accepted, case-answered, AskedAt, asked-at}
 use Rattle.upsample.specs.Promised.{SinglyPromised}
 use Rattle.upsample.proofs.Within.{within-natural}
 
@@ -32,7 +32,7 @@ singly-promised n base column row words (Answered answer) out r w =
     let d = natural-row n base column row words answer (sym r) in
     let e : macroblockCall narrow n base (pos (natAbs column)) (pos (natAbs row)) words ≡ macroblockCall narrow n base column row words = λ i. macroblockCall narrow n base (c i) (d i) words in
     demand3 narrow .singly n (natAbs column) (natAbs row) words base answer out (e ∙ (λ i. record { reply = sym r i; words = sym w i }))
-singly-promised n base column row words (Declined r) out e w = tt
+singly-promised n base column row words (Declined r) out e w = case-answered narrow n column row base words r (sym e)
 
 -- a call's reply and words with the promise of them: the contract's three parts
 pub singly-kept : (n : Numbers) (base : List ℤ) (column row : ℤ) (words : List ℤ) (reply : MacroblockReply) (out : List ℤ)
