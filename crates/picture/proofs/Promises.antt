@@ -3,6 +3,7 @@ use mathlib.Core.Path.{_≡_, sym, ap, subst}
 use mathlib.Core.List.{List}
 use lib.IntN.{ℤ}
 use Rattle.definitions.specs.declared.Numbers.{Numbers}
+use Rattle.definitions.specs.declared.Refusal.{Refusal}
 use Rattle.definitions.specs.declared.MacroblockReply.{MacroblockReply}
 use Rattle.definitions.specs.declared.PictureReply.{PictureReply}
 use Rattle.definitions.specs.declared.PictureReply.the-variants.{Counted, Refused as NotMade}
@@ -10,8 +11,11 @@ use Rattle.definitions.specs.Geometry.{axesOf}
 use Rattle.definitions.specs.Raster.{fullAddress}
 use Rattle.definitions.specs.Record.{recordAt, narrow}
 use Rattle.definitions.specs.Calls.{Outcome, pictureCall, AsSingly}
+use Rattle.definitions.specs.Examples.{wholeCase, wholeRecord}
+use Rattle.definitions.specs.Cases.{blank}
 use Rattle.definitions.proofs.Demand.{demand3, passed, gives-made, counted-accepted, alone-accepted, case-counted}
 use Rattle.definitions.proofs.Singly.{picture-by-singly}
+use Rattle.definitions.proofs.Cases.{cases}
 use Rattle.picture.specs.Promised.{PicturePromised, SinglyCounted}
 
 module _ (n : Numbers) (base words : List ℤ) where
@@ -25,7 +29,7 @@ module _ (n : Numbers) (base words : List ℤ) where
         answer = _;
         answered = answered;
         demand3 = demand3 narrow .picture n column row words alone base _ (recordAt out at)
-        (record { counts = counts; accepted = sym r; answered = answered; at-address = ap (λ (o : List ℤ). recordAt o at) (sym w) });
+            (record { counts = counts; accepted = sym r; answered = answered; at-address = ap (λ (o : List ℤ). recordAt o at) (sym w) });
       }
   picture-promised (NotMade r) out e w = case-counted narrow n base words r (sym e)
 
@@ -38,3 +42,7 @@ module _ (n : Numbers) (base words : List ℤ) where
   pub picture-kept : (reply : PictureReply) (out : List ℤ) → reply ≡ pictureCall narrow n base words .reply → out ≡ pictureCall narrow n base words .words
       → (reply ≡ pictureCall narrow n base words .reply) × ((out ≡ pictureCall narrow n base words .words) × (PicturePromised n base words reply out × SinglyCounted n base reply out))
   picture-kept reply out r w = (r, (w, (picture-promised reply out r w, picture-singly reply out r w)))
+
+-- The promise alone shuts refusals out: in document 01's whole case none keeps it.
+pub whole-counted : (r : Refusal) (out : List ℤ) → PicturePromised wholeCase wholeRecord (blank 6) (NotMade r) out → ⊥
+whole-counted r out promised = promised (cases .inherited .picture-case)
