@@ -6,7 +6,8 @@ use mathlib.Core.List.{List, List·Memᴰ·not-nil}
 use lib.Count.{ones, onesIn}
 use lib.Dec.{ltb}
 use lib.IntN.{ℤ, pos}
-use lib.ListN.{length}
+use lib.ListN.{length, length-replicate}
+use lib.Signed.{leZ-yes, ltZ-yes}
 use borrow.Author.Tests.{ltb-true}
 use Rattle.definitions.specs.declared.Numbers.{Numbers}
 use Rattle.definitions.specs.declared.Counts.{Counts}
@@ -26,7 +27,7 @@ use Rattle.definitions.specs.Inheriting.{setOf, intraSet, gathered, sour
 use Rattle.definitions.specs.Answer.{originAt, answerOf, addressesOf, writtenFor, madeOf}
 use Rattle.definitions.specs.Refusals.{geometryTests, geometryVerdict, recordTests, addressesRead}
 use Rattle.definitions.specs.Calls.{Outcome, macroblockTests, macroblockCall, pictureTests, madeAt, countsOf, pictureCall}
-use Rattle.definitions.specs.Demand3.{SinglyGives}
+use Rattle.definitions.specs.Demand3.{SinglyGives, Case}
 use Rattle.definitions.specs.Examples.{centred, intraRecord, wholeRecord, onlyLast, allButLast, wholeCase}
 use Rattle.definitions.specs.Cases.{blank, Concrete, fromZero, doubledRecord, outsideRecord, threeCounts, Cases}
 use Rattle.definitions.specs.Raster.{baseCount, fullCount}
@@ -51,14 +52,17 @@ concrete n column row base answer written counts accepted size formed x y singly
     let replied = ap (λ (o : Outcome MacroblockReply). o .reply) singly in
     let given = gives-made narrow n column row (blank 1) base (call-accepted narrow n base (pos column) (pos row) (blank 1) answer replied) in
     let there = record-made narrow n words base column row within-x within-y (counted-accepted narrow n words base counts counted) in
+    let case : Case narrow n column row base = record {
+      geometry = accepted;
+      base-length = size;
+      formed = below-true (baseCount (axesOf n)) (λ a. wellFormed narrow (recordAt base a)) formed;
+      column-within = within-x;
+      row-within = within-y;
+    } in
     record {
-      case = record {
-        geometry = accepted;
-        base-length = size;
-        formed = below-true (baseCount (axesOf n)) (λ a. wellFormed narrow (recordAt base a)) formed;
-        column-within = within-x;
-        row-within = within-y;
-      };
+      case = case;
+      singly-case = demand3 narrow .case-singly n column row base (blank 1) case (length-replicate _ (pos 0));
+      picture-case = demand3 narrow .case-picture n column row base words case (length-replicate _ (pos 0));
       singly = singly;
       picture = record { counts = counts; accepted = counted; answered = replied; at-address = there ∙ ap (λ (o : Outcome MacroblockReply). o .words) (sym given ∙ singly) };
       picture-counts = refl;
@@ -93,10 +97,20 @@ computed = record {
 }
 
 pub cases : Cases
-unfolding pick upTo laidOut geometryTests
+unfolding pick upTo insideAxis laidOut geometryTests addressesRead
 cases = record {
   inherited = concrete wholeCase 0 0 wholeRecord _ _ _ refl refl (computed .whole-formed) refl refl (computed .whole-first) (computed .whole-counted);
   outside = concrete wholeCase 2 0 wholeRecord _ _ _ refl refl (computed .whole-formed) refl refl (computed .whole-outside) (computed .whole-counted);
+  others-case = λ base l. record {
+    geometry = refl;
+    base-length = l;
+    words-length = refl;
+    column-low = leZ-yes tt;
+    column-high = ltZ-yes tt;
+    row-low = leZ-yes tt;
+    row-high = ltZ-yes tt;
+    formed = λ a m. absurd (List·Memᴰ·not-nil m);
+  };
   others = λ base l. demand3 narrow .singly wholeCase 2 0 (blank 1) wholeRecord Outside outsideRecord (computed .whole-outside) .others base l (λ a m. absurd (List·Memᴰ·not-nil m));
   by-calls = picture-by-singly narrow wholeCase wholeRecord (blank 6) (threeCounts 4 0 2) (λ a. blank 1) (computed .whole-counted) (λ a h. refl);
   filled-there = concrete centred 1 1 onlyLast _ _ _ refl refl (computed .filled-formed) refl refl (computed .filled-center) (computed .filled-counted);

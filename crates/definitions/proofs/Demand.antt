@@ -5,9 +5,10 @@ use mathlib.Core.Bool.{Bool, true, false, not}
 use mathlib.Core.List.{List, [], _∷_, _++_, List·Memᴰ, List·Memᴰ·head, List·Memᴰ·tail, List·Memᴰ·not-nil}
 use native.Mathlib.Nat.{div-eq-of-lt-le, mod-eq-of-lt, mul-add-mod-self-right, mul-le-mul-right}
 use native.Mathlib.Omega.{arith}
-use lib.Dec.{eqb, leb, ltb}
+use lib.Dec.{T, eqb, leb, ltb, le→leb, lt→ltb}
 use lib.IntN.{ℤ, pos, negsuc, natAbs}
-use lib.ListN.{length, replicate, length-replicate}
+use lib.ListN.{length}
+use lib.Signed.{leZ, ltZ, _≤ℤ_, _<ℤ_}
 use borrow.Author.Tests.{eq-eqb, eqb-true, le-leb, lt-ltb, ltb-true, not-false}
 use Rattle.definitions.specs.declared.Axes.{Axes}
 use Rattle.definitions.specs.declared.Numbers.{Numbers}
@@ -28,7 +29,7 @@ use Rattle.definitions.specs.Record.{recordWords, recordAt, wellFormed, 
 use Rattle.definitions.specs.Answer.{Made, answerOf, writtenFor, madeOf, addressesNamed}
 use Rattle.definitions.specs.Refusals.{test, refusal, verdictOf, geometryTests, geometryVerdict, baseTest, outputTest, positionTest, recordTests, withinAxis, addressesRead, allAddresses, AllFormed}
 use Rattle.definitions.specs.Calls.{Outcome, byVerdict, macroblockTests, macroblockCall, pictureTests, madeAt, countsOf, pictureCall}
-use Rattle.definitions.specs.Demand3.{Demand3, AnyWords, SinglyGives, Demand3Singly, FormedWords, PictureGives, Demand3Picture, Case, Demand3Entire}
+use Rattle.definitions.specs.Demand3.{Demand3, AnyWords, SinglyGives, Demand3Singly, FormedWords, PictureGives, Demand3Picture, Case, SinglyCase, PictureCase, Demand3Entire}
 use Rattle.definitions.specs.Raster.{baseCount, fullCount}
 use Rattle.definitions.proofs.Choices.{yes, no, both-true, and-intro}
 use Rattle.definitions.proofs.Verdicts.{first-passed, both-passed, then-verdict, reply-accepted}
@@ -48,7 +49,7 @@ Agree addresses base other = (a : ℕ) → List·Memᴰ a addresses → recordAt
 
 module _ (g : Axes) (base : List ℤ) (column row : ℕ) where
   -- a call checks the records that its answer names
-  read-named : {answer : Answer} → Decided g base column row answer → addressesRead g column row ≡ addressesNamed g answer
+  pub read-named : {answer : Answer} → Decided g base column row answer → addressesRead g column row ≡ addressesNamed g answer
   unfolding addressesRead
   read-named (is-outside e) = no _ _ e
   read-named (is-intra e m) = yes _ _ e
@@ -108,6 +109,20 @@ made-length g base address = written-length _ _
 pub within : (size k : ℕ) → k < macroblocks size → withinAxis size (pos k) ≡ true
 within size k h = and-intro (le-leb 0 k (omega arith)) (lt-ltb k (macroblocks size) h)
 
+-- the same of a number that may be below 0
+told : (b : Bool) → T b → b ≡ true
+told true t = refl
+told false t = absurd t
+
+pub within-bounds : (size : ℕ) (x : ℤ) → pos 0 ≤ℤ x → x <ℤ pos (macroblocks size) → withinAxis size x ≡ true
+within-bounds size x low high = and-intro (told (leZ (pos 0) x) (low .le)) (told (ltZ x (pos (macroblocks size))) (high .lt))
+
+bounds-low : (x : ℕ) → pos 0 ≤ℤ pos x
+bounds-low x = record { le = le→leb 0 x (omega arith) }
+
+bounds-high : (x count : ℕ) → x < count → pos x <ℤ pos count
+bounds-high x count h = record { lt = lt→ltb x count h }
+
 pub within-low : (size : ℕ) (x : ℤ) → withinAxis size x ≡ true → natAbs x < macroblocks size
 within-low size (pos k) e = ltb-true k (macroblocks size) (both-true (leb 0 k) (ltb k (macroblocks size)) e .1)
 within-low size (negsuc k) e = absurd (let z : _≡_ {A = ℕ} 0 1 = cc in omega arith)
@@ -149,12 +164,32 @@ module _ (limit : ℕ) where
       reply-accepted (verdictOf (macroblockTests limit n base column row words)) Declined words _ (Answered answer) (λ r q. answer-not-refusal q) e
 
   -- where a call is accepted, it gives what is made
+  call-made : (n : Numbers) (column row : ℤ) (words base : List ℤ) → verdictOf (macroblockTests limit n base column row words) ≡ Accepted
+      → let made = madeOf (axesOf n) base (natAbs column) (natAbs row) in macroblockCall limit n base column row words ≡ record { reply = Answered (made .answer); words = made .written }
+  unfolding macroblockCall
+  call-made n column row words base v =
+      let made = madeOf (axesOf n) base (natAbs column) (natAbs row) in
+      ap (λ (w : Verdict). byVerdict w Declined words (record { reply = Answered (made .answer); words = made .written })) v
+
   pub gives-made : (n : Numbers) (column row : ℕ) (words base : List ℤ) → verdictOf (macroblockTests limit n base (pos column) (pos row) words) ≡ Accepted
       → SinglyGives limit n column row words base (madeOf (axesOf n) base column row .answer) (madeOf (axesOf n) base column row .written)
-  unfolding macroblockCall
-  gives-made n column row words base v =
-      let made = madeOf (axesOf n) base column row in
-      ap (λ (w : Verdict). byVerdict w Declined words (record { reply = Answered (made .answer); words = made .written })) v
+  gives-made n column row words base v = call-made n (pos column) (pos row) words base v
+
+  -- in a case of it, a call is accepted,
+  case-accepted : (n : Numbers) (column row : ℤ) (base words : List ℤ) → SinglyCase limit n column row base words → verdictOf (macroblockTests limit n base column row words) ≡ Accepted
+  unfolding macroblockTests
+  case-accepted n column row base words case =
+      let g = axesOf n in
+      then-verdict (geometryTests n) _ (case .geometry)
+      ∙ (no _ _ (ap not (eq-eqb (length base) (recordWords * baseCount g) (case .base-length)))
+      ∙ (no _ _ (ap not (eq-eqb (length words) recordWords (case .words-length)))
+      ∙ (no _ _ (ap not (and-intro (within-bounds (fullSize (g .horizontal)) column (case .column-low) (case .column-high)) (within-bounds (fullSize (g .vertical)) row (case .row-low) (case .row-high))))
+      ∙ formed-all limit base (addressesRead g (natAbs column) (natAbs row)) (case .formed))))
+
+  -- and so is not refused
+  pub case-answered : (n : Numbers) (column row : ℤ) (base words : List ℤ) (r : Refusal) → macroblockCall limit n base column row words .reply ≡ Declined r → SinglyCase limit n column row base words → ⊥
+  case-answered n column row base words r e case =
+      answer-not-refusal (sym e ∙ ap (λ (o : Outcome MacroblockReply). o .reply) (call-made n column row words base (case-accepted n column row base words case)))
 
   module _ (n : Numbers) (column row : ℕ) (words base : List ℤ) where
     abbrev single : Verdict
@@ -220,7 +255,7 @@ module _ (limit : ℕ) where
         let r = first-passed (outputTest (fullCount g) words) (recordTests limit base (allAddresses g)) (q .1) in
         record { geometry = p .0; base-length = q .0; word-length = r .0; formed = λ a h. all-formed limit base (allAddresses g) (r .1) a (index-member (baseCount g) a h) }
 
-    accepted : Passed → whole ≡ Accepted
+    pub accepted : Passed → whole ≡ Accepted
     unfolding pictureTests
     accepted p =
         then-verdict (geometryTests n) _ (p .geometry) ∙ (no _ _ (p .base-length) ∙ (no _ _ (p .word-length)
@@ -327,30 +362,42 @@ module _ (limit : ℕ) where
           subst (λ (m : Made). PictureGives limit n column row words alone other (m .answer) (m .written)) (made-same n column row (k .geometry) base other agree)
           (picture-gives n column row words alone other p q)
 
+  -- ---- the cases
+  case-passed : (n : Numbers) (base words : List ℤ) → PictureCase limit n base words → Passed n words base
+  case-passed n base words case = record {
+    geometry = case .geometry;
+    base-length = ap not (eq-eqb (length base) (recordWords * baseCount (axesOf n)) (case .base-length));
+    word-length = ap not (eq-eqb (length words) (recordWords * fullCount (axesOf n)) (case .words-length));
+    formed = case .formed;
+  }
+
+  -- in a case of it, a picture is not refused
+  pub case-counted : (n : Numbers) (base words : List ℤ) (r : Refusal) → pictureCall limit n base words .reply ≡ NotMade r → PictureCase limit n base words → ⊥
+  case-counted n base words r e case = counts-not-refusal (sym e ∙ counted-made n words base (accepted n words base (case-passed n base words case)))
+
+  -- a case of the demand is one of both calls
+  case-singly : (n : Numbers) (column row : ℕ) (base words : List ℤ) → Case limit n column row base → length words ≡ recordWords → SinglyCase limit n (pos column) (pos row) base words
+  case-singly n column row base words case l = record {
+    geometry = case .geometry;
+    base-length = case .base-length;
+    words-length = l;
+    column-low = bounds-low column;
+    column-high = bounds-high column _ (case .column-within);
+    row-low = bounds-low row;
+    row-high = bounds-high row _ (case .row-within);
+    formed = λ a m. case .formed a (read-below n words base column row (case .column-within) (case .row-within) (case .geometry) a m);
+  }
+
+  case-picture : (n : Numbers) (column row : ℕ) (base words : List ℤ) → Case limit n column row base → length words ≡ recordWords * fullCount (axesOf n) → PictureCase limit n base words
+  case-picture n column row base words case l = record { geometry = case .geometry; base-length = case .base-length; words-length = l; formed = case .formed }
+
   -- ---- entire
-  module _ (n : Numbers) (column row : ℕ) (base : List ℤ) (case : Case limit n column row base) where
-    case-passed : (words : List ℤ) → length words ≡ recordWords * fullCount (axesOf n) → Passed n words base
-    case-passed words l = record {
-      geometry = case .geometry;
-      base-length = ap not (eq-eqb (length base) (recordWords * baseCount (axesOf n)) (case .base-length));
-      word-length = ap not (eq-eqb (length words) (recordWords * fullCount (axesOf n)) l);
-      formed = case .formed;
-    }
-
-    case-asked : (alone : List ℤ) → length alone ≡ recordWords → Asked n column row alone
-    case-asked alone l = record { column-within = case .column-within; row-within = case .row-within; alone-length = l }
-
-    -- (any words of the picture's length serve)
-    case-alone : (alone : List ℤ) → length alone ≡ recordWords → verdictOf (macroblockTests limit n base (pos column) (pos row) alone) ≡ Accepted
-    case-alone alone l =
-        let size = recordWords * fullCount (axesOf n) in
-        let words = replicate size (pos 0) in
-        alone-accepted n words base column row (case .column-within) (case .row-within) (case-passed words (length-replicate size (pos 0))) alone l
-
   pub demand3 : Demand3Entire limit
   demand3 = record {
     singly = singly;
-    singly-given = λ n column row base case words l. (_, _, gives-made n column row words base (case-alone n column row base case words l));
+    singly-given = λ n column row words base case. (_, _, gives-made n column row words base (case-accepted n (pos column) (pos row) base words case));
     picture = picture;
-    picture-given = λ n column row base case words l alone k. (_, _, picture-gives n column row words alone base (case-passed n column row base case words l) (case-asked n column row base case alone k));
+    picture-given = λ n column row words alone base case x y l. (_, _, picture-gives n column row words alone base (case-passed n base words case) (record { column-within = x; row-within = y; alone-length = l }));
+    case-singly = case-singly;
+    case-picture = case-picture;
   }

@@ -110,17 +110,17 @@ repliesOutside (Declined r) = false
 
 -- Each macroblock's words are those that the one-macroblock call writes for it, and each count is the number of macroblocks for which that call's answer
 -- is of its sort. (lent a: the 77 words lent to the call at address a, whatever they hold. Each macroblock is counted, so that each call answers.)
-pub record AsSingly (limit : ℕ) (n : Numbers) (base words : List ℤ) (counts : Counts) (lent : ℕ → List ℤ) : Type 0 where
+pub record AsSingly (limit : ℕ) (n : Numbers) (base : List ℤ) (counts : Counts) (written : List ℤ) (lent : ℕ → List ℤ) : Type 0 where
   pub inherited : counts .inherited ≡ howMany (fullCount (axesOf n)) (λ a. repliesInherited (callAt limit n base a (lent a) .reply))
   pub intra : counts .intra ≡ howMany (fullCount (axesOf n)) (λ a. repliesIntra (callAt limit n base a (lent a) .reply))
   pub outside : counts .outside ≡ howMany (fullCount (axesOf n)) (λ a. repliesOutside (callAt limit n base a (lent a) .reply))
   pub sum : sumOf counts ≡ fullCount (axesOf n)
-  pub words-length : length (pictureCall limit n base words .words) ≡ recordWords * fullCount (axesOf n)
-  pub words-same : (a : ℕ) → a < fullCount (axesOf n) → recordAt (pictureCall limit n base words .words) a ≡ callAt limit n base a (lent a) .words
+  pub words-length : length written ≡ recordWords * fullCount (axesOf n)
+  pub words-same : (a : ℕ) → a < fullCount (axesOf n) → recordAt written a ≡ callAt limit n base a (lent a) .words
 
 abbrev pub PictureBySingly : ℕ → Type 0
 PictureBySingly limit =
     (n : Numbers) (base words : List ℤ) (counts : Counts) (lent : ℕ → List ℤ)
     → pictureCall limit n base words .reply ≡ Counted counts
     → ((a : ℕ) → a < fullCount (axesOf n) → length (lent a) ≡ recordWords)
-    → AsSingly limit n base words counts lent
+    → AsSingly limit n base counts (pictureCall limit n base words .words) lent

@@ -4,8 +4,9 @@ use mathlib.Core.Path.{_≡_}
 use mathlib.Core.Logic.{_≢_, _↔_}
 use mathlib.Core.Bool.{true, false}
 use mathlib.Core.List.{List, _∷_, map, List·Memᴰ}
-use lib.IntN.{ℤ, pos}
+use lib.IntN.{ℤ, pos, natAbs}
 use lib.ListN.{length, take}
+use lib.Signed.{_≤ℤ_, _<ℤ_}
 use Rattle.definitions.specs.declared.Axes.{Axes}
 use Rattle.definitions.specs.declared.Numbers.{Numbers}
 use Rattle.definitions.specs.declared.Counts.{Counts}
@@ -19,10 +20,10 @@ use Rattle.definitions.specs.declared.PictureReply.the-variants.{Counted
 use Rattle.definitions.specs.Basics.{pick}
 use Rattle.definitions.specs.Geometry.{axesOf, baseSize, fullSize, macroblocks, inside}
 use Rattle.definitions.specs.Splits.{Covers, pieces, oneEach, count}
-use Rattle.definitions.specs.Record.{recordWords, recordAt, motionOf, typeNumber, splitSaid}
+use Rattle.definitions.specs.Record.{recordWords, recordAt, wellFormed, motionOf, typeNumber, splitSaid}
 use Rattle.definitions.specs.Inheriting.{blocksReadingIntra, inheritedMotions, motionAt}
 use Rattle.definitions.specs.Answer.{originAt, outsideOrigin, answerOrigin, columnsNamed, rowsNamed, addressesNamed, subTypes, unusedMotion}
-use Rattle.definitions.specs.Refusals.{geometryVerdict, AllFormed}
+use Rattle.definitions.specs.Refusals.{geometryVerdict, addressesRead, AllFormed}
 use Rattle.definitions.specs.Calls.{macroblockCall, pictureCall}
 use Rattle.definitions.specs.Raster.{baseCount, fullCount, fullAddress}
 
@@ -96,14 +97,37 @@ pub record Case (limit : ℕ) (n : Numbers) (column row : ℕ) (base : List ℤ)
   pub column-within : column < macroblocks (fullSize (axesOf n .horizontal))
   pub row-within : row < macroblocks (fullSize (axesOf n .vertical))
 
+-- What each call is lent in such a case: right lengths besides, and singly only those records are well formed that the macroblock names (outside none).
+pub record SinglyCase (limit : ℕ) (n : Numbers) (column row : ℤ) (base words : List ℤ) : Type 0 where
+  pub geometry : geometryVerdict n ≡ Accepted
+  pub base-length : length base ≡ recordWords * baseCount (axesOf n)
+  pub words-length : length words ≡ recordWords
+  pub column-low : pos 0 ≤ℤ column
+  pub column-high : column <ℤ pos (macroblocks (fullSize (axesOf n .horizontal)))
+  pub row-low : pos 0 ≤ℤ row
+  pub row-high : row <ℤ pos (macroblocks (fullSize (axesOf n .vertical)))
+  pub formed : (a : ℕ) → List·Memᴰ a (addressesRead (axesOf n) (natAbs column) (natAbs row)) → wellFormed limit (recordAt base a) ≡ true
+
+pub record PictureCase (limit : ℕ) (n : Numbers) (base words : List ℤ) : Type 0 where
+  pub geometry : geometryVerdict n ≡ Accepted
+  pub base-length : length base ≡ recordWords * baseCount (axesOf n)
+  pub words-length : length words ≡ recordWords * fullCount (axesOf n)
+  pub formed : AllFormed limit (axesOf n) base
+
 -- Demand 3, entire: in each such case, with the words that the calls ask for, both calls hand something over, and all that they hand over, there or
 -- anywhere, is as demanded. (Singly that is so wherever the call answers, whatever the records hold that it does not name.)
 pub record Demand3Entire (limit : ℕ) : Type 0 where
   pub singly : (n : Numbers) (column row : ℕ) (words base : List ℤ) (answer : Answer) (written : List ℤ)
       → SinglyGives limit n column row words base answer written → Demand3Singly limit n column row words base answer written
-  pub singly-given : (n : Numbers) (column row : ℕ) (base : List ℤ) → Case limit n column row base → (words : List ℤ) → length words ≡ recordWords
+  pub singly-given : (n : Numbers) (column row : ℕ) (words base : List ℤ) → SinglyCase limit n (pos column) (pos row) base words
       → (answer : Answer) × (written : List ℤ) × SinglyGives limit n column row words base answer written
   pub picture : (n : Numbers) (column row : ℕ) (words alone base : List ℤ) (answer : Answer) (written : List ℤ)
       → PictureGives limit n column row words alone base answer written → Demand3Picture limit n column row words alone base answer written
-  pub picture-given : (n : Numbers) (column row : ℕ) (base : List ℤ) → Case limit n column row base → (words : List ℤ) → length words ≡ recordWords * fullCount (axesOf n)
-      → (alone : List ℤ) → length alone ≡ recordWords → (answer : Answer) × (written : List ℤ) × PictureGives limit n column row words alone base answer written
+  pub picture-given : (n : Numbers) (column row : ℕ) (words alone base : List ℤ) → PictureCase limit n base words
+      → column < macroblocks (fullSize (axesOf n .horizontal)) → row < macroblocks (fullSize (axesOf n .vertical)) → length alone ≡ recordWords
+      → (answer : Answer) × (written : List ℤ) × PictureGives limit n column row words alone base answer written
+  -- (each case of the demand is one of both calls)
+  pub case-singly : (n : Numbers) (column row : ℕ) (base words : List ℤ) → Case limit n column row base → length words ≡ recordWords
+      → SinglyCase limit n (pos column) (pos row) base words
+  pub case-picture : (n : Numbers) (column row : ℕ) (base words : List ℤ) → Case limit n column row base → length words ≡ recordWords * fullCount (axesOf n)
+      → PictureCase limit n base words

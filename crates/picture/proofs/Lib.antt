@@ -1,3 +1,3 @@
 pub mod Filling
 pub mod Stages
-mod Promises
+pub mod Promises

@@ -1,26 +1,48 @@
--- Demand 3 of what the picture call hands over. Assumes nothing.
-use mathlib.Core.Path.{_≡_, sym, ap}
+-- Demand 3 of what the picture call hands over, and its counts and words by one-macroblock calls. Assumes nothing.
+use mathlib.Core.Path.{_≡_, sym, ap, subst}
 use mathlib.Core.List.{List}
 use lib.IntN.{ℤ}
 use Rattle.definitions.specs.declared.Numbers.{Numbers}
+use Rattle.definitions.specs.declared.Refusal.{Refusal}
+use Rattle.definitions.specs.declared.MacroblockReply.{MacroblockReply}
 use Rattle.definitions.specs.declared.PictureReply.{PictureReply}
 use Rattle.definitions.specs.declared.PictureReply.the-variants.{Counted, Refused as NotMade}
 use Rattle.definitions.specs.Geometry.{axesOf}
 use Rattle.definitions.specs.Raster.{fullAddress}
 use Rattle.definitions.specs.Record.{recordAt, narrow}
-use Rattle.definitions.specs.Calls.{pictureCall}
-use Rattle.definitions.proofs.Demand.{demand3}
-use Rattle.picture.specs.Promised.{PicturePromised}
+use Rattle.definitions.specs.Calls.{Outcome, pictureCall, AsSingly}
+use Rattle.definitions.specs.Examples.{wholeCase, wholeRecord}
+use Rattle.definitions.specs.Cases.{blank}
+use Rattle.definitions.proofs.Demand.{demand3, passed, gives-made, counted-accepted, alone-accepted, case-counted}
+use Rattle.definitions.proofs.Singly.{picture-by-singly}
+use Rattle.definitions.proofs.Cases.{cases}
+use Rattle.picture.specs.Promised.{PicturePromised, SinglyCounted}
 
-picture-promised : (n : Numbers) (base words : List ℤ) (reply : PictureReply) (out : List ℤ)
-    → reply ≡ pictureCall narrow n base words .reply → out ≡ pictureCall narrow n base words .words → PicturePromised n base words reply out
-picture-promised n base words (Counted counts) out r w = λ column row x y alone answer a.
-    demand3 narrow .picture n column row words alone base answer (recordAt out (fullAddress (axesOf n) column row))
-    (record { counts = counts; accepted = sym r; answered = a; at-address = ap (λ (o : List ℤ). recordAt o (fullAddress (axesOf n) column row)) (sym w) })
-picture-promised n base words (NotMade r) out e w = tt
+module _ (n : Numbers) (base words : List ℤ) where
+  picture-promised : (reply : PictureReply) (out : List ℤ) → reply ≡ pictureCall narrow n base words .reply → out ≡ pictureCall narrow n base words .words → PicturePromised n base words reply out
+  picture-promised (Counted counts) out r w = λ column row x y alone l.
+      let p = passed narrow n words base (counted-accepted narrow n words base counts (sym r)) in
+      let a = gives-made narrow n column row alone base (alone-accepted narrow n words base column row x y p alone l) in
+      let answered = ap (λ (o : Outcome MacroblockReply). o .reply) a in
+      let at = fullAddress (axesOf n) column row in
+      record {
+        answer = _;
+        answered = answered;
+        demand3 = demand3 narrow .picture n column row words alone base _ (recordAt out at)
+            (record { counts = counts; accepted = sym r; answered = answered; at-address = ap (λ (o : List ℤ). recordAt o at) (sym w) });
+      }
+  picture-promised (NotMade r) out e w = case-counted narrow n base words r (sym e)
 
--- the call's reply and words with the promise of them: the contract's three parts
-pub picture-kept : (n : Numbers) (base words : List ℤ) (reply : PictureReply) (out : List ℤ)
-    → reply ≡ pictureCall narrow n base words .reply → out ≡ pictureCall narrow n base words .words
-    → (reply ≡ pictureCall narrow n base words .reply) × ((out ≡ pictureCall narrow n base words .words) × PicturePromised n base words reply out)
-picture-kept n base words reply out r w = (r, (w, picture-promised n base words reply out r w))
+  picture-singly : (reply : PictureReply) (out : List ℤ) → reply ≡ pictureCall narrow n base words .reply → out ≡ pictureCall narrow n base words .words → SinglyCounted n base reply out
+  picture-singly (Counted counts) out r w = λ lent l.
+      subst (λ (o : List ℤ). AsSingly narrow n base counts o lent) (sym w) (picture-by-singly narrow n base words counts lent (sym r) l)
+  picture-singly (NotMade r) out e w = tt
+
+  -- the call's reply and words with the promises of them: the contract's four parts
+  pub picture-kept : (reply : PictureReply) (out : List ℤ) → reply ≡ pictureCall narrow n base words .reply → out ≡ pictureCall narrow n base words .words
+      → (reply ≡ pictureCall narrow n base words .reply) × ((out ≡ pictureCall narrow n base words .words) × (PicturePromised n base words reply out × SinglyCounted n base reply out))
+  picture-kept reply out r w = (r, (w, (picture-promised reply out r w, picture-singly reply out r w)))
+
+-- The promise alone shuts refusals out: in document 01's whole case none keeps it.
+pub whole-counted : (r : Refusal) (out : List ℤ) → PicturePromised wholeCase wholeRecord (blank 6) (NotMade r) out → ⊥
+whole-counted r out promised = promised (cases .inherited .picture-case)

@@ -1,23 +1,36 @@
--- Demand 3 of what the picture call hands over, as its contract says it: a refused call promises nothing here.
+-- Demand 3 of what the picture call hands over, and the picture by one-macroblock calls, as its contract says them.
 use Prim.Native.Nat.{ℕ, _<_}
 use mathlib.Core.Path.{_≡_}
 use mathlib.Core.List.{List}
 use lib.IntN.{ℤ, pos}
+use lib.ListN.{length}
 use Rattle.definitions.specs.declared.Numbers.{Numbers}
 use Rattle.definitions.specs.declared.Answer.{Answer}
 use Rattle.definitions.specs.declared.MacroblockReply.the-variants.{Answered}
 use Rattle.definitions.specs.declared.PictureReply.{PictureReply}
 use Rattle.definitions.specs.declared.PictureReply.the-variants.{Counted, Refused as NotMade}
 use Rattle.definitions.specs.Geometry.{axesOf, fullSize, macroblocks}
-use Rattle.definitions.specs.Raster.{fullAddress}
-use Rattle.definitions.specs.Record.{recordAt, narrow}
-use Rattle.definitions.specs.Calls.{macroblockCall}
-use Rattle.definitions.specs.Demand3.{Demand3Picture}
+use Rattle.definitions.specs.Raster.{fullAddress, fullCount}
+use Rattle.definitions.specs.Record.{recordWords, recordAt, narrow}
+use Rattle.definitions.specs.Calls.{macroblockCall, AsSingly}
+use Rattle.definitions.specs.Demand3.{Demand3Picture, PictureCase}
 
--- each of its macroblocks is as demanded, with the one-macroblock call's answer on the same base
+-- one of its macroblocks: the one-macroblock call answers on the same base, and with that answer the record at its address is as demanded
+-- (alone: 77 words lent to that call, whatever they hold)
+pub record InPicture (n : Numbers) (base words out : List ℤ) (column row : ℕ) (alone : List ℤ) : Type 0 where
+  pub answer : Answer
+  pub answered : macroblockCall narrow n base (pos column) (pos row) alone .reply ≡ Answered answer
+  pub demand3 : Demand3Picture narrow n column row words alone base answer (recordAt out (fullAddress (axesOf n) column row))
+
+-- made, each of its macroblocks is so; refused, there is no case of the demand
 abbrev pub PicturePromised : Numbers → List ℤ → List ℤ → PictureReply → List ℤ → Type 0
 PicturePromised n base words (Counted counts) out =
     (column row : ℕ) → column < macroblocks (fullSize (axesOf n .horizontal)) → row < macroblocks (fullSize (axesOf n .vertical))
-    → (alone : List ℤ) (answer : Answer) → macroblockCall narrow n base (pos column) (pos row) alone .reply ≡ Answered answer
-    → Demand3Picture narrow n column row words alone base answer (recordAt out (fullAddress (axesOf n) column row))
-PicturePromised n base words (NotMade r) out = Unit
+    → (alone : List ℤ) → length alone ≡ recordWords → InPicture n base words out column row alone
+PicturePromised n base words (NotMade r) out = PictureCase narrow n base words → ⊥
+
+-- made, its counts and words are those of one-macroblock calls (refused, the clause before this one says where)
+abbrev pub SinglyCounted : Numbers → List ℤ → PictureReply → List ℤ → Type 0
+SinglyCounted n base (Counted counts) out =
+    (lent : ℕ → List ℤ) → ((a : ℕ) → a < fullCount (axesOf n) → length (lent a) ≡ recordWords) → AsSingly narrow n base counts out lent
+SinglyCounted n base (NotMade r) out = Unit

@@ -9,7 +9,7 @@ ghost use Rattle.definitions.specs.Raster.{fullCount};
 ghost use Rattle.macroblock.specs.Made.{readOf};
 ghost use Rattle.picture.specs.Reads.{AxisReads};
 ghost use Rattle.common.specs.Bases.{BaseFormed};
-ghost use Rattle.picture.specs.Promised.{PicturePromised};
+ghost use Rattle.picture.specs.Promised.{PicturePromised, SinglyCounted};
 ghost use Rattle.picture.specs.Staged.{axesPicture};
 ghost use lib.ListN.{length};
 ghost use mathlib.Core.Path.{_≡_};
@@ -135,6 +135,7 @@ pub fn upsample_picture(n: Numbers, base: &[i16], out: &mut [i16]) -> PictureRep
     ensures reply { λ r. ⌜ r ≡ pictureCall narrow n (now (base .entry)) (now (out .entry)) .reply ⌝ }
     ensures words { λ r. ⌜ now (out .exit) ≡ pictureCall narrow n (now (base .entry)) (now (out .entry)) .words ⌝ }
     ensures demand3 { λ r. ⌜ PicturePromised n (now (base .entry)) (now (out .entry)) r (now (out .exit)) ⌝ }
+    ensures singly { λ r. ⌜ SinglyCounted n (now (base .entry)) r (now (out .exit)) ⌝ }
 {
     match Geometry::new(n) {
         Checked::Geometry(g) => accepted_picture(g.axes(), base, out),

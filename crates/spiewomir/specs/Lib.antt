@@ -1,3 +1,4 @@
 pub mod Results
+pub mod Demands
 pub mod Sessions
 pub mod Texts

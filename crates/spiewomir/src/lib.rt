@@ -3,6 +3,7 @@ ghost use Rattle.definitions.specs.Record.{narrow};
 ghost use Rattle.definitions.specs.Answer.{answerOrigin};
 ghost use Rattle.definitions.specs.Calls.{macroblockCall, pictureCall};
 ghost use Rattle.definitions.specs.Session.{nextCall};
+ghost use Rattle.spiewomir.specs.Demands.{MacroblockGiven, PictureGiven};
 ghost use Rattle.spiewomir.specs.Results.{answerResult, answerSubTypes, classNumber, macroblockResult, numbersFromC, pictureResult};
 ghost use Rattle.spiewomir.specs.Sessions.{abandonGives, advancedResult, beginGives, flag, judgedResult, nextGives, numbersToC, sessionFromC, sessionToC, totalsGives};
 ghost use Rattle.spiewomir.specs.Texts.{LogGiven, TextGiven};
@@ -235,6 +236,7 @@ pub extern "C" fn spiewomir_macroblock(
 ) -> MacroblockResult
     ensures result { λ r. ⌜ r ≡ macroblockResult (macroblockCall narrow (numbersFromC g) (now (base .entry)) column row (now (out .entry)) .reply) ⌝ }
     ensures words { λ r. ⌜ now (out .exit) ≡ macroblockCall narrow (numbersFromC g) (now (base .entry)) column row (now (out .entry)) .words ⌝ }
+    ensures demand3 { λ r. ⌜ MacroblockGiven (numbersFromC g) (now (base .entry)) column row (now (out .entry)) r (now (out .exit)) ⌝ }
 {
     reply_result(upsample_macroblock(numbers_from_c(g), base, column, row, out))
 }
@@ -248,6 +250,7 @@ pub extern "C" fn spiewomir_picture(
 ) -> PictureResult
     ensures result { λ r. ⌜ r ≡ pictureResult (pictureCall narrow (numbersFromC g) (now (base .entry)) (now (out .entry)) .reply) ⌝ }
     ensures words { λ r. ⌜ now (out .exit) ≡ pictureCall narrow (numbersFromC g) (now (base .entry)) (now (out .entry)) .words ⌝ }
+    ensures demand3 { λ r. ⌜ PictureGiven (numbersFromC g) (now (base .entry)) (now (out .entry)) r (now (out .exit)) ⌝ }
 {
     match upsample_picture(numbers_from_c(g), base, out) {
         PictureReply::Counted(c) => PictureResult {

@@ -2,15 +2,20 @@
 use mathlib.Core.Path.{_≡_, sym, _∙_}
 use mathlib.Core.List.{List}
 use lib.IntN.{ℤ, pos, natAbs}
+use lib.ListN.{length}
 use lib.Signed.{pos-natAbs}
 use Rattle.definitions.specs.declared.Numbers.{Numbers}
 use Rattle.definitions.specs.declared.Answer.{Answer}
+use Rattle.definitions.specs.declared.Refusal.{Refusal}
 use Rattle.definitions.specs.declared.MacroblockReply.{MacroblockReply}
 use Rattle.definitions.specs.declared.MacroblockReply.the-variants.{Answered, Refused as Declined}
 use Rattle.definitions.specs.Geometry.{axesOf, fullSize}
-use Rattle.definitions.specs.Record.{narrow}
+use Rattle.definitions.specs.Record.{recordWords, narrow}
 use Rattle.definitions.specs.Calls.{macroblockCall}
-use Rattle.definitions.proofs.Demand.{demand3, call-accepted, AskedAt, asked-at}
+use Rattle.definitions.specs.Examples.{wholeCase, wholeRecord}
+use Rattle.definitions.specs.Cases.{blank}
+use Rattle.definitions.proofs.Demand.{demand3, call-accepted, case-answered, AskedAt, asked-at}
+use Rattle.definitions.proofs.Cases.{cases}
 use Rattle.upsample.specs.Promised.{SinglyPromised}
 use Rattle.upsample.proofs.Within.{within-natural}
 
@@ -32,10 +37,18 @@ singly-promised n base column row words (Answered answer) out r w =
     let d = natural-row n base column row words answer (sym r) in
     let e : macroblockCall narrow n base (pos (natAbs column)) (pos (natAbs row)) words ≡ macroblockCall narrow n base column row words = λ i. macroblockCall narrow n base (c i) (d i) words in
     demand3 narrow .singly n (natAbs column) (natAbs row) words base answer out (e ∙ (λ i. record { reply = sym r i; words = sym w i }))
-singly-promised n base column row words (Declined r) out e w = tt
+singly-promised n base column row words (Declined r) out e w = case-answered narrow n column row base words r (sym e)
 
 -- a call's reply and words with the promise of them: the contract's three parts
 pub singly-kept : (n : Numbers) (base : List ℤ) (column row : ℤ) (words : List ℤ) (reply : MacroblockReply) (out : List ℤ)
     → reply ≡ macroblockCall narrow n base column row words .reply → out ≡ macroblockCall narrow n base column row words .words
     → (reply ≡ macroblockCall narrow n base column row words .reply) × ((out ≡ macroblockCall narrow n base column row words .words) × SinglyPromised n base column row words reply out)
 singly-kept n base column row words reply out r w = (r, (w, singly-promised n base column row words reply out r w))
+
+-- The promise alone shuts refusals out: in document 01's whole case none keeps it.
+pub whole-answered : (r : Refusal) (out : List ℤ) → SinglyPromised wholeCase wholeRecord (pos 0) (pos 0) (blank 1) (Declined r) out → ⊥
+whole-answered r out promised = promised (cases .inherited .singly-case)
+
+-- nor beside the window, whatever the base holds
+pub outside-answered : (base : List ℤ) → length base ≡ recordWords → (r : Refusal) (out : List ℤ) → SinglyPromised wholeCase base (pos 2) (pos 0) (blank 1) (Declined r) out → ⊥
+outside-answered base l r out promised = promised (cases .others-case base l)

@@ -1,13 +1,13 @@
--- Demand 3 of what the calls hand over, as their contracts say it: a refused call promises nothing here.
+-- Demand 3 of what the one-macroblock call hands over, as its contract says it.
 use mathlib.Core.List.{List}
 use lib.IntN.{ℤ, natAbs}
 use Rattle.definitions.specs.declared.Numbers.{Numbers}
 use Rattle.definitions.specs.declared.MacroblockReply.{MacroblockReply}
 use Rattle.definitions.specs.declared.MacroblockReply.the-variants.{Answered, Refused as Declined}
 use Rattle.definitions.specs.Record.{narrow}
-use Rattle.definitions.specs.Demand3.{Demand3Singly}
+use Rattle.definitions.specs.Demand3.{Demand3Singly, SinglyCase}
 
--- one macroblock: its answer and its written record are as demanded (answered, column and row are not below 0)
+-- answered, its answer and its written record are as demanded (column and row are then not below 0); refused, there is no case of the demand
 abbrev pub SinglyPromised : Numbers → List ℤ → ℤ → ℤ → List ℤ → MacroblockReply → List ℤ → Type 0
 SinglyPromised n base column row words (Answered answer) written = Demand3Singly narrow n (natAbs column) (natAbs row) words base answer written
-SinglyPromised n base column row words (Declined r) written = Unit
+SinglyPromised n base column row words (Declined r) written = SinglyCase narrow n column row base words → ⊥

@@ -1,9 +1,6 @@
 -- `spiewomir::spiewomir_macroblock` meets its contract. Assumes nothing.
-use Rattle.spiewomir.specs.Results.{macroblockResult}
-use Rattle.definitions.specs.Record.{narrow}
-use Rattle.definitions.specs.Calls.{macroblockCall}
+use Rattle.spiewomir.proofs.Demands.{macroblock-kept}
 use mir.Facts.{toZ-ofZ}
-use mathlib.Core.Path.{ap, _∙_}
 use borrow.Author.Needs.{needs}
 use Rattle.spiewomir.proofs.spiewomir_macroblock.Statement.{statement}
 use Rattle.spiewomir.proofs.spiewomir_macroblock.Tie as tie
@@ -26,10 +23,8 @@ returns c =
     let u = c .before .before .upsample-macroblock in
     let n = c .before .before .before .before .numbers-from-c .ensures in
     let p = toZ-ofZ (s .fits .column) in
-    let q = toZ-ofZ (s .fits .row) in (
-      c .reply-result .ensures ∙ ap macroblockResult (u .ensures .0 ∙ (λ i. macroblockCall narrow (n i) (s .args .base .now) (p i) (q i) (s .args .out .now) .reply)),
-      u .ensures .1 .0 ∙ (λ i. macroblockCall narrow (n i) (s .args .base .now) (p i) (q i) (s .args .out .now) .words),
-    )
+    let q = toZ-ofZ (s .fits .row) in
+    macroblock-kept n p q (s .args .base .now) (s .args .out .now) (u .ensures .0) (u .ensures .1 .0) (u .ensures .1 .1) (c .reply-result .ensures)
 
 pub spiewomir-macroblock-spec : {M : Type 1} → statement M
 spiewomir-macroblock-spec =

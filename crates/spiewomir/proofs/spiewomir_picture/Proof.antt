@@ -1,8 +1,7 @@
 -- `spiewomir::spiewomir_picture` meets its contract. Assumes nothing.
 use Rattle.spiewomir.specs.Results.{pictureResult}
-use Rattle.definitions.specs.Record.{narrow}
-use Rattle.definitions.specs.Calls.{pictureCall}
-use mathlib.Core.Path.{sym, ap, _∙_}
+use Rattle.spiewomir.proofs.Demands.{picture-kept}
+use mathlib.Core.Path.{sym, ap}
 use borrow.Author.Needs.{needs}
 use Rattle.spiewomir.proofs.spiewomir_picture.Statement.{statement}
 use Rattle.spiewomir.proofs.spiewomir_picture.Tie as tie
@@ -27,10 +26,8 @@ returns c =
     let o = c .before .before .before in
     let u = o .before .upsample-picture in
     let s = o .before .before .before .before in
-    let n = o .before .before .before .numbers-from-c .ensures in (
-      ap pictureResult (sym (c .before .c .given .1) ∙ (u .ensures .0 ∙ (λ i. pictureCall narrow (n i) (s .args .base .now) (s .args .out .now) .reply))),
-      u .ensures .1 .0 ∙ (λ i. pictureCall narrow (n i) (s .args .base .now) (s .args .out .now) .words),
-    )
+    let n = o .before .before .before .numbers-from-c .ensures in
+    picture-kept n (s .args .base .now) (s .args .out .now) (u .ensures .0) (u .ensures .1 .0) (u .ensures .1 .1 .0) (u .ensures .1 .1 .1) (sym (ap pictureResult (c .before .c .given .1)))
 
 same-length-2 : tie.Need-same-length-2
 same-length-2 c = search needs
@@ -40,10 +37,8 @@ returns-2 c =
     let o = c .before .before .before in
     let u = o .before .upsample-picture in
     let s = o .before .before .before .before in
-    let n = o .before .before .before .numbers-from-c .ensures in (
-      ap pictureResult (sym (c .before .r .given .1) ∙ (u .ensures .0 ∙ (λ i. pictureCall narrow (n i) (s .args .base .now) (s .args .out .now) .reply))),
-      u .ensures .1 .0 ∙ (λ i. pictureCall narrow (n i) (s .args .base .now) (s .args .out .now) .words),
-    )
+    let n = o .before .before .before .numbers-from-c .ensures in
+    picture-kept n (s .args .base .now) (s .args .out .now) (u .ensures .0) (u .ensures .1 .0) (u .ensures .1 .1 .0) (u .ensures .1 .1 .1) (sym (ap pictureResult (c .before .r .given .1)))
 
 pub spiewomir-picture-spec : {M : Type 1} → statement M
 spiewomir-picture-spec =

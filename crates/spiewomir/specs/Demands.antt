@@ -1,0 +1,27 @@
+-- One macroblock and the picture, as the C interface hands them over: the numbers of the call's reply, with demand 3 of it.
+use mathlib.Core.Path.{_≡_}
+use mathlib.Core.List.{List}
+use lib.IntN.{ℤ}
+use Rattle.definitions.specs.declared.Numbers.{Numbers}
+use Rattle.definitions.specs.declared.MacroblockReply.{MacroblockReply}
+use Rattle.definitions.specs.declared.PictureReply.{PictureReply}
+use Rattle.definitions.specs.Record.{narrow}
+use Rattle.definitions.specs.Calls.{macroblockCall, pictureCall}
+use Rattle.upsample.specs.Promised.{SinglyPromised}
+use Rattle.picture.specs.Promised.{PicturePromised, SinglyCounted}
+use Rattle.spiewomir.specs.declared.MacroblockResult.{MacroblockResult}
+use Rattle.spiewomir.specs.declared.PictureResult.{PictureResult}
+use Rattle.spiewomir.specs.Results.{macroblockResult, pictureResult}
+
+pub record MacroblockGiven (n : Numbers) (base : List ℤ) (column row : ℤ) (words : List ℤ) (result : MacroblockResult) (new : List ℤ) : Type 0 where
+  pub reply : MacroblockReply
+  pub answer : reply ≡ macroblockCall narrow n base column row words .reply
+  pub demand3 : SinglyPromised n base column row words reply new
+  pub is : result ≡ macroblockResult reply
+
+pub record PictureGiven (n : Numbers) (base words : List ℤ) (result : PictureResult) (new : List ℤ) : Type 0 where
+  pub reply : PictureReply
+  pub answer : reply ≡ pictureCall narrow n base words .reply
+  pub demand3 : PicturePromised n base words reply new
+  pub singly : SinglyCounted n base reply new
+  pub is : result ≡ pictureResult reply
