@@ -47,7 +47,7 @@ call-these n base words address v h r e =
     (List·Memᴰ·tail (List·Memᴰ·tail (List·Memᴰ·head refl)), (List·Memᴰ·tail (List·Memᴰ·tail (List·Memᴰ·tail (List·Memᴰ·head refl))), records-give narrow ByThese base (addressesRead g column row) (λ a m. eight))) r
     (ap (λ (u : Verdict). pick (baseTest g base .applies) (Refused (refusal 5)) (pick (outputTest 1 words .applies) (Refused (refusal 6)) u)) (sym (no _ _ inside)) ∙ (sym (then-verdict (geometryTests n) _ v) ∙ e))
 
-state-these : (s : State) → sound s ≡ true → (base words : List ℤ) (r : Refusal) → nextCall s base words .reply ≡ Declined r → ByThese r
+pub state-these : (s : State) → sound s ≡ true → (base words : List ℤ) (r : Refusal) → nextCall s base words .reply ≡ Declined r → ByThese r
 unfolding nextCall pick macroblockCall
 state-these fresh h base words r e = let q : refusal 20 ≡ r = cc in subst ByThese q (List·Memᴰ·head refl)
 state-these (begun n c) h base words r e = by (finished (begun n c)) refl

@@ -29,7 +29,9 @@ use Rattle.session.specs.declared.Session.{Session}
 use Rattle.session.specs.declared.Stage.the-variants.{Nothing}
 use Rattle.session.specs.Values.{freshSession, valueOf, stateOf, handedBy, HandsBack, advancedBy}
 use Rattle.session.specs.Stage.{stageOf}
+use Rattle.session.specs.Promised.{NextPromised, TotalsPromised}
 use Rattle.session.proofs.Values.{state-sound, hands-back}
+use Rattle.session.proofs.Promises.{next-promised, totals-promised}
 use Rattle.session.proofs.Stages.{nothing-begun, Going, Over}
 
 module _ (v : Session) where
@@ -95,26 +97,30 @@ module _ (v : Session) where
   totals-keep = hands-back v totals v refl
 
   abbrev Totals : Counts → Session → Type 0
-  Totals c w = (c ≡ totalsOf (stateOf v)) × HandsBack v totals w
+  Totals c w = (c ≡ totalsOf (stateOf v)) × (HandsBack v totals w × TotalsPromised v c)
 
   pub totals-nothing : stageOf (stateOf v) ≡ Nothing → Totals noCounts v
-  totals-nothing s = (sym (ap totalsOf (nothing-begun (stateOf v) s)), totals-keep)
+  totals-nothing s = let e = sym (ap totalsOf (nothing-begun (stateOf v) s)) in (e, (totals-keep, totals-promised v noCounts e))
 
   pub totals-begun : stateOf v ≡ begun (v .numbers) (v .counts) → Totals (v .counts) v
-  totals-begun s = (sym (ap totalsOf s), totals-keep)
+  totals-begun s = let e = sym (ap totalsOf s) in (e, (totals-keep, totals-promised v (v .counts) e))
 
   -- ---- next
   module _ (base words : List ℤ) where
     abbrev Gone : MacroblockReply → List ℤ → Session → Type 0
     Gone reply after w =
-        (reply ≡ nextCall (stateOf v) base words .reply) × ((after ≡ nextCall (stateOf v) base words .words) × HandsBack v (next base words) w)
+        (reply ≡ nextCall (stateOf v) base words .reply)
+        × ((after ≡ nextCall (stateOf v) base words .words) × (HandsBack v (next base words) w × NextPromised (stateOf v) base words reply after))
+
+    gone : (reply : MacroblockReply) (after : List ℤ) (w : Session) → reply ≡ nextCall (stateOf v) base words .reply
+        → after ≡ nextCall (stateOf v) base words .words → HandsBack v (next base words) w → Gone reply after w
+    gone reply after w r a b = (r, (a, (b, next-promised (stateOf v) (state-sound v) base words reply after r a)))
 
     next-refused : (r : Refusal) → nextCall (stateOf v) base words ≡ record { reply = Declined r; words = words } → Gone (Declined r) words v
     unfolding exchange handedBy pick
-    next-refused r e = (
-      sym (ap (λ (o : Outcome MacroblockReply). o .reply) e),
-      (sym (ap (λ (o : Outcome MacroblockReply). o .words) e), hands-back v (next base words) v (sym (ap (λ (o : Outcome MacroblockReply). handedBy v (nextGave base words o)) e))),
-    )
+    next-refused r e =
+        gone (Declined r) words v (sym (ap (λ (o : Outcome MacroblockReply). o .reply) e)) (sym (ap (λ (o : Outcome MacroblockReply). o .words) e))
+        (hands-back v (next base words) v (sym (ap (λ (o : Outcome MacroblockReply). handedBy v (nextGave base words o)) e)))
 
     pub next-nothing : stageOf (stateOf v) ≡ Nothing → (r : Refusal) → r ≡ refusal 20 → Gone (Declined r) words v
     unfolding nextCall pick
@@ -144,7 +150,7 @@ module _ (v : Session) where
       unfolding exchange
       next-done reply after w a b e =
           let p : reply ≡ nextCall (stateOf v) base words .reply = a ∙ sym (ap (λ (o : Outcome MacroblockReply). o .reply) at-next) in
-          (p, (b ∙ sym (ap (λ (o : Outcome MacroblockReply). o .words) at-next), hands-back v (next base words) w (e ∙ handed-next (nextCall (stateOf v) base words) reply (sym p))))
+          gone reply after w p (b ∙ sym (ap (λ (o : Outcome MacroblockReply). o .words) at-next)) (hands-back v (next base words) w (e ∙ handed-next (nextCall (stateOf v) base words) reply (sym p)))
 
   -- what is counted, and the next macroblock's column and row, are small
   pub going-small : {x y : ℕ} → Going v x y → (sumOf (v .counts) < 65536) × (x < 65536) × (y < 65536)

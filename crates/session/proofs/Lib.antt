@@ -1,3 +1,4 @@
 pub mod Values
+mod Promises
 mod Stages
 mod Handing

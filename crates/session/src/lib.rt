@@ -2,7 +2,8 @@
 ghost use Prim.Native.Nat.{_<_};
 ghost use Rattle.definitions.specs.Accepted.{AcceptedAxes};
 ghost use Rattle.definitions.specs.Calls.{sumOf};
-ghost use Rattle.definitions.specs.Session.{abandon, abandonVerdict, begin, beginVerdict, next, nextCall, totals, totalsOf, unfinished};
+ghost use Rattle.definitions.specs.Session.{abandon, abandonVerdict, begin, beginVerdict, fresh, next, nextCall, totals, totalsOf, unfinished};
+ghost use Rattle.session.specs.Promised.{NextPromised, TotalsPromised};
 ghost use Rattle.session.specs.Stage.{stageIn, stageOf};
 ghost use Rattle.session.specs.Values.{HandsBack, advancedBy, freshSession, stateOf};
 ghost use mathlib.Core.Bool.{false};
@@ -134,7 +135,8 @@ fn advance(s: Session, reply: MacroblockReply) -> Session
 impl Session {
     // Nothing begun.
     pub fn fresh() -> Session
-        ensures { λ r. ⌜ r ≡ freshSession ⌝ }
+        ensures value { λ r. ⌜ r ≡ freshSession ⌝ }
+        ensures state { λ r. ⌜ stateOf r ≡ fresh ⌝ }
     {
         let zeros = AxisNumbers {
             base: 0,
@@ -172,6 +174,7 @@ impl Session {
         ensures reply { λ r. ⌜ r .reply ≡ nextCall (stateOf self) (now (base .entry)) (now (out .entry)) .reply ⌝ }
         ensures words { λ r. ⌜ now (out .exit) ≡ nextCall (stateOf self) (now (base .entry)) (now (out .entry)) .words ⌝ }
         ensures session { λ r. ⌜ HandsBack self (next (now (base .entry)) (now (out .entry))) (r .session) ⌝ }
+        ensures demand3 { λ r. ⌜ NextPromised (stateOf self) (now (base .entry)) (now (out .entry)) (r .reply) (now (out .exit)) ⌝ }
     {
         let numbers = self.numbers;
         match stage_of(self) {
@@ -219,6 +222,7 @@ impl Session {
     pub fn totals(self) -> Totalled
         ensures counts { λ r. ⌜ r .counts ≡ totalsOf (stateOf self) ⌝ }
         ensures session { λ r. ⌜ HandsBack self totals (r .session) ⌝ }
+        ensures made { λ r. ⌜ TotalsPromised self (r .counts) ⌝ }
     {
         let none = NO_COUNTS;
         let made = self.counts;

@@ -30,7 +30,7 @@ module _ (n : Numbers) (base : List ℤ) (column row : ℤ) (words : List ℤ) (
   natural-row : pos (natAbs row) ≡ row
   natural-row = pos-natAbs row (within-natural (fullSize (axesOf n .vertical)) row (asked .row-within))
 
-singly-promised : (n : Numbers) (base : List ℤ) (column row : ℤ) (words : List ℤ) (reply : MacroblockReply) (out : List ℤ)
+pub singly-promised : (n : Numbers) (base : List ℤ) (column row : ℤ) (words : List ℤ) (reply : MacroblockReply) (out : List ℤ)
     → reply ≡ macroblockCall narrow n base column row words .reply → out ≡ macroblockCall narrow n base column row words .words → SinglyPromised n base column row words reply out
 singly-promised n base column row words (Answered answer) out r w =
     let c = natural-column n base column row words answer (sym r) in

@@ -12,7 +12,7 @@ session-to-c-requires : tie.Need-session-to-c-requires
 session-to-c-requires c κs = search needs
 
 returns : tie.Need-returns
-returns c = c .session-to-c .ensures ∙ ap sessionToC (c .before .fresh .ensures)
+returns c = c .session-to-c .ensures ∙ ap sessionToC (c .before .fresh .ensures .0)
 
 pub spiewomir-session-fresh-spec : {M : Type 1} → statement M
 spiewomir-session-fresh-spec = tie.close (tie.spec fresh-requires session-to-c-requires returns)

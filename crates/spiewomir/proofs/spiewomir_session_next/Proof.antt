@@ -25,7 +25,7 @@ returns c =
     let v = c .before .before .before .before .session-from-c .ensures in
     let k = c .before .before .next .ensures in (
       c .advanced-result .ensures
-          ∙ ((λ i. advancedResult (a .s) (k .0 i) (k .1 .1 .value i))
+          ∙ ((λ i. advancedResult (a .s) (k .0 i) (k .1 .1 .0 .value i))
           ∙ (λ i. advancedResult (a .s) (nextCall (stateOf (v i)) (a .base .now) (a .out .now) .reply) (handedBack (v i) (next (a .base .now) (a .out .now))))),
       k .1 .0 ∙ (λ i. nextCall (stateOf (v i)) (a .base .now) (a .out .now) .words),
     )

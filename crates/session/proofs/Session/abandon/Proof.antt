@@ -31,7 +31,7 @@ returns : tie.Need-returns
 returns c = abandon-nothing (c .before .before .before .before .before .args .self) (sym (c .before .before .before .stage-of .ensures) ∙ c .before .enum-told .given .1) _ (c .refused .ensures)
 
 returns-2 : tie.Need-returns-2
-returns-2 c = abandon-going (c .before .before .before .before .args .self) (going (c .before .before .before .before .args .self) _ _ (sym (c .before .before .stage-of .ensures) ∙ c .enum-told2 .given .1)) _ (c .before .before .before .fresh .ensures)
+returns-2 c = abandon-going (c .before .before .before .before .args .self) (going (c .before .before .before .before .args .self) _ _ (sym (c .before .before .stage-of .ensures) ∙ c .enum-told2 .given .1)) _ (c .before .before .before .fresh .ensures .0)
 
 returns-3 : tie.Need-returns-3
 returns-3 c = abandon-over (c .before .before .before .before .before .args .self) (over-of (c .before .before .before .before .before .args .self) (sym (c .before .before .before .stage-of .ensures) ∙ c .before .enum-told3 .given .1)) _ (c .refused2 .ensures)
