@@ -1,6 +1,7 @@
 /* Motion upsampling between two layers of a track clip: the C interface of the
  * proved library (the crate `spiewomir`; `rt staticlib spiewomir` writes
- * target/staticlib/libspiewomir.a, for x86-64 Linux).
+ * target/staticlib/libspiewomir.a, for x86-64 Linux, and `tools/install PREFIX`
+ * installs it; it needs no other library). For C99 and C++11 or later.
  *
  * Of a small picture (the base) each 16x16 macroblock has a motion record: how it
  * is split, references, vectors. The base, scaled, is a window of the large (full)
@@ -8,11 +9,17 @@
  * of up to four base macroblocks each. A macroblock is inside when all of it lies in
  * the window; else it is outside, and inherits nothing.
  *
- * Every call ends, asks nothing of its numbers, and judges what it is lent; the
- * caller only has to lend `base_len` words at `base` (or `text_len` bytes at `text`)
- * to read and, apart from them, `out_len` words at `out` (`words_len` at `words`,
- * `log_len` bytes at `log`) to write. With length 0 the pointer may be null. A
- * refused call leaves every word and byte lent to it as it was. `base` and `text`
+ * Every call ends, asks nothing of its numbers, and judges what it is lent. The
+ * caller only has to lend what it says: `base_len` words at `base` (or `text_len`
+ * bytes at `text`) to read, and `out_len` words at `out` (`words_len` at `words`,
+ * `log_len` bytes at `log`) to write.
+ *   - The two must not overlap. While a call runs, nothing else may write what it
+ *     reads, or touch what it writes.
+ *   - What is lent to write may be uninitialised.
+ *   - Lengths count words, not bytes (of `text` and `log`: bytes). Words are int16_t,
+ *     aligned as such and in the machine's byte order.
+ *   - With length 0 the pointer may be null.
+ * A refused call leaves every word and byte lent to it as it was. `base` and `text`
  * are never written. Calls keep nothing between them (a session is handed over and
  * back by value), take no memory but some 40 KB of stack, and may be made from any
  * threads at once.
@@ -26,6 +33,14 @@
 #ifdef __cplusplus
 extern "C" {
 #endif
+
+/* The version that this header is of: major times 10,000, plus minor times 100, plus
+ * patch. CHANGELOG.md says what is new. */
+#define SPIEWOMIR_VERSION 10000
+
+/* The version of the library that is linked: SPIEWOMIR_VERSION, unless the header is
+ * another version's. */
+uint32_t spiewomir_version(void);
 
 /* A motion record has 77 words:
  *   0            type: 0 intra, 1 16x16, 2 16x8, 3 8x16, 4 8x8 (width by height);
@@ -43,6 +58,13 @@ extern "C" {
  * base's if it is of type 5 or has a vector word outside -8192..8191; these reach
  * -16384..16382. */
 #define SPIEWOMIR_WORDS 77
+
+/* The macroblocks along a side of `size` samples, and the words of a picture's
+ * records; 0 for a size outside 1..4096, which the calls refuse. An argument is
+ * evaluated more than once. */
+#define SPIEWOMIR_MACROBLOCKS(size) ((size) > 0 && (size) <= 4096 ? (size_t)(size) / 16 : (size_t)0)
+#define SPIEWOMIR_PICTURE_WORDS(width, height) \
+    (SPIEWOMIR_MACROBLOCKS(width) * SPIEWOMIR_MACROBLOCKS(height) * SPIEWOMIR_WORDS)
 
 /* A sync text: the most bytes, the most record lines, and the words to lend for
  * these. */
@@ -122,7 +144,9 @@ typedef struct {
 typedef struct {
     uint32_t begun; /* 1 once a picture is begun */
     SpiewomirGeometry geometry;
-    uint32_t inherited, intra, outside; /* answered next calls by the kind of their answers */
+    uint32_t inherited, intra, outside; /* answered next calls by the kind of their answers; their sum
+                                           is the address that is next, or, at the end, the
+                                           picture's count of macroblocks */
 } SpiewomirSession;
 
 typedef struct {

@@ -175,6 +175,7 @@ static void picture(size_t length) {
     IS(s.begun, 1);
     IS(s.geometry.scaled_width, 64);
     IS(s.geometry.full_height, 80);
+    IS(memcmp(&s.geometry, &t.geometry, sizeof s.geometry), 0);
     for (int i = 0; i < 25; i++) {
         IS(spiewomir_session_begin(s, t.geometry).refusal, SPIEWOMIR_REFUSED_UNFINISHED);
         SpiewomirAdvanced a = spiewomir_session_next(s, base, words, one, W);

@@ -48,12 +48,9 @@ int main(int argc, char **argv) {
     if (t.refusal != SPIEWOMIR_ANSWERED) return refused(t.refusal, t.place, t.rule);
     size_t base_words = (size_t)t.lines * SPIEWOMIR_WORDS;
 
-    /* the picture: 77 words for each macroblock. Sizes are judged by the call itself; what is
-     * lent before that has to fit them. */
+    /* the picture: 77 words for each macroblock. Sizes are judged by the call itself. */
     SpiewomirGeometry g = t.geometry;
-    size_t columns = g.full_width > 0 && g.full_width <= 4096 ? (size_t)g.full_width / 16 : 0;
-    size_t rows = g.full_height > 0 && g.full_height <= 4096 ? (size_t)g.full_height / 16 : 0;
-    size_t words = columns * rows * SPIEWOMIR_WORDS;
+    size_t words = SPIEWOMIR_PICTURE_WORDS(g.full_width, g.full_height);
     int16_t *out = malloc((words ? words : 1) * sizeof *out);
     if (!out) {
         perror("picture");

@@ -36,8 +36,12 @@
 pub mod numbers;
 pub mod refused;
 
-pub use numbers::Geometry;
+pub use numbers::{version, Geometry};
 use std::fmt;
+
+/// The version that this crate is of: major times 10,000, plus minor times 100,
+/// plus patch. [`version`] gives that of the library.
+pub const VERSION: u32 = 10_000;
 
 /// Words of a motion record. Quadrants, blocks, and the macroblocks of a picture
 /// go in raster order; `l` is the list, 0 or 1.
@@ -202,6 +206,7 @@ pub fn log(text: &[u8]) -> Vec<u8> {
     let mut log = vec![0; LOG_BYTES];
     let written = numbers::log(text, &mut log);
     log.truncate(written.bytes);
+    log.shrink_to_fit();
     log
 }
 

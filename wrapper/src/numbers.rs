@@ -190,6 +190,8 @@ extern "C" {
     fn spiewomir_text(text: *const u8, text_len: usize, words: *mut i16, words_len: usize) -> Text;
 
     fn spiewomir_log(text: *const u8, text_len: usize, log: *mut u8, log_len: usize) -> Log;
+
+    fn spiewomir_version() -> u32;
 }
 
 /// The one-macroblock call.
@@ -240,6 +242,13 @@ pub fn text(text: &[u8], words: &mut [i16]) -> Text {
 pub fn log(text: &[u8], log: &mut [u8]) -> Log {
     // SAFETY: as in `macroblock`, with bytes to read and to write.
     unsafe { spiewomir_log(text.as_ptr(), text.len(), log.as_mut_ptr(), log.len()) }
+}
+
+/// The version of the library that is linked: [`VERSION`](crate::VERSION), unless
+/// the archive is another version's.
+pub fn version() -> u32 {
+    // SAFETY: the function asks nothing.
+    unsafe { spiewomir_version() }
 }
 
 impl Session {

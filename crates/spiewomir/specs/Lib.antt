@@ -2,3 +2,4 @@ pub mod Results
 pub mod Demands
 pub mod Sessions
 pub mod Texts
+pub mod Version

@@ -7,6 +7,7 @@ ghost use Rattle.spiewomir.specs.Demands.{MacroblockGiven, PictureGiven}
 ghost use Rattle.spiewomir.specs.Results.{answerResult, answerSubTypes, classNumber, macroblockResult, numbersFromC, pictureResult};
 ghost use Rattle.spiewomir.specs.Sessions.{abandonGives, advancedResult, beginGives, flag, judgedResult, nextGives, numbersToC, sessionFromC, sessionToC, totalsGives};
 ghost use Rattle.spiewomir.specs.Texts.{LogGiven, TextGiven};
+ghost use Rattle.spiewomir.specs.Version.{version};
 ghost use Rattle.session.specs.Values.{freshSession, stateOf};
 ghost use mathlib.Core.Path.{_≡_};
 use definitions::Answer;
@@ -470,4 +471,12 @@ pub extern "C" fn spiewomir_log(text: &[u8], out: &mut [u8]) -> LogResult
             bytes: 0,
         },
     }
+}
+
+// ---- The version: major · 10,000 + minor · 100 + patch
+#[no_mangle]
+pub extern "C" fn spiewomir_version() -> u32
+    ensures { λ r. ⌜ r ≡ version ⌝ }
+{
+    10000
 }

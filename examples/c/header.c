@@ -1,0 +1,96 @@
+/* What the header says beside its constants, in C and in C++: the version, a picture's
+ * words, a session's next address; every call with what it writes lent uninitialised,
+ * which a memory checker can look at.
+ *
+ *     header < examples/unaligned.sync
+ *
+ * Prints what does not hold; the exit status is 0 if all does. */
+#include "spiewomir.h"
+#include <stdio.h>
+#include <stdlib.h>
+#include <string.h>
+
+static int wrong;
+
+static void is(int line, const char *what, size_t got, size_t expected) {
+    if (got == expected) return;
+    printf("header: line %d: %s is %lu, not %lu\n", line, what, (unsigned long)got, (unsigned long)expected);
+    wrong = 1;
+}
+
+#define IS(got, expected) is(__LINE__, #got, (size_t)(got), (size_t)(expected))
+
+/* a picture's words are a constant expression, for arrays too */
+static int16_t largest[SPIEWOMIR_PICTURE_WORDS(4096, 4096)];
+
+static void sizes(void) {
+    int32_t sixteen = 16;
+    IS(sizeof largest / sizeof *largest, 77u * 256 * 256);
+    IS(SPIEWOMIR_PICTURE_WORDS(48, 32), 77 * 3 * 2);
+    IS(SPIEWOMIR_PICTURE_WORDS(16 + 32, sixteen << 1), 77 * 3 * 2);
+    IS(2 * SPIEWOMIR_PICTURE_WORDS(sixteen, 1 ? sixteen : 0) / 7, 22);
+    IS(SPIEWOMIR_PICTURE_WORDS((size_t)48, 32u), 77 * 3 * 2);
+    IS(SPIEWOMIR_PICTURE_WORDS(0, 4096), 0);
+    IS(SPIEWOMIR_PICTURE_WORDS(-16, -16), 0);
+    IS(SPIEWOMIR_PICTURE_WORDS(INT32_MIN, INT32_MAX), 0);
+    IS(SPIEWOMIR_PICTURE_WORDS(4096, 4112), 0);
+    IS(SPIEWOMIR_MACROBLOCKS(80), 5);
+}
+
+static void *room(size_t size) { /* uninitialised */
+    void *at = malloc(size);
+    if (!at) {
+        perror("header");
+        exit(2);
+    }
+    return at;
+}
+
+static uint32_t next_address(SpiewomirSession s) { return s.inherited + s.intra + s.outside; }
+
+static void calls(const uint8_t *text, size_t length) {
+    int16_t *words = (int16_t *)room(SPIEWOMIR_TEXT_WORDS * sizeof *words);
+    uint8_t *log = (uint8_t *)room(SPIEWOMIR_LOG_BYTES);
+    SpiewomirText t = spiewomir_text(text, length, words, SPIEWOMIR_TEXT_WORDS);
+    IS(t.refusal, SPIEWOMIR_ANSWERED);
+    SpiewomirGeometry g = t.geometry;
+    size_t base_len = t.lines * (size_t)SPIEWOMIR_WORDS, count = SPIEWOMIR_PICTURE_WORDS(g.full_width, g.full_height);
+    uint32_t columns = (uint32_t)SPIEWOMIR_MACROBLOCKS(g.full_width);
+    IS(base_len, SPIEWOMIR_PICTURE_WORDS(g.base_width, g.base_height));
+    int16_t *out = (int16_t *)room(count * sizeof *out);
+    IS(spiewomir_picture(g, words, base_len, out, count - 1).refusal, SPIEWOMIR_REFUSED_OUTPUT_LENGTH);
+    IS(spiewomir_picture(g, words, base_len, out, count).refusal, SPIEWOMIR_ANSWERED);
+
+    SpiewomirSession s = spiewomir_session_begin(spiewomir_session_fresh(), g).session;
+    for (uint32_t a = 0; a < count / SPIEWOMIR_WORDS; a++) {
+        int16_t *one = (int16_t *)room(SPIEWOMIR_WORDS * sizeof *one), *next = (int16_t *)room(SPIEWOMIR_WORDS * sizeof *next);
+        IS(next_address(s), a);
+        IS(spiewomir_macroblock(g, words, base_len, (int32_t)(next_address(s) % columns), (int32_t)(next_address(s) / columns), one, SPIEWOMIR_WORDS).refusal, SPIEWOMIR_ANSWERED);
+        SpiewomirAdvanced refused = spiewomir_session_next(s, words, base_len, next, SPIEWOMIR_WORDS - 1);
+        IS(refused.macroblock.refusal, SPIEWOMIR_REFUSED_OUTPUT_LENGTH);
+        IS(next_address(refused.session), a);
+        s = spiewomir_session_next(s, words, base_len, next, SPIEWOMIR_WORDS).session;
+        IS(memcmp(one, out + a * (size_t)SPIEWOMIR_WORDS, SPIEWOMIR_WORDS * sizeof *one), 0);
+        IS(memcmp(one, next, SPIEWOMIR_WORDS * sizeof *one), 0);
+        free(one);
+        free(next);
+    }
+    IS(next_address(s), count / SPIEWOMIR_WORDS);
+
+    SpiewomirLog l = spiewomir_log(text, length, log, SPIEWOMIR_LOG_BYTES);
+    IS(l.refusal, SPIEWOMIR_ANSWERED);
+    IS(log[0], '(');
+    IS(log[l.bytes - 1], '\n');
+    free(words);
+    free(log);
+    free(out);
+}
+
+int main(void) {
+    static uint8_t text[SPIEWOMIR_TEXT_BYTES + 1];
+    size_t length = fread(text, 1, sizeof text, stdin);
+    IS(spiewomir_version(), SPIEWOMIR_VERSION);
+    sizes();
+    calls(text, length);
+    return wrong;
+}
