@@ -11,6 +11,7 @@ use Rattle.definitions.specs.declared.Axes.{Axes}
 use Rattle.definitions.specs.declared.Numbers.{Numbers}
 use Rattle.definitions.specs.declared.Counts.{Counts}
 use Rattle.definitions.specs.declared.Verdict.the-variants.{Accepted}
+use Rattle.definitions.specs.declared.Class.the-variants.{Corner}
 use Rattle.definitions.specs.declared.Origin.{Origin}
 use Rattle.definitions.specs.declared.Split.{Split}
 use Rattle.definitions.specs.declared.Answer.{Answer}
@@ -22,14 +23,14 @@ use Rattle.definitions.specs.Geometry.{axesOf, baseSize, fullSize, macro
 use Rattle.definitions.specs.Splits.{Covers, pieces, oneEach, count}
 use Rattle.definitions.specs.Record.{recordWords, recordAt, wellFormed, motionOf, typeNumber, splitSaid}
 use Rattle.definitions.specs.Inheriting.{blocksReadingIntra, inheritedMotions, motionAt}
-use Rattle.definitions.specs.Answer.{originAt, outsideOrigin, answerOrigin, columnsNamed, rowsNamed, addressesNamed, subTypes, unusedMotion}
+use Rattle.definitions.specs.Answer.{originAt, answerOrigin, columnsNamed, rowsNamed, addressesNamed, subTypes, unusedMotion}
 use Rattle.definitions.specs.Refusals.{geometryVerdict, addressesRead, AllFormed}
 use Rattle.definitions.specs.Calls.{macroblockCall, pictureCall}
 use Rattle.definitions.specs.Raster.{baseCount, fullCount, fullAddress}
 
 -- what document 01 names for a macroblock: outside class Corner, column and row 0
 abbrev pub originByPaper : Axes → ℕ → ℕ → Origin
-originByPaper g column row = pick (inside g column row) (originAt g column row) outsideOrigin
+originByPaper g column row = pick (inside g column row) (originAt g column row) (record { class = Corner; column = 0; row = 0 })
 
 -- The answer and the written record of the macroblock at a column and row, on a base. Other says which bases are compared with it, and Gives that on
 -- a base a call hands over an answer and a written record. Motions are those read back from the written words, and their first five say the split.
