@@ -98,7 +98,8 @@ pub record Case (limit : ℕ) (n : Numbers) (column row : ℕ) (base : List ℤ)
   pub column-within : column < macroblocks (fullSize (axesOf n .horizontal))
   pub row-within : row < macroblocks (fullSize (axesOf n .vertical))
 
--- What each call is lent in such a case: right lengths besides, and singly only those records are well formed that the macroblock names (outside none).
+-- What each call is lent in such a case: words of the right lengths besides. Singly, only those records have to be well formed that the macroblock names
+-- (addressesRead: those that its class reads; outside none).
 pub record SinglyCase (limit : ℕ) (n : Numbers) (column row : ℤ) (base words : List ℤ) : Type 0 where
   pub geometry : geometryVerdict n ≡ Accepted
   pub base-length : length base ≡ recordWords * baseCount (axesOf n)

@@ -1,18 +1,20 @@
 -- Demand 3 of what the picture call hands over, and its counts and words by one-macroblock calls. Assumes nothing.
-use mathlib.Core.Path.{_≡_, sym, ap, subst}
+use mathlib.Core.Path.{_≡_, sym, ap, subst, _∙_}
 use mathlib.Core.List.{List}
-use lib.IntN.{ℤ}
+use lib.IntN.{ℤ, pos}
+use lib.ListN.{length-replicate}
 use Rattle.definitions.specs.declared.Numbers.{Numbers}
+use Rattle.definitions.specs.declared.Counts.{Counts}
 use Rattle.definitions.specs.declared.Refusal.{Refusal}
 use Rattle.definitions.specs.declared.MacroblockReply.{MacroblockReply}
 use Rattle.definitions.specs.declared.PictureReply.{PictureReply}
 use Rattle.definitions.specs.declared.PictureReply.the-variants.{Counted, Refused as NotMade}
 use Rattle.definitions.specs.Geometry.{axesOf}
 use Rattle.definitions.specs.Raster.{fullAddress}
-use Rattle.definitions.specs.Record.{recordAt, narrow}
+use Rattle.definitions.specs.Record.{recordWords, recordAt, narrow}
 use Rattle.definitions.specs.Calls.{Outcome, pictureCall, AsSingly}
 use Rattle.definitions.specs.Examples.{wholeCase, wholeRecord}
-use Rattle.definitions.specs.Cases.{blank}
+use Rattle.definitions.specs.Cases.{blank, threeCounts}
 use Rattle.definitions.proofs.Demand.{demand3, passed, gives-made, counted-accepted, alone-accepted, case-counted}
 use Rattle.definitions.proofs.Singly.{picture-by-singly}
 use Rattle.definitions.proofs.Cases.{cases}
@@ -46,3 +48,10 @@ module _ (n : Numbers) (base words : List ℤ) where
 -- The promise alone shuts refusals out: in document 01's whole case none keeps it.
 pub whole-counted : (r : Refusal) (out : List ℤ) → PicturePromised wholeCase wholeRecord (blank 6) (NotMade r) out → ⊥
 whole-counted r out promised = promised (cases .inherited .picture-case)
+
+-- and the clause of one-macroblock calls alone fixes its counts
+pub whole-by-calls : (counts : Counts) (out : List ℤ) → SinglyCounted wholeCase wholeRecord (Counted counts) out → counts ≡ threeCounts 4 0 2
+whole-by-calls counts out singly =
+    let s = singly (λ a. blank 1) (λ a h. length-replicate recordWords (pos 0)) in
+    let w = cases .by-calls in
+    λ i. record { inherited = (s .inherited ∙ sym (w .inherited)) i; intra = (s .intra ∙ sym (w .intra)) i; outside = (s .outside ∙ sym (w .outside)) i }
