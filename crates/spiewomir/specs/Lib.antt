@@ -1,3 +1,4 @@
 pub mod Results
 pub mod Sessions
 pub mod Texts
+pub mod Laws
