@@ -278,5 +278,5 @@ session-in-c = record {
   numbers = numbers-after;
   state = state-after;
   gives = λ calls c. ap (λ (n : SessionNumbers). callInC n c) (numbers-after calls) ∙ call-carried (stateAfter fresh calls) c (only-sound calls);
-  totals-right = λ calls. ap (totalsResult (sessionAfterC calls)) (ap totalsOf (state-after calls) ∙ cc (totals-right .counts calls));
+  counts = λ calls. ap totalsOf (state-after calls) ∙ cc (totals-right .counts calls);
 }

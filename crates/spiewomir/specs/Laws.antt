@@ -102,6 +102,9 @@ exchangeInC after (nextGave base words o) = advanced (advancedResult (stateToC a
 exchangeInC after (abandonGave v) = judged (judgedResult (stateToC after) v (valueOf after))
 exchangeInC after (totalsGave c) = told (totalsResult (stateToC after) c)
 
+abbrev pub countsFromC : TotalsResult → Counts
+countsFromC t = record { inherited = t .inherited; intra = t .intra; outside = t .outside }
+
 -- After every list of calls from a fresh session: the session in C is that of the state of document 01's calls, and stands for it; one call more gives what
 -- document 01's does; and so totals are the counts of the accepted next calls since the last accepted begin or abandon.
 pub record SessionInC : Type 0 where
@@ -109,4 +112,4 @@ pub record SessionInC : Type 0 where
   pub state : (calls : List Call) → stateOf (sessionFromC (sessionAfterC calls)) ≡ stateAfter fresh calls
   pub gives : (calls : List Call) (c : Call)
       → callInC (sessionAfterC calls) c ≡ exchangeInC (stateNext (stateAfter fresh calls) c) (exchange (stateAfter fresh calls) c)
-  pub totals-right : (calls : List Call) → totalsGives (sessionAfterC calls) ≡ totalsResult (sessionAfterC calls) (countsOf (madeSince calls))
+  pub counts : (calls : List Call) → countsFromC (totalsGives (sessionAfterC calls)) ≡ countsOf (madeSince calls)

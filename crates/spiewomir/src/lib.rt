@@ -461,6 +461,7 @@ pub extern "C" fn spiewomir_text(text: &[u8], words: &mut [i16]) -> TextResult
 fn written_result(l: Logged) -> LogResult
     ensures { λ r. ⌜ r ≡ writtenResult (l .bytes) (l .verdict) ⌝ }
 {
+    let bytes = l.bytes;
     let verdict = l.verdict;
     match verdict {
         Verdict::Accepted => LogResult {
@@ -468,14 +469,14 @@ fn written_result(l: Logged) -> LogResult
             text_refusal: 0,
             place: 0,
             rule: 0,
-            bytes: l.bytes,
+            bytes,
         },
         Verdict::Refused(r) => LogResult {
             refusal: 0,
             text_refusal: r.number,
             place: r.place,
             rule: r.rule,
-            bytes: l.bytes,
+            bytes,
         },
     }
 }
