@@ -133,7 +133,7 @@ verdict-zero : (s : SessionNumbers) (v : Verdict) (after : Session) → ((r : Re
 verdict-zero s Accepted after h = (λ e. refl, λ w. refl)
 verdict-zero s (Refused r) after h = (λ e. absurd (h r refl e), λ w. absurd (let z : _≡_ {A = ℕ} 0 1 = cc in omega arith))
 
-written-zero : (n : ℕ) (v : Verdict) → ((r : Refusal) → v ≡ Refused r → NotZero r) → (writtenResult n v .«text_refusal» ≡ 0) ↔ (v ≡ Accepted)
+written-zero : (n : ℕ) (v : Verdict) → ((r : Refusal) → v ≡ Refused r → NotZero r) → (writtenResult n v .text ≡ 0) ↔ (v ≡ Accepted)
 written-zero n Accepted h = (λ e. refl, λ w. refl)
 written-zero n (Refused r) h = (λ e. absurd (h r refl e), λ w. absurd (let z : _≡_ {A = ℕ} 0 1 = cc in omega arith))
 

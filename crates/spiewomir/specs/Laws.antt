@@ -45,7 +45,7 @@ pub record ThereAndBack : Type 0 where
 abbrev pub ClassesDiffer : Type 0
 ClassesDiffer = (c d : Class) → classNumber c ≡ classNumber d → c ≡ d
 
--- ---- Refusal 0 exactly where a call is answered (of the log call: where a log is written; and text_refusal 0 exactly where the text is accepted)
+-- ---- Refusal 0 exactly where a call is answered (of the log call: where a log is written; and its text 0 exactly where the text is accepted)
 pub record ZeroWhenAnswered : Type 0 where
   pub macroblock : (n : Numbers) (base : List ℤ) (column row : ℤ) (words : List ℤ)
       → (macroblockResult (macroblockCall narrow n base column row words .reply) .refusal ≡ 0)
@@ -62,7 +62,7 @@ pub record ZeroWhenAnswered : Type 0 where
   pub log : (t out : List ℕ) (reply : LogReply) (new : List ℕ) → LogAnswer t out reply new
       → (logResult reply .refusal ≡ 0) ↔ ((l : Logged) × (reply ≡ Written l))
   pub log-text : (t out : List ℕ) (l : Logged) (new : List ℕ) → LogAnswer t out (Written l) new
-      → (logResult (Written l) .«text_refusal» ≡ 0) ↔ (l .verdict ≡ Accepted)
+      → (logResult (Written l) .text ≡ 0) ↔ (l .verdict ≡ Accepted)
 
 -- ---- The session over every list of calls
 -- what a call of the session gives in C; of next also the lent words, afterwards

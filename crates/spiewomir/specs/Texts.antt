@@ -25,15 +25,15 @@ abbrev pub textResult : TextReply → TextResult
 textResult (Read t) = record { refusal = 0; place = 0; rule = 0; geometry = numbersToC (t .numbers); lines = t .lines }
 textResult (Refused r) = record { refusal = r .number; place = r .place; rule = r .rule; geometry = noGeometry; lines = 0 }
 
--- a written log of so many bytes, with the text's refusal that it says, or zeros
+-- a written log of so many bytes, with the text's refusal that it says (its number is text), or zeros
 abbrev pub writtenResult : ℕ → Verdict → LogResult
-writtenResult n Accepted = record { refusal = 0; «text_refusal» = 0; place = 0; rule = 0; bytes = n }
-writtenResult n (RefusedBy r) = record { refusal = 0; «text_refusal» = r .number; place = r .place; rule = r .rule; bytes = n }
+writtenResult n Accepted = record { refusal = 0; text = 0; place = 0; rule = 0; bytes = n }
+writtenResult n (RefusedBy r) = record { refusal = 0; text = r .number; place = r .place; rule = r .rule; bytes = n }
 
 -- refusal is the call's own
 abbrev pub logResult : LogReply → LogResult
 logResult (Written l) = writtenResult (l .bytes) (l .verdict)
-logResult (NotWritten r) = record { refusal = r .number; «text_refusal» = 0; place = 0; rule = 0; bytes = 0 }
+logResult (NotWritten r) = record { refusal = r .number; text = 0; place = 0; rule = 0; bytes = 0 }
 
 pub record TextGiven (t : List ℕ) (words : List ℤ) (result : TextResult) (new : List ℤ) : Type 0 where
   pub reply : TextReply

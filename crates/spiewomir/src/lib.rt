@@ -111,10 +111,11 @@ pub struct TextResult {
 }
 
 // The call's own refusal, 6 or 0; and, with 0, the log's count of bytes and the text's refusal that it says, with its place and rule, or 0, 0, 0.
+// (The header's `text_refusal` is `text` here.)
 #[repr(C)]
 pub struct LogResult {
     pub refusal: u32,
-    pub text_refusal: u32,
+    pub text: u32,
     pub place: u32,
     pub rule: u32,
     pub bytes: usize,
@@ -466,14 +467,14 @@ fn written_result(l: Logged) -> LogResult
     match verdict {
         Verdict::Accepted => LogResult {
             refusal: 0,
-            text_refusal: 0,
+            text: 0,
             place: 0,
             rule: 0,
             bytes,
         },
         Verdict::Refused(r) => LogResult {
             refusal: 0,
-            text_refusal: r.number,
+            text: r.number,
             place: r.place,
             rule: r.rule,
             bytes,
@@ -489,7 +490,7 @@ pub extern "C" fn spiewomir_log(text: &[u8], out: &mut [u8]) -> LogResult
         LogReply::Written(l) => written_result(l),
         LogReply::Refused(r) => LogResult {
             refusal: r.number,
-            text_refusal: 0,
+            text: 0,
             place: 0,
             rule: 0,
             bytes: 0,
