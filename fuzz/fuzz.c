@@ -246,11 +246,17 @@ static void records(SpiewomirGeometry g, const int16_t *words, size_t count, con
 }
 
 /* ---- a text: the text call, and the log */
-static int number_after(const char *s, const char *end, unsigned *n) {
-    *n = 0;
-    if (s == end || *s < '0' || *s > '9') return 0;
-    while (s != end && *s >= '0' && *s <= '9') *n = *n * 10 + (unsigned)(*s++ - '0');
-    return 1;
+/* A text that is read, but refused by its log: the picture call refuses its numbers and words alike, with words to write
+ * for the picture of a geometry that 1 to 4 accept. */
+static void judged_alike(SpiewomirGeometry g, const int16_t *words, size_t count, SpiewomirLog log) {
+    size_t room = 0;
+    if (!spiewomir_session_begin(spiewomir_session_fresh(), g).refusal)
+        room = (size_t)(g.full_width / 16) * (size_t)(g.full_height / 16) * SPIEWOMIR_WORDS;
+    if (room > 1024 * SPIEWOMIR_WORDS) return;
+    Lent out = lend(room * sizeof(int16_t));
+    SpiewomirPicture p = spiewomir_picture(g, words, count, out.at, room);
+    HOLDS(p.refusal == log.text_refusal && p.place == log.place && p.rule == log.rule);
+    back(out);
 }
 
 static void try_text(void) {
@@ -289,17 +295,24 @@ static void try_text(void) {
         if (((unsigned char *)l.at)[i] != 0xa5) fail("a byte after the log is written");
     if (g.refusal) {
         HOLDS(g.refusal == SPIEWOMIR_REFUSED_OUTPUT_LENGTH && g.bytes == 0 && room < SPIEWOMIR_LOG_BYTES);
+        HOLDS(g.text_refusal == 0 && g.place == 0 && g.rule == 0);
     } else if (words == SPIEWOMIR_TEXT_WORDS) {
         const char *log = l.at;
         HOLDS(end > 0 && log[end - 1] == '\n');
-        if (r.refusal) {
+        HOLDS((g.text_refusal != 0) == (log[1] == 'r'));
+        if (g.text_refusal) {
             char line[64];
-            int n = snprintf(line, sizeof line, "(refused %u %u)\n", r.refusal, r.place);
+            int n = snprintf(line, sizeof line, "(refused %u %u)\n", g.text_refusal, g.place);
             HOLDS((size_t)n == end && memcmp(line, log, end) == 0);
-        } else if (log[1] == 'r') {
-            unsigned number;
-            HOLDS(number_after(log + 9, log + end, &number));
-            refusals[number]++;
+            HOLDS(g.text_refusal == SPIEWOMIR_REFUSED_RECORD ? g.rule >= 1 && g.rule <= 6 : g.rule == 0);
+        } else {
+            HOLDS(g.place == 0 && g.rule == 0);
+        }
+        if (r.refusal) {
+            HOLDS(g.text_refusal == r.refusal && g.place == r.place && g.rule == r.rule);
+        } else if (g.text_refusal) {
+            refusals[g.text_refusal]++;
+            judged_alike(r.geometry, w.at, (size_t)r.lines * SPIEWOMIR_WORDS, g);
             records(r.geometry, w.at, (size_t)r.lines * SPIEWOMIR_WORDS, NULL);
         } else {
             size_t last = end - 1;
@@ -319,6 +332,7 @@ static void try_text(void) {
     HOLDS(spiewomir_log(NULL, 0, NULL, 0).refusal == SPIEWOMIR_REFUSED_OUTPUT_LENGTH);
     SpiewomirLog none = spiewomir_log(NULL, 0, l.at, room);
     HOLDS(none.refusal == g.refusal && (none.refusal || (none.bytes == 14 && memcmp(l.at, "(refused 9 0)\n", 14) == 0)));
+    HOLDS(none.text_refusal == (none.refusal ? 0 : SPIEWOMIR_REFUSED_GRAMMAR) && none.place == 0 && none.rule == 0);
     HOLDS(memcmp(t.at, text, length) == 0);
     back(l);
     free(before);

@@ -171,8 +171,10 @@ typedef struct {
 } SpiewomirText;
 
 typedef struct {
-    uint32_t refusal; /* 6 or 0 */
-    size_t bytes;     /* the log's length; 0 if refused */
+    uint32_t refusal;                   /* the call's own: 6 or 0; what follows is 0 if it is 6 */
+    uint32_t text_refusal, place, rule; /* the text's, 0 if it has a picture: the number and place
+                                           that the log says, and the rule of refusal 8 */
+    size_t bytes;                       /* the log's length */
 } SpiewomirLog;
 
 /* One macroblock. `base` has the base picture's records in raster order, `out`
@@ -236,7 +238,8 @@ SpiewomirText spiewomir_text(const uint8_t *text, size_t text_len, int16_t *word
  * for the first that applies of 10 by length, 9, 10 by lines, 1 to 5 (5: record
  * lines too few or many), and 8 on all records. Each line ends in a line feed. The
  * log stands first in `log`, `bytes` long with no zero put after it, and the rest is
- * as it was. */
+ * as it was. `text_refusal`, `place` and `rule` are the text's refusal, so that the
+ * log need not be read for it; `refusal` is 0 then, for the log is written. */
 SpiewomirLog spiewomir_log(const uint8_t *text, size_t text_len, uint8_t *log, size_t log_len);
 
 #ifdef __cplusplus

@@ -9,6 +9,8 @@ pub struct TextCoverage {
     text: [u64; 6],
     /// By LOG_ANSWERS.
     log: [u64; 12],
+    /// Refusal 8 of the log, by the broken rule that the call hands back.
+    rules: [u64; 6],
     /// Lines of texts that were read, by FORMS.
     forms: [u64; 4],
     /// Lines of logs by the type of their macroblock.
@@ -37,13 +39,14 @@ const LOG_ANSWERS: [&str; 12] = [
     "9 at the end",
     "10 by lines",
 ];
+const RULES: [&str; 6] = ["1", "2", "3", "4", "5", "6"];
 const FORMS: [&str; 4] = ["(intra)", "(whole ..)", "(mb ..)", "(note ..)"];
 const TYPES: [&str; 6] = ["0", "1", "2", "3", "4", "5"];
 
 impl TextCoverage {
     /// Prints the tables. For each, its name and whether everything that it
     /// lists did happen.
-    pub fn report(&self) -> [(&'static str, bool); 4] {
+    pub fn report(&self) -> [(&'static str, bool); 5] {
         [
             (
                 "each refusal of the text call",
@@ -52,6 +55,10 @@ impl TextCoverage {
             (
                 "each refusal of the log",
                 print("log", &LOG_ANSWERS, &self.log),
+            ),
+            (
+                "each broken rule that the log call hands back",
+                print("log, refusal 8 by rule", &RULES, &self.rules),
             ),
             (
                 "each form of a line in texts that are read",
@@ -93,8 +100,8 @@ impl TextCoverage {
         self.log[6] += 1;
     }
 
-    /// The log that was made of a text.
-    pub fn log(&mut self, text: &[u8], log: &[u8]) {
+    /// The log that was made of a text, and the broken rule that came with it.
+    pub fn log(&mut self, text: &[u8], log: &[u8], rule: u32) {
         if let Some(refusal) = log.strip_prefix(b"(refused ") {
             let refusal = std::str::from_utf8(refusal).expect("a line of a log");
             let mut numbers = refusal.split([' ', ')']).map(|number| number.parse());
@@ -102,7 +109,10 @@ impl TextCoverage {
             let (number, place) = (next(), next());
             let at = match number {
                 1..=5 => number as usize,
-                8 => 7,
+                8 => {
+                    self.rules[rule as usize - 1] += 1;
+                    7
+                }
                 _ => 8 + by_text(number, place, text),
             };
             self.log[at] += 1;

@@ -94,6 +94,23 @@ fn text_numbers(result: Result<(second::Numbers, u32), second::Refusal>) -> numb
     }
 }
 
+/// The interface's numbers for a written log of so many bytes.
+fn log_numbers(bytes: usize, refusal: Option<second::Refusal>) -> numbers::Log {
+    match refusal {
+        None => numbers::Log {
+            bytes,
+            ..numbers::Log::default()
+        },
+        Some(refusal) => numbers::Log {
+            refusal: 0,
+            text_refusal: refusal.number,
+            place: refusal.place,
+            rule: refusal.rule,
+            bytes,
+        },
+    }
+}
+
 /// The calls of one test, and what it lends to them.
 struct Texts<'a> {
     calls: &'a mut Calls,
@@ -163,7 +180,7 @@ impl Texts<'_> {
             // The second implementation has the program's log only.
             let refused = numbers::Log {
                 refusal: 6,
-                bytes: 0,
+                ..numbers::Log::default()
             };
             if library != refused || !self.log.untouched() {
                 self.differs(text, &format!("log: library {library:?}, not refused by 6"));
@@ -171,11 +188,8 @@ impl Texts<'_> {
             self.calls.text_coverage.log_refused();
             return;
         }
-        let second = second::log(text);
-        let written = numbers::Log {
-            refusal: 0,
-            bytes: second.len(),
-        };
+        let (second, refusal) = second::log_with_refusal(text);
+        let written = log_numbers(second.len(), refusal);
         if library != written || self.log.words()[..second.len()] != second {
             self.differs(
                 text,
@@ -187,7 +201,23 @@ impl Texts<'_> {
         }
         self.log.restore(second.len());
         self.calls.log_bytes += second.len() as u64;
-        self.calls.text_coverage.log(text, &second);
+        self.calls.text_coverage.log(text, &second, written.rule);
+    }
+}
+
+impl Texts<'_> {
+    /// The wrapper's own log of a text.
+    fn wrapped(&mut self, text: &[u8]) {
+        let library = spiewomir::log(text);
+        let (bytes, refusal) = second::log_with_refusal(text);
+        let refusal = refusal.map(|refusal| spiewomir::Refusal {
+            number: refusal.number,
+            place: refusal.place,
+            rule: refusal.rule,
+        });
+        if library != (spiewomir::Log { bytes, refusal }) {
+            self.differs(text, "the wrapper's log");
+        }
     }
 }
 
@@ -501,7 +531,7 @@ fn damaged(random: &mut Random, text: &[u8]) -> Vec<u8> {
 }
 
 /// The longest logs: 65,536 macroblocks, of 99 records and of one. Also by the
-/// wrapper's own log.
+/// wrapper's own log, as are texts that are refused.
 pub fn largest(calls: &mut Calls) {
     let texts = &mut Texts::new(calls);
     let corner = WHOLE_CASE.replace("48 32", "4096 4096");
@@ -511,8 +541,10 @@ pub fn largest(calls: &mut Calls) {
         corner,
     ] {
         texts.compare(&text);
-        if spiewomir::log(text.as_bytes()) != second::log(text.as_bytes()) {
-            texts.differs(text.as_bytes(), "the wrapper's log");
-        }
+        texts.wrapped(text.as_bytes());
+    }
+    let malformed = WHOLE_CASE.replace("(0 -1)", "(0 32)");
+    for text in ["", &malformed, &(malformed.clone() + INTRA), WHOLE_CASE] {
+        texts.wrapped(text.as_bytes());
     }
 }

@@ -100,6 +100,17 @@ static void kinds(void) {
     IS(m.sub3, SPIEWOMIR_SUB_4X4);
 }
 
+/* ---- the log of the text's first n bytes is the line of a refusal, and hands it back */
+static void logged(size_t n, uint32_t number, uint32_t place, uint32_t rule, const char *line) {
+    SpiewomirLog l = spiewomir_log(text, n, room, SPIEWOMIR_LOG_BYTES);
+    IS(l.refusal, SPIEWOMIR_ANSWERED);
+    IS(l.text_refusal, number);
+    IS(l.place, place);
+    IS(l.rule, rule);
+    IS(l.bytes, strlen(line));
+    IS(memcmp(room, line, strlen(line)), 0);
+}
+
 /* ---- texts: refusals 6, 9 and 10, and the members in their order */
 static void texts(void) {
     static const char some[] = "(base 16 32)\n(scaled 18 34)\n(at -2 4)\n(full 48 64)\n";
@@ -128,8 +139,17 @@ static void texts(void) {
     IS(t.geometry.full_width, 48);
     IS(t.geometry.full_height, 64);
     IS(spiewomir_text(text, n + 8 * (SPIEWOMIR_TEXT_RECORDS + 1), base, SPIEWOMIR_TEXT_WORDS).refusal, SPIEWOMIR_REFUSED_LIMIT);
-    IS(spiewomir_log(text, n, room, SPIEWOMIR_LOG_BYTES - 1).refusal, SPIEWOMIR_REFUSED_OUTPUT_LENGTH);
-    IS(spiewomir_log(text, n, room, SPIEWOMIR_LOG_BYTES).refusal, SPIEWOMIR_ANSWERED);
+    SpiewomirLog l = spiewomir_log(text, n, room, SPIEWOMIR_LOG_BYTES - 1);
+    IS(l.refusal, SPIEWOMIR_REFUSED_OUTPUT_LENGTH);
+    IS(l.text_refusal, SPIEWOMIR_ANSWERED);
+    IS(l.place, 0);
+    IS(l.rule, 0);
+    IS(l.bytes, 0);
+    logged(n, SPIEWOMIR_REFUSED_BASE_LENGTH, 0, 0, "(refused 5 0)\n");
+    logged(n - 1, SPIEWOMIR_REFUSED_GRAMMAR, (uint32_t)(n - 1), 0, "(refused 9 50)\n");
+    static const char two[] = "(intra)\n(whole (0 32) (0 0 0 0))\n";
+    memcpy(text + n, two, sizeof two - 1);
+    logged(n + sizeof two - 1, SPIEWOMIR_REFUSED_RECORD, 1, 3, "(refused 8 1)\n");
 }
 
 /* ---- the picture of examples/unaligned.sync: classes, counts, and refusals 20 to 22 */
@@ -197,6 +217,9 @@ static void picture(size_t length) {
     static const char last[] = "(sync 25 7 2 16)\n";
     SpiewomirLog l = spiewomir_log(text, length, room, SPIEWOMIR_LOG_BYTES);
     IS(l.refusal, SPIEWOMIR_ANSWERED);
+    IS(l.text_refusal, SPIEWOMIR_ANSWERED);
+    IS(l.place, 0);
+    IS(l.rule, 0);
     IS(l.bytes > strlen(last) && !memcmp(room + l.bytes - strlen(last), last, strlen(last)), 1);
 }
 

@@ -15,7 +15,7 @@ pub mod text;
 pub mod upsample;
 
 pub use geometry::Numbers;
-pub use log::log;
+pub use log::{log, log_with_refusal};
 pub use record::WORDS;
 pub use refusal::Refusal;
 pub use session::Session;

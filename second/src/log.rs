@@ -43,11 +43,19 @@ fn lines(bytes: &[u8]) -> Result<Vec<u8>, Refusal> {
     Ok(out)
 }
 
-/// The log for a text: its lines, or a refusal's only one.
+/// The log for a text, its lines or a refusal's only one, and that refusal.
+pub fn log_with_refusal(bytes: &[u8]) -> (Vec<u8>, Option<Refusal>) {
+    match lines(bytes) {
+        Ok(out) => (out, None),
+        Err(refusal) => {
+            let mut out = Vec::new();
+            write_line(&mut out, "refused", &[refusal.number, refusal.place]);
+            (out, Some(refusal))
+        }
+    }
+}
+
+/// The log for a text, as the program writes it.
 pub fn log(bytes: &[u8]) -> Vec<u8> {
-    lines(bytes).unwrap_or_else(|refusal| {
-        let mut out = Vec::new();
-        write_line(&mut out, "refused", &[refusal.number, refusal.place]);
-        out
-    })
+    log_with_refusal(bytes).0
 }

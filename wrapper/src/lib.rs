@@ -198,16 +198,28 @@ pub fn text(text: &[u8], words: &mut [i16]) -> Result<(Geometry, u32), Refusal> 
     numbers::text(text, words).result()
 }
 
+/// What [`log`] makes of a sync text.
+#[derive(Clone, Debug, PartialEq, Eq)]
+pub struct Log {
+    /// The lines, which every text has.
+    pub bytes: Vec<u8>,
+    /// The text's refusal, which `bytes` then says, but for its rule.
+    pub refusal: Option<Refusal>,
+}
+
 /// The log of a sync text: a line `(mb column row type pieces)` for each
 /// macroblock, then `(sync macroblocks inherited intra outside)`; or only
 /// `(refused number place)`, by the first of 10 by length, 9, 10 by lines, 1 to 5,
-/// and 8 on all records.
-pub fn log(text: &[u8]) -> Vec<u8> {
-    let mut log = vec![0; LOG_BYTES];
-    let written = numbers::log(text, &mut log);
-    log.truncate(written.bytes);
-    log.shrink_to_fit();
-    log
+/// and 8 on all records. A refused text has a log too, so that this is no `Result`.
+pub fn log(text: &[u8]) -> Log {
+    let mut bytes = vec![0; LOG_BYTES];
+    let written = numbers::log(text, &mut bytes);
+    bytes.truncate(written.bytes);
+    bytes.shrink_to_fit();
+    Log {
+        bytes,
+        refusal: written.text_verdict().err(),
+    }
 }
 
 /// A session: one picture made macroblock by macroblock. Each call hands it
@@ -311,6 +323,13 @@ impl numbers::Text {
     pub fn result(self) -> Result<(Geometry, u32), Refusal> {
         verdict(self.refusal, self.place, self.rule)?;
         Ok((self.geometry, self.lines))
+    }
+}
+
+impl numbers::Log {
+    /// The text's refusal, if it has one. (Where `refusal` is 6 nothing was judged.)
+    pub fn text_verdict(self) -> Result<(), Refusal> {
+        verdict(self.text_refusal, self.place, self.rule)
     }
 }
 

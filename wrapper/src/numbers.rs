@@ -142,12 +142,19 @@ pub struct Text {
     pub lines: u32,
 }
 
-/// What the log call hands back; `refusal` 0 means written.
+/// What the log call hands back; `refusal` 0 means written, also where the log says
+/// that the text is refused.
 #[repr(C)]
 #[derive(Clone, Copy, Debug, Default, PartialEq, Eq)]
 pub struct Log {
-    /// 0, or 6.
+    /// The call's own: 0, or 6.
     pub refusal: u32,
+    /// The text's: 0, or the number that the log says.
+    pub text_refusal: u32,
+    /// Its place, as the log says it; 0 but for 8 and 9.
+    pub place: u32,
+    /// Its rule; 0 but for 8.
+    pub rule: u32,
     /// The log's length.
     pub bytes: usize,
 }

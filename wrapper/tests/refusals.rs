@@ -1,8 +1,8 @@
 //! Each refusal comes with its constant, and says what it means.
 
 use spiewomir::{
-    macroblock, refused, text, Geometry, Refusal, Session, TEXT_BYTES, TEXT_RECORDS, TEXT_WORDS,
-    WORDS,
+    log, macroblock, numbers, refused, text, Geometry, Refusal, Session, TEXT_BYTES, TEXT_RECORDS,
+    TEXT_WORDS, WORDS,
 };
 use std::error::Error;
 
@@ -83,6 +83,39 @@ fn of_texts() {
         read(&lines),
         refused::LIMIT,
         "text has too many bytes or record lines",
+    );
+}
+
+/// A log's refusal is the text's, with the rule that its line does not say.
+#[test]
+fn of_logs() {
+    let head = "(base 16 32)\n(scaled 16 32)\n(at 0 0)\n(full 16 16)\n";
+    let made = log(format!("{head}(intra)\n(intra)\n").as_bytes());
+    assert_eq!(made.bytes, b"(mb 0 0 0 0)\n(sync 1 0 1 0)\n");
+    assert_eq!(made.refusal, None);
+    for (text, line, number, place, rule) in [
+        (String::new(), "(refused 9 0)\n", refused::GRAMMAR, 0, 0),
+        (head.replace("16 32", "16 33"), "(refused 1 0)\n", refused::BASE_SIZE, 0, 0),
+        (head.to_string(), "(refused 5 0)\n", refused::BASE_LENGTH, 0, 0),
+        (
+            format!("{head}(intra)\n(whole (0 32) (0 0 0 0))\n"),
+            "(refused 8 1)\n",
+            refused::RECORD,
+            1,
+            3,
+        ),
+    ] {
+        let refused = log(text.as_bytes());
+        assert_eq!(refused.bytes, line.as_bytes());
+        assert_eq!(refused.refusal, Some(Refusal { number, place, rule }));
+    }
+    let short = numbers::log(head.as_bytes(), &mut [0; 31]);
+    assert_eq!(
+        short,
+        numbers::Log {
+            refusal: refused::OUTPUT_LENGTH,
+            ..numbers::Log::default()
+        }
     );
 }
 

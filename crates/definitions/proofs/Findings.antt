@@ -1,4 +1,5 @@
--- What the program refuses a text for that is read: its tests in their order, and what each gives (specs/Log). Assumes nothing.
+-- What the program refuses a text for that is read: its tests in their order, and what each gives; the verdict on a text says what its log says (specs/Log).
+-- Assumes nothing.
 use Prim.Native.Nat.{ℕ, _<_}
 use mathlib.Core.Path.{_≡_, refl, sym, ap, subst, _∙_}
 use mathlib.Core.Bool.{Bool, true, false, not}
@@ -6,7 +7,9 @@ use mathlib.Core.List.{List, [], _∷_, List·Memᴰ, List·Memᴰ·head, List·
 use native.Mathlib.Omega.{arith}
 use lib.Dec.{eqb}
 use lib.IntN.{ℤ}
+use lib.ListN.{length}
 use borrow.Author.Tests.{eqb-true, eqb-false, eq-eqb, ne-eqb}
+use Rattle.definitions.specs.declared.Axes.{Axes}
 use Rattle.definitions.specs.declared.Numbers.{Numbers}
 use Rattle.definitions.specs.declared.Refusal.{Refusal}
 use Rattle.definitions.specs.declared.Verdict.{Verdict}
@@ -14,11 +17,13 @@ use Rattle.definitions.specs.declared.Verdict.the-variants.{Accepted, Re
 use Rattle.definitions.specs.Geometry.{axesOf}
 use Rattle.definitions.specs.Record.{narrow}
 use Rattle.definitions.specs.Refusals.{refusal, verdictOf, geometryTests, geometryVerdict, recordTests, allAddresses}
-use Rattle.definitions.specs.Log.{programTests}
+use Rattle.definitions.specs.Text.{Reading, notRead, readAs, baseOf}
+use Rattle.definitions.specs.Log.{programTests, findingBy, findingOf, logFor, verdictFor, pictureLines, refusedLine, LogOf, SaidByLog}
 use Rattle.definitions.specs.Raster.{baseCount}
 use Rattle.definitions.proofs.Choices.{yes, no}
 use Rattle.definitions.proofs.Verdicts.{then-verdict, refused-first, given-by}
 use Rattle.definitions.proofs.RecordLists.{records-give, member-index}
+use Rattle.definitions.proofs.Lines.{lines-differ}
 
 -- ---- The tests in their order
 module _ (n : Numbers) (lines : ℕ) (base : List ℤ) where
@@ -73,3 +78,22 @@ module _ (lines : ℕ) where
 pub number-of : {lines : ℕ} {r : Refusal} → RefusedBy lines r → List·Memᴰ (r .number) (1 ∷ 2 ∷ 3 ∷ 4 ∷ 5 ∷ 8 ∷ [])
 number-of (by-number m) = Memᴰ·append-left (8 ∷ []) m
 number-of (by-record l) = List·Memᴰ·tail (List·Memᴰ·tail (List·Memᴰ·tail (List·Memᴰ·tail (List·Memᴰ·tail (List·Memᴰ·head refl)))))
+
+-- ---- The verdict on a text, by what is found of it
+pub verdict-by : (v : Verdict) (lines : List ℕ) → verdictFor (findingBy v lines) ≡ v
+verdict-by Accepted lines = refl
+verdict-by (Refused r) lines = refl
+
+said-refused : (q : Refusal) → SaidByLog (Refused q) (refusedLine q)
+said-refused q = record { refused = λ r e. ap refusedLine (same-refusal e); accepted = λ e r s. let z : _≡_ {A = ℕ} 0 1 = cc in omega arith }
+
+said-by : (v : Verdict) (g : Axes) (base : List ℤ) → SaidByLog (verdictFor (findingBy v (pictureLines g base))) (logFor (findingBy v (pictureLines g base)))
+said-by Accepted g base = record { refused = λ r e. absurd (let z : _≡_ {A = ℕ} 0 1 = cc in omega arith); accepted = λ e. lines-differ g base }
+said-by (Refused q) g base = said-refused q
+
+said : (v : Reading) → SaidByLog (verdictFor (findingOf v)) (logFor (findingOf v))
+said (notRead r) = said-refused r
+said (readAs n entries) = said-by (verdictOf (programTests n (length entries) (baseOf entries))) (axesOf n) (baseOf entries)
+
+pub said-by-log : {t log : List ℕ} → (found : LogOf t log) → SaidByLog (verdictFor (findingOf (found .reading))) log
+said-by-log found = subst (SaidByLog (verdictFor (findingOf (found .reading)))) (sym (found .is)) (said (found .reading))

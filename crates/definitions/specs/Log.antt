@@ -121,14 +121,27 @@ pub record LogOf (t log : List ℕ) : Type 0 where
   pub reads : Reads t reading
   pub is : log ≡ logFor (findingOf reading)
 
+-- the verdict on a text, by the same finding
+abbrev pub verdictFor : Finding → Verdict
+verdictFor (refuses r) = Refused r
+verdictFor (makes lines) = Accepted
+
 -- The log call is ours (document 01 has the program alone): the bytes of a text, and bytes to write its log into, as many as every log fits: 65,536 lines of at
--- most 18 bytes, and a last one of at most 31. Fewer are refused by 6, tested first, and left as they are. Else the log stands first, the rest unchanged.
+-- most 18 bytes, and a last one of at most 31. Fewer are refused by 6, tested first, and left as they are. Else the log stands first, the rest unchanged, and the
+-- call gives its length and the verdict on the text.
 abbrev pub logBytes : ℕ
 logBytes = 65536 * 18 + 31
 
 pub data LogAnswer (t out : List ℕ) : LogReply → List ℕ → Type 0 where
   tooFew : length out < logBytes → LogAnswer t out (NotWritten (refusal 6)) out
-  logged : {log : List ℕ} → logBytes ≤ length out → LogOf t log → LogAnswer t out (Written (length log)) (log ++ drop (length log) out)
+  logged :
+      {log : List ℕ} → logBytes ≤ length out → (found : LogOf t log)
+      → LogAnswer t out (Written (record { bytes = length log; verdict = verdictFor (findingOf (found .reading)) })) (log ++ drop (length log) out)
+
+-- The verdict says what the log says: refused, the log is the line of that refusal; accepted, it is that of none.
+pub record SaidByLog (verdict : Verdict) (log : List ℕ) : Type 0 where
+  pub refused : (r : Refusal) → verdict ≡ Refused r → log ≡ refusedLine r
+  pub accepted : verdict ≡ Accepted → (r : Refusal) → log ≡ refusedLine r → ⊥
 
 -- ---- Demand 2: "it is then refused only for what refusals 1 to 5 and 8 say of its numbers and its count of record lines"
 -- Of a text that belongs to the grammar and keeps the limits: its log is a refusal exactly where one of these applies, and is then the first of them; and a log

@@ -147,8 +147,13 @@ pub enum TextReply {
     Refused(Refusal),
 }
 
-// What the log call gives: the length of the log, or why none is written.
+// What the log call gives: the length of the log, and the verdict on the text that its lines say; or why none is written.
+pub struct Logged {
+    pub bytes: usize,
+    pub verdict: Verdict,
+}
+
 pub enum LogReply {
-    Written(usize),
+    Written(Logged),
     Refused(Refusal),
 }

@@ -1,5 +1,5 @@
--- A text has one log, and demand 2 of it: a text that is read is refused only for what 1 to 5 and 8 say. The last declaration, demand2, is the theorem, both halves
--- (specs/Log). Assumes nothing.
+-- A text has one log and one verdict, and demand 2 of it: a text that is read is refused only for what 1 to 5 and 8 say. The last declaration, demand2, is the
+-- theorem, both halves (specs/Log). Assumes nothing.
 use Prim.Native.Nat.{ℕ, _<_}
 use mathlib.Core.Path.{_≡_, refl, sym, ap, subst, _∙_}
 use mathlib.Core.List.{List, List·Memᴰ}
@@ -11,13 +11,16 @@ use Rattle.definitions.specs.declared.Verdict.the-variants.{Accepted, Refused}
 use Rattle.definitions.specs.Geometry.{axesOf}
 use Rattle.definitions.specs.Refusals.{refusal, verdictOf}
 use Rattle.definitions.specs.Text.{textBytes, baseOf, Reading, notRead, readAs, tooLong, read}
-use Rattle.definitions.specs.Log.{findingBy, findingOf, LogOf, logFor, programTests, pictureLines, refusedLine, Demand2Log, Demand2Entire}
+use Rattle.definitions.specs.Log.{findingBy, findingOf, LogOf, logFor, verdictFor, programTests, pictureLines, refusedLine, Demand2Log, Demand2Entire}
 use Rattle.definitions.proofs.Lines.{lines-differ, refused-number}
 use Rattle.definitions.proofs.Findings.{refused-by, number-of}
 use Rattle.grammar.proofs.Once.{reads-once, demand2-text}
 
 pub one-log : {t v w : List ℕ} → LogOf t v → LogOf t w → v ≡ w
 one-log x y = x .is ∙ (ap (λ (r : Reading). logFor (findingOf r)) (reads-once (x .reads) (y .reads)) ∙ sym (y .is))
+
+pub one-verdict : {t v w : List ℕ} (x : LogOf t v) (y : LogOf t w) → verdictFor (findingOf (x .reading)) ≡ verdictFor (findingOf (y .reading))
+one-verdict x y = ap (λ (r : Reading). verdictFor (findingOf r)) (reads-once (x .reads) (y .reads))
 
 -- The program needs no more than the first bytes of a longer input: too many for a text already, they have the log of all, which is refusal 10.
 pub long-refused : (t l : List ℕ) → textBytes < length t → LogOf t l → l ≡ refusedLine (refusal 10)

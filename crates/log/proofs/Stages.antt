@@ -17,6 +17,7 @@ use Rattle.definitions.specs.declared.Verdict.the-variants.{Accepted, Refused}
 use Rattle.definitions.specs.declared.TextRead.{TextRead}
 use Rattle.definitions.specs.declared.TextReply.{TextReply}
 use Rattle.definitions.specs.declared.TextReply.the-variants.{Read, Refused as NotRead}
+use Rattle.definitions.specs.declared.Logged.{Logged}
 use Rattle.definitions.specs.declared.LogReply.{LogReply}
 use Rattle.definitions.specs.declared.LogReply.the-variants.{Written, Refused as NotWritten}
 use Rattle.definitions.specs.Basics.{allOf}
@@ -24,20 +25,22 @@ use Rattle.definitions.specs.Geometry.{axesOf}
 use Rattle.definitions.specs.Record.{recordWords, narrow}
 use Rattle.definitions.specs.Refusals.{refusal, verdictOf, geometryTests, geometryVerdict, recordTests, allAddresses}
 use Rattle.definitions.specs.Text.{Entry, baseOf, textRecords, Reading, notRead, readAs, Reads, tooLong, broken, tooMany, read, TextAnswer, wrongWords, refused, given}
-use Rattle.definitions.specs.Log.{Finding, refuses, makes, findingBy, programTests, judged, findingOf, pictureLines, LogOf, logFor, lineOf, refusedWord, refusedLine, logBytes, LogAnswer, tooFew, logged, RefusedOnly}
+use Rattle.definitions.specs.Log.{Finding, refuses, makes, findingBy, programTests, judged, findingOf, pictureLines, LogOf, logFor, lineOf, refusedWord, refusedLine, logBytes, verdictFor, LogAnswer, tooFew, logged, SaidByLog}
 use Rattle.definitions.proofs.Choices.{of-true}
 use Rattle.definitions.proofs.Verdicts.{both-passed}
 use Rattle.definitions.proofs.Accepted.{accepted-axes}
 use Rattle.definitions.proofs.Lines.{digits5, refused-short}
-use Rattle.definitions.proofs.Findings.{numbers-wrong, count-wrong, count-right, RefusedBy, by-number, by-record, refused-by}
+use Rattle.definitions.proofs.Findings.{numbers-wrong, count-wrong, count-right, RefusedBy, by-number, by-record, refused-by, verdict-by, said-by-log}
 use Rattle.grammar.proofs.Words.{text-words}
-use Rattle.grammar.proofs.OneLog.{demand2}
+use Rattle.grammar.proofs.OneLog.{demand2, one-verdict}
 use Rattle.definitions.specs.Accepted.{AcceptedAxes}
 use Rattle.definitions.specs.Raster.{baseCount}
 use Rattle.log_lines.specs.Put.{Fits, Put}
 use Rattle.log_picture.proofs.Growing.{picture-short}
+use Rattle.log.specs.declared.Found.{Found}
+use Rattle.log.specs.declared.Found.the-variants.{Made, Refused as Declined}
 use Rattle.log.specs.Given.{Given, kept, lines}
-use Rattle.log.specs.Promised.{LogPromised}
+use Rattle.log.specs.Promised.{AsJudged, LogPromised}
 
 -- ---- bytes put from the buffer's start on
 pub put-first : (out log new : List ℕ) (n : ℕ) → length log ≤ length out → Put out 0 log new n → (n ≡ length log) × (new ≡ log ++ drop (length log) out)
@@ -51,36 +54,36 @@ refused-room out a b room p q = simp length-append (omega (arith, digits5 a (ome
 
 -- ---- what is given by a verdict
 module _ (out log : List ℕ) (v : Verdict) where
-  pub given-refusal : (r : Refusal) → v ≡ Refused r → Given out (findingBy v log) (NotWritten r) out
-  given-refusal r e = subst (λ (u : Verdict). Given out (findingBy u log) (NotWritten r) out) (sym e) kept
+  pub given-refusal : (r : Refusal) → v ≡ Refused r → Given out (findingBy v log) (Declined r) out
+  given-refusal r e = subst (λ (u : Verdict). Given out (findingBy u log) (Declined r) out) (sym e) kept
 
-  pub given-lines : v ≡ Accepted → (n : ℕ) (new : List ℕ) → length log ≤ length out → Put out 0 log new n → Given out (findingBy v log) (Written n) new
+  pub given-lines : v ≡ Accepted → (n : ℕ) (new : List ℕ) → length log ≤ length out → Put out 0 log new n → Given out (findingBy v log) (Made n) new
   given-lines e n new l p =
       let h = put-first out log new n l p in
-      subst (λ (u : Verdict). Given out (findingBy u log) (Written n) new) (sym e)
-      (subst (λ (k : ℕ). Given out (makes log) (Written k) new) (sym (h .0)) (subst (λ (b : List ℕ). Given out (makes log) (Written (length log)) b) (sym (h .1)) lines))
+      subst (λ (u : Verdict). Given out (findingBy u log) (Made n) new) (sym e)
+      (subst (λ (k : ℕ). Given out (makes log) (Made k) new) (sym (h .0)) (subst (λ (b : List ℕ). Given out (makes log) (Made (length log)) b) (sym (h .1)) lines))
 
 -- ---- what is given of a text that is read
 module _ (n : Numbers) (count : ℕ) (base : List ℤ) (out : List ℕ) where
   abbrev all : Verdict
   all = verdictOf (programTests n count base)
 
-  pub wrong-numbers : (r : Refusal) → geometryVerdict n ≡ Refused r → Given out (judged n count base) (NotWritten r) out
+  pub wrong-numbers : (r : Refusal) → geometryVerdict n ≡ Refused r → Given out (judged n count base) (Declined r) out
   wrong-numbers r e = given-refusal out _ all r (numbers-wrong n count base r e)
 
   module _ (axes : Axes) (accepted : geometryVerdict n ≡ Accepted) (is : axes ≡ axesOf n) where
-    pub wrong-count : (count ≡ baseCount axes → ⊥) → (r : Refusal) → r ≡ refusal 5 → Given out (judged n count base) (NotWritten r) out
+    pub wrong-count : (count ≡ baseCount axes → ⊥) → (r : Refusal) → r ≡ refusal 5 → Given out (judged n count base) (Declined r) out
     wrong-count d r e = given-refusal out _ all r (count-wrong n count base accepted (λ s. d (s ∙ ap baseCount (sym is))) ∙ ap Refused (sym e))
 
     module _ (right : count ≡ baseCount axes) where
       of-records : all ≡ verdictOf (recordTests narrow base (allAddresses axes))
       of-records = count-right n count base accepted (right ∙ ap baseCount is) ∙ ap (λ (g : Axes). verdictOf (recordTests narrow base (allAddresses g))) (sym is)
 
-      pub wrong-record : (r : Refusal) → verdictOf (recordTests narrow base (allAddresses axes)) ≡ Refused r → Given out (judged n count base) (NotWritten r) out
+      pub wrong-record : (r : Refusal) → verdictOf (recordTests narrow base (allAddresses axes)) ≡ Refused r → Given out (judged n count base) (Declined r) out
       wrong-record r e = given-refusal out _ all r (of-records ∙ e)
 
       pub right-records : verdictOf (recordTests narrow base (allAddresses axes)) ≡ Accepted → AcceptedAxes axes → logBytes ≤ length out
-          → (k : ℕ) (new : List ℕ) → Put out 0 (pictureLines axes base) new k → Given out (judged n count base) (Written k) new
+          → (k : ℕ) (new : List ℕ) → Put out 0 (pictureLines axes base) new k → Given out (judged n count base) (Made k) new
       right-records e a room k new p =
           let l = picture-short (axesOf n) base (subst AcceptedAxes is a) in
           given-lines out (pictureLines (axesOf n) base) all (of-records ∙ e) k new (omega arith) (subst (λ (g : Axes). Put out 0 (pictureLines g base) new k) is p)
@@ -169,18 +172,35 @@ log-fits h = subst (λ (o : List ℕ). length o ≤ logBytes) (sym (h .is)) (by 
 -- an answer with demand 2 of it: the contract's two parts
 promised : {t out new : List ℕ} {reply : LogReply} → LogAnswer t out reply new → LogPromised t reply new
 promised (tooFew l) = tt
-promised {t} {out} (logged {log = log} room h) = λ n entries x l k.
-    subst (RefusedOnly n (length entries) (baseOf entries)) (sym (take-at log (drop (length log) out) (length log) refl)) (demand2 .log t n entries x l k log h)
+promised {t} {out} (logged {log = log} room h) =
+    let first = sym (take-at log (drop (length log) out) (length log) refl) in
+    record {
+      said = subst (SaidByLog _) first (said-by-log h);
+      as-judged = λ n entries x l k. subst (AsJudged n entries _) first (record {
+        verdict-is = one-verdict h (record { reading = readAs n entries; reads = read l x k; is = refl }) ∙ verdict-by (verdictOf (programTests n (length entries) (baseOf entries))) _;
+        refused-only = demand2 .log t n entries x l k log h;
+      });
+    }
 
 pub answered : {t out new : List ℕ} {reply : LogReply} → LogAnswer t out reply new → LogAnswer t out reply new × LogPromised t reply new
 answered a = (a, promised a)
 
+-- the log of a finding, with its verdict
+by-finding : {t out new : List ℕ} {v : Reading} (f : Finding) {l : Logged} → logBytes ≤ length out → Reads t v → findingOf v ≡ f
+    → record { bytes = length (logFor f); verdict = verdictFor f } ≡ l → logFor f ++ drop (length (logFor f)) out ≡ new → LogAnswer t out (Written l) new
+by-finding {t} {out} {new} {v} f room x is a b =
+    subst (λ (l : Logged). LogAnswer t out (Written l) new) a
+    (subst (λ (w : Verdict). LogAnswer t out (Written (record { bytes = length (logFor f); verdict = w })) new) (ap verdictFor is)
+    (subst (λ (n : List ℕ). LogAnswer t out (Written (record { bytes = length (logFor f); verdict = verdictFor (findingOf v) })) n) b
+    (logged room (record { reading = v; reads = x; is = sym (ap logFor is) }))))
+
 -- lines were given
-pub lines-logged : {t out new : List ℕ} {v : Reading} {f : Finding} {reply : LogReply} {n : ℕ} → logBytes ≤ length out
-    → Reads t v → findingOf v ≡ f → Given out f reply new → reply ≡ Written n → LogAnswer t out (Written n) new
+pub lines-logged : {t out new : List ℕ} {v : Reading} {f : Finding} {reply : Found} {n : ℕ} → logBytes ≤ length out
+    → Reads t v → findingOf v ≡ f → Given out f reply new → reply ≡ Made n → LogAnswer t out (Written (record { bytes = n; verdict = Accepted })) new
 lines-logged room x is kept e = absurd (let z : _≡_ {A = ℕ} 0 1 = cc in omega arith)
-lines-logged {t} {out} room x is (lines {log = log}) e =
-    subst (λ (k : ℕ). LogAnswer t out (Written k) (log ++ drop (length log) out)) (cc) (logged room (record { reading = _; reads = x; is = sym (ap logFor is) }))
+lines-logged {n = n} room x is (lines {log = log}) e =
+    let z : length log ≡ n = cc in
+    by-finding (makes log) room x is (λ i. record { bytes = z i; verdict = Accepted }) refl
 
 -- a refusal was given, and its line is put
 pub record Kept (t out : List ℕ) (r : Refusal) (mid : List ℕ) : Type 0 where
@@ -190,30 +210,32 @@ pub record Kept (t out : List ℕ) (r : Refusal) (mid : List ℕ) : Type 0 where
   pub low : Low r
   pub same : mid ≡ out
 
-pub refusal-kept : {t out mid : List ℕ} {v : Reading} {f : Finding} {reply : LogReply} {r : Refusal} → Reads t v → findingOf v ≡ f → Given out f reply mid
-    → reply ≡ NotWritten r → Kept t out r mid
+pub refusal-kept : {t out mid : List ℕ} {v : Reading} {f : Finding} {reply : Found} {r : Refusal} → Reads t v → findingOf v ≡ f → Given out f reply mid
+    → reply ≡ Declined r → Kept t out r mid
 refusal-kept {v = v} {r = r} x is (kept {r = s}) e =
     let q : s ≡ r = cc in
     let found : findingOf v ≡ refuses r = is ∙ ap refuses q in
     record { reading = v; reads = x; finding = found; low = reads-low x found; same = refl }
 refusal-kept x is lines e = absurd (let z : _≡_ {A = ℕ} 0 1 = cc in omega arith)
 
-pub refusal-logged : {t out mid new : List ℕ} {r : Refusal} {n : ℕ} → logBytes ≤ length out → Kept t out r mid → Put mid 0 (refusedLine r) new n → LogAnswer t out (Written n) new
+pub refusal-logged : {t out mid new : List ℕ} {r : Refusal} {n : ℕ} → logBytes ≤ length out → Kept t out r mid → Put mid 0 (refusedLine r) new n
+    → LogAnswer t out (Written (record { bytes = n; verdict = Refused r })) new
 refusal-logged {t} {out} {mid} {new} {r} {n} room k p =
     let l = refused-short r (k .low .0) (k .low .1) in
     let h = put-first out (refusedLine r) new n (omega arith) (subst (λ (o : List ℕ). Put o 0 (refusedLine r) new n) (k .same) p) in
-    rw (h .0, h .1) (logged room (record { reading = k .reading; reads = k .reads; is = sym (ap logFor (k .finding)) }))
+    by-finding (refuses r) room (k .reads) (k .finding) (λ i. record { bytes = sym (h .0) i; verdict = Refused r }) (sym (h .1))
 
 -- with room for every log it is written, and lies in the buffer
 pub never-refused : {A : Type 0} {t out new : List ℕ} {reply : LogReply} {r : Refusal} → logBytes ≤ length out → LogAnswer t out reply new → reply ≡ NotWritten r → A
 never-refused room (tooFew l) e = absurd (omega arith)
 never-refused room (logged l h) e = absurd (let z : _≡_ {A = ℕ} 0 1 = cc in omega arith)
 
-within-by : {t out new : List ℕ} {reply : LogReply} {n : ℕ} → LogAnswer t out reply new → reply ≡ Written n → n ≤ length new
+within-by : {t out new : List ℕ} {reply : LogReply} {l : Logged} → LogAnswer t out reply new → reply ≡ Written l → l .bytes ≤ length new
 within-by (tooFew l) e = absurd (let z : _≡_ {A = ℕ} 0 1 = cc in omega arith)
-within-by {out = out} {n = n} (logged {log = log} room h) e =
-    let z : length log ≡ n = cc in
+within-by {out = out} {l = l} (logged {log = log} room h) e =
+    let w : record { bytes = length log; verdict = verdictFor (findingOf (h .reading)) } ≡ l = cc in
+    let z : length log ≡ l .bytes = ap (λ (k : Logged). k .bytes) w in
     omega (arith, length-append log (drop (length log) out))
 
-pub log-within : {t out new : List ℕ} {n : ℕ} → LogAnswer t out (Written n) new → n ≤ length new
+pub log-within : {t out new : List ℕ} {l : Logged} → LogAnswer t out (Written l) new → l .bytes ≤ length new
 log-within h = within-by h refl

@@ -1,16 +1,27 @@
--- Demand 2 of what the log call writes, as its contract says it: refused, it promises nothing here.
+-- Demand 2 of what the log call writes and hands back, as its contract says it: refused, it promises nothing here.
 use Prim.Native.Nat.{ℕ, _≤_}
+use mathlib.Core.Path.{_≡_}
 use mathlib.Core.List.{List}
 use lib.ListN.{length, take}
 use Rattle.definitions.specs.declared.Numbers.{Numbers}
+use Rattle.definitions.specs.declared.Verdict.{Verdict}
 use Rattle.definitions.specs.declared.LogReply.{LogReply}
 use Rattle.definitions.specs.declared.LogReply.the-variants.{Written, Refused as NotWritten}
+use Rattle.definitions.specs.Refusals.{verdictOf}
 use Rattle.definitions.specs.Text.{Entry, Text, baseOf, textRecords, textBytes}
-use Rattle.definitions.specs.Log.{RefusedOnly}
+use Rattle.definitions.specs.Log.{programTests, SaidByLog, RefusedOnly}
 
--- of a text that belongs to the grammar and keeps the limits, the log in the first k bytes is refused only for what 1 to 5 and 8 say
+-- of a text that belongs to the grammar and keeps the limits: the verdict is that of 1 to 5 and 8, and the log is refused only for what they say
+pub record AsJudged (n : Numbers) (entries : List Entry) (verdict : Verdict) (log : List ℕ) : Type 0 where
+  pub verdict-is : verdict ≡ verdictOf (programTests n (length entries) (baseOf entries))
+  pub refused-only : RefusedOnly n (length entries) (baseOf entries) log
+
+-- of every text: the verdict says what the log says
+pub record Promised (t : List ℕ) (verdict : Verdict) (log : List ℕ) : Type 0 where
+  pub said : SaidByLog verdict log
+  pub as-judged : (n : Numbers) (entries : List Entry) → Text n entries t → length t ≤ textBytes → length entries ≤ textRecords → AsJudged n entries verdict log
+
+-- the log stands in the first bytes
 abbrev pub LogPromised : List ℕ → LogReply → List ℕ → Type 0
-LogPromised t (Written k) out =
-    (n : Numbers) (entries : List Entry) → Text n entries t → length t ≤ textBytes → length entries ≤ textRecords
-    → RefusedOnly n (length entries) (baseOf entries) (take k out)
+LogPromised t (Written l) out = Promised t (l .verdict) (take (l .bytes) out)
 LogPromised t (NotWritten r) out = Unit

@@ -12,6 +12,7 @@ use common::refusals;
 use common::refusals::refused;
 use common::tests::base_right;
 use definitions::LogReply;
+use definitions::Logged;
 use definitions::RECORD_WORDS;
 use definitions::Refusal;
 use definitions::TextRead;
@@ -28,8 +29,14 @@ use sync_text::read_text;
 // The bytes that every log fits: 65,536 lines of at most 18, and a last one of at most 31.
 pub const LOG_BYTES: usize = 1179679;
 
+// What is found of a text: its picture, whose lines have so many bytes, or its refusal.
+enum Found {
+    Made(usize),
+    Refused(Refusal),
+}
+
 // The text is read: refusals 1 to 5 and 8, or the lines.
-fn read_lines(t: TextRead, base: &[i16], out: &mut [u8]) -> LogReply
+fn read_lines(t: TextRead, base: &[i16], out: &mut [u8]) -> Found
     requires { ⌜ (length (now base) ≡ recordWords * t .lines) × (logBytes ≤ length (now out)) ⌝ }
     ensures { λ r. ⌜ Given (now (out .entry)) (judged (t .numbers) (t .lines) (now (base .entry))) r (now (out .exit)) ⌝ }
 {
@@ -38,20 +45,20 @@ fn read_lines(t: TextRead, base: &[i16], out: &mut [u8]) -> LogReply
         Checked::Geometry(g) => {
             let axes = g.axes();
             if !base_right(axes, base.len()) {
-                return LogReply::Refused(refused(refusals::BASE_LENGTH));
+                return Found::Refused(refused(refusals::BASE_LENGTH));
             }
             let records = base_count(axes);
             match check(base, 0, records) {
-                Verdict::Accepted => LogReply::Written(picture_lines(axes, base, out)),
-                Verdict::Refused(r) => LogReply::Refused(r),
+                Verdict::Accepted => Found::Made(picture_lines(axes, base, out)),
+                Verdict::Refused(r) => Found::Refused(r),
             }
         }
-        Checked::Refused(r) => LogReply::Refused(r),
+        Checked::Refused(r) => Found::Refused(r),
     }
 }
 
 // The lines of a text's picture, or its refusal, and then no byte is written.
-fn text_lines(text: &[u8], out: &mut [u8]) -> LogReply
+fn text_lines(text: &[u8], out: &mut [u8]) -> Found
     requires { ⌜ logBytes ≤ length (now out) ⌝ }
     ensures { λ r. ⌜ LinesGiven (now (text .entry)) (now (out .entry)) r (now (out .exit)) ⌝ }
 {
@@ -61,7 +68,7 @@ fn text_lines(text: &[u8], out: &mut [u8]) -> LogReply
             let end = RECORD_WORDS * t.lines as usize;
             read_lines(t, &words[..end], out)
         }
-        TextReply::Refused(r) => LogReply::Refused(r),
+        TextReply::Refused(r) => Found::Refused(r),
     }
 }
 
@@ -74,7 +81,8 @@ fn refused_line(out: &mut [u8], r: Refusal) -> usize
     put_line(out, 0, b"refused", &numbers)
 }
 
-// The log call: the bytes of a text, and bytes to write its log into. It gives the length of the log; refused for too few bytes, it writes none.
+// The log call: the bytes of a text, and bytes to write its log into. It gives the length of the log, and the refusal that the log says, with its rule, or none;
+// refused for too few bytes, it writes none.
 pub fn log(text: &[u8], out: &mut [u8]) -> LogReply
     ensures answer { λ r. ⌜ LogAnswer (now (text .entry)) (now (out .entry)) r (now (out .exit)) ⌝ }
     ensures demand2 { λ r. ⌜ LogPromised (now (text .entry)) r (now (out .exit)) ⌝ }
@@ -83,7 +91,13 @@ pub fn log(text: &[u8], out: &mut [u8]) -> LogReply
         return LogReply::Refused(refused(refusals::OUTPUT_LENGTH));
     }
     match text_lines(text, out) {
-        LogReply::Written(n) => LogReply::Written(n),
-        LogReply::Refused(r) => LogReply::Written(refused_line(out, r)),
+        Found::Made(n) => LogReply::Written(Logged {
+            bytes: n,
+            verdict: Verdict::Accepted,
+        }),
+        Found::Refused(r) => LogReply::Written(Logged {
+            bytes: refused_line(out, r),
+            verdict: Verdict::Refused(r),
+        }),
     }
 }

@@ -54,7 +54,7 @@ pub hands-back : (v : Session) (c : Call) (w : Session) → w ≡ handedBack v c
 hands-back v c w e = record { value = e; state = ap stateOf e ∙ handed-state v c }
 
 -- ---- lists of calls
-handed-value : (s : State) (c : Call) → sound s ≡ true → handedBack (valueOf s) c ≡ valueOf (stateNext s c)
+pub handed-value : (s : State) (c : Call) → sound s ≡ true → handedBack (valueOf s) c ≡ valueOf (stateNext s c)
 unfolding handedBy stateNext
 handed-value s c h =
     ap (λ (t : State). pick (changes (exchange t c)) (valueOf (stateBy t (exchange t c))) (valueOf s)) (state-of-value s h)

@@ -1,2 +1,3 @@
--- Laws for the proofs of the functions.
+-- The laws of the definitions, and laws for the proofs of the functions.
+pub mod Laws
 mod Demands

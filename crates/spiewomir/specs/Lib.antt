@@ -3,3 +3,4 @@ pub mod Demands
 pub mod Sessions
 pub mod Texts
 pub mod Version
+pub mod Laws

@@ -3,6 +3,8 @@ use Prim.Native.Nat.{ℕ}
 use mathlib.Core.Path.{_≡_}
 use mathlib.Core.List.{List}
 use lib.IntN.{ℤ, pos}
+use Rattle.definitions.specs.declared.Verdict.{Verdict}
+use Rattle.definitions.specs.declared.Verdict.the-variants.{Accepted, Refused as RefusedBy}
 use Rattle.definitions.specs.declared.TextReply.{TextReply}
 use Rattle.definitions.specs.declared.TextReply.the-variants.{Read, Refused}
 use Rattle.definitions.specs.declared.LogReply.{LogReply}
@@ -23,9 +25,15 @@ abbrev pub textResult : TextReply → TextResult
 textResult (Read t) = record { refusal = 0; place = 0; rule = 0; geometry = numbersToC (t .numbers); lines = t .lines }
 textResult (Refused r) = record { refusal = r .number; place = r .place; rule = r .rule; geometry = noGeometry; lines = 0 }
 
+-- a written log of so many bytes, with the text's refusal that it says (its number is text), or zeros
+abbrev pub writtenResult : ℕ → Verdict → LogResult
+writtenResult n Accepted = record { refusal = 0; text = 0; place = 0; rule = 0; bytes = n }
+writtenResult n (RefusedBy r) = record { refusal = 0; text = r .number; place = r .place; rule = r .rule; bytes = n }
+
+-- refusal is the call's own
 abbrev pub logResult : LogReply → LogResult
-logResult (Written n) = record { refusal = 0; bytes = n }
-logResult (NotWritten r) = record { refusal = r .number; bytes = 0 }
+logResult (Written l) = writtenResult (l .bytes) (l .verdict)
+logResult (NotWritten r) = record { refusal = r .number; text = 0; place = 0; rule = 0; bytes = 0 }
 
 pub record TextGiven (t : List ℕ) (words : List ℤ) (result : TextResult) (new : List ℤ) : Type 0 where
   pub reply : TextReply

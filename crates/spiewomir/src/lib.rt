@@ -6,7 +6,7 @@ ghost use Rattle.definitions.specs.Session.{nextCall};
 ghost use Rattle.spiewomir.specs.Demands.{MacroblockGiven, PictureGiven};
 ghost use Rattle.spiewomir.specs.Results.{answerResult, answerSubTypes, classNumber, macroblockResult, numbersFromC, pictureResult};
 ghost use Rattle.spiewomir.specs.Sessions.{abandonGives, advancedResult, beginGives, flag, judgedResult, nextGives, numbersToC, sessionFromC, sessionToC, totalsGives};
-ghost use Rattle.spiewomir.specs.Texts.{LogGiven, TextGiven};
+ghost use Rattle.spiewomir.specs.Texts.{LogGiven, TextGiven, writtenResult};
 ghost use Rattle.spiewomir.specs.Version.{version};
 ghost use Rattle.session.specs.Values.{freshSession, stateOf};
 ghost use mathlib.Core.Path.{_≡_};
@@ -15,6 +15,7 @@ use definitions::AxisNumbers;
 use definitions::Class;
 use definitions::Counts;
 use definitions::LogReply;
+use definitions::Logged;
 use definitions::MacroblockReply;
 use definitions::Numbers;
 use definitions::Origin;
@@ -111,10 +112,14 @@ pub struct TextResult {
     pub lines: u32,
 }
 
-// Refusal 6, or 0 and the log's count of bytes.
+// The call's own refusal, 6 or 0; and, with 0, the log's count of bytes and the text's refusal that it says, with its place and rule, or 0, 0, 0.
+// (The header's `text_refusal` is `text` here.)
 #[repr(C)]
 pub struct LogResult {
     pub refusal: u32,
+    pub text: u32,
+    pub place: u32,
+    pub rule: u32,
     pub bytes: usize,
 }
 
@@ -457,17 +462,41 @@ pub extern "C" fn spiewomir_text(text: &[u8], words: &mut [i16]) -> TextResult
     }
 }
 
+// A written log, with the text's refusal.
+fn written_result(l: Logged) -> LogResult
+    ensures { λ r. ⌜ r ≡ writtenResult (l .bytes) (l .verdict) ⌝ }
+{
+    let bytes = l.bytes;
+    let verdict = l.verdict;
+    match verdict {
+        Verdict::Accepted => LogResult {
+            refusal: 0,
+            text: 0,
+            place: 0,
+            rule: 0,
+            bytes,
+        },
+        Verdict::Refused(r) => LogResult {
+            refusal: 0,
+            text: r.number,
+            place: r.place,
+            rule: r.rule,
+            bytes,
+        },
+    }
+}
+
 #[no_mangle]
 pub extern "C" fn spiewomir_log(text: &[u8], out: &mut [u8]) -> LogResult
     ensures { λ r. ⌜ LogGiven (now (text .entry)) (now (out .entry)) r (now (out .exit)) ⌝ }
 {
     match log::log(text, out) {
-        LogReply::Written(n) => LogResult {
-            refusal: 0,
-            bytes: n,
-        },
+        LogReply::Written(l) => written_result(l),
         LogReply::Refused(r) => LogResult {
             refusal: r.number,
+            text: 0,
+            place: 0,
+            rule: 0,
             bytes: 0,
         },
     }

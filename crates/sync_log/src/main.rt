@@ -5,6 +5,8 @@ ghost use Rattle.sync_log.specs.Input.{InputRead};
 ghost use lib.ListN.{length, replicate};
 ghost use mathlib.Core.Path.{_≡_};
 use definitions::LogReply;
+use definitions::Logged;
+use definitions::Verdict;
 use log::LOG_BYTES;
 
 // One byte more than the longest text, which tells a longer one: of a longer input these bytes have the log of all (`first-bytes` of crate grammar).
@@ -43,14 +45,17 @@ fn log_room() -> [u8; LOG_BYTES]
 }
 
 // The log of a text, at the start of a buffer that every log fits.
-fn log_of(text: &[u8], out: &mut [u8]) -> usize
+fn log_of(text: &[u8], out: &mut [u8]) -> Logged
     requires { ⌜ logBytes ≤ length (now out) ⌝ }
     ensures { λ r. ⌜ LogAnswer (now (text .entry)) (now (out .entry)) (LogReply.Written r) (now (out .exit)) ⌝ }
 {
     match log::log(text, out) {
-        LogReply::Written(n) => n,
+        LogReply::Written(l) => l,
         // Never: there is room.
-        LogReply::Refused(_) => 0,
+        LogReply::Refused(_) => Logged {
+            bytes: 0,
+            verdict: Verdict::Accepted,
+        },
     }
 }
 
@@ -60,7 +65,8 @@ fn main() {
     let mut out = log_room();
     match read_input(&mut text) {
         Input::Text(n) => {
-            let end = log_of(&text[..n], &mut out);
+            let logged = log_of(&text[..n], &mut out);
+            let end = logged.bytes;
             if !io::write_all(libc::STDOUT_FILENO, &out[..end]) {
                 io::write_all(
                     libc::STDERR_FILENO,

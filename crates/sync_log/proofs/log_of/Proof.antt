@@ -7,8 +7,8 @@ use Rattle.sync_log.proofs.log_of.Tie as tie
 log-requires : tie.Need-log-requires
 log-requires c κs = search needs
 
-enum-known-n : tie.Need-enum-known-n
-enum-known-n c = search needs
+enum-known-l : tie.Need-enum-known-l
+enum-known-l c = search needs
 
 enum-told : tie.Need-enum-told
 enum-told c = search needs
@@ -17,7 +17,7 @@ same-length : tie.Need-same-length
 same-length c = search needs
 
 returns : tie.Need-returns
-returns c = rw (c .before .n .given .1) at (c .before .before .before .before .before .log .ensures .0)
+returns c = rw (c .before .l .given .1) at (c .before .before .before .before .before .log .ensures .0)
 
 same-length-2 : tie.Need-same-length-2
 same-length-2 c = search needs
@@ -28,4 +28,4 @@ returns-2 c = never-refused (c .before .before .before .before .before .before .
 pub log-of-spec : {M : Type 1} → statement M
 log-of-spec =
     tie.close
-    (tie.spec log-requires enum-known-n enum-told same-length returns same-length-2 returns-2)
+    (tie.spec log-requires enum-known-l enum-told same-length returns same-length-2 returns-2)
