@@ -110,7 +110,10 @@ impl TextCoverage {
             let at = match number {
                 1..=5 => number as usize,
                 8 => {
-                    self.rules[rule as usize - 1] += 1;
+                    // No other rule comes, or the comparison has said so.
+                    if (1..=6).contains(&rule) {
+                        self.rules[rule as usize - 1] += 1;
+                    }
                     7
                 }
                 _ => 8 + by_text(number, place, text),

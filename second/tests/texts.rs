@@ -3,7 +3,7 @@
 mod common;
 
 use common::*;
-use second::{log, text, Numbers, Refusal, TEXT_RECORDS, TEXT_WORDS, WORDS};
+use second::{log, log_with_refusal, text, Numbers, Refusal, TEXT_RECORDS, TEXT_WORDS, WORDS};
 
 const HEAD: &str = "(base 16 16)\n(scaled 32 32)\n(at 0 0)\n(full 48 32)\n";
 const WHOLE: &str = "(whole (0 -1) (4 -8 0 0))\n";
@@ -101,6 +101,18 @@ fn log_refusals_in_order() {
     assert_eq!(logged(&odd.replace("32 32", "32 34")), "(refused 3 0)\n");
     assert_eq!(logged(&odd.replace("48 32", "48 33")), "(refused 2 0)\n");
     assert_eq!(logged(&odd.replace("16 16", "16 -16")), "(refused 1 0)\n");
+}
+
+/// The refusal that a log says comes with its rule.
+#[test]
+fn log_and_refusal() {
+    let with = |text: &str| log_with_refusal(text.as_bytes()).1;
+    assert_eq!(with(&format!("{HEAD}{WHOLE}")), None);
+    assert_eq!(with("(base"), Some(refusal(9, 5)));
+    assert_eq!(with(HEAD), Some(refusal(5, 0)));
+    let two = HEAD.replace("base 16", "base 32");
+    let bad = "(whole (0 -1) (4 -8 0 1))\n";
+    assert_eq!(with(&format!("{two}{WHOLE}{bad}")), Some(Refusal { number: 8, place: 1, rule: 5 }));
 }
 
 /// The largest log.

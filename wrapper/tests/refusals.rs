@@ -95,8 +95,20 @@ fn of_logs() {
     assert_eq!(made.refusal, None);
     for (text, line, number, place, rule) in [
         (String::new(), "(refused 9 0)\n", refused::GRAMMAR, 0, 0),
-        (head.replace("16 32", "16 33"), "(refused 1 0)\n", refused::BASE_SIZE, 0, 0),
-        (head.to_string(), "(refused 5 0)\n", refused::BASE_LENGTH, 0, 0),
+        (
+            head.replace("16 32", "16 33"),
+            "(refused 1 0)\n",
+            refused::BASE_SIZE,
+            0,
+            0,
+        ),
+        (
+            head.to_string(),
+            "(refused 5 0)\n",
+            refused::BASE_LENGTH,
+            0,
+            0,
+        ),
         (
             format!("{head}(intra)\n(whole (0 32) (0 0 0 0))\n"),
             "(refused 8 1)\n",
@@ -107,7 +119,14 @@ fn of_logs() {
     ] {
         let refused = log(text.as_bytes());
         assert_eq!(refused.bytes, line.as_bytes());
-        assert_eq!(refused.refusal, Some(Refusal { number, place, rule }));
+        assert_eq!(
+            refused.refusal,
+            Some(Refusal {
+                number,
+                place,
+                rule
+            })
+        );
     }
     let short = numbers::log(head.as_bytes(), &mut [0; 31]);
     assert_eq!(

@@ -1,4 +1,4 @@
--- The laws of the C interface's definitions (specs/Laws): numbers there and back, classes, refusal 0, and the session over every list of calls. Assumes nothing.
+-- The laws of the C definitions (specs/Laws): numbers there and back, classes, refusal 0, and the session over every list of calls. Assumes nothing.
 use Prim.Native.Nat.{ℕ, zero, suc, _≤_}
 use mathlib.Core.Path.{_≡_, refl, sym, ap, subst, _∙_}
 use mathlib.Core.Logic.{_↔_}
@@ -43,14 +43,14 @@ use Rattle.definitions.proofs.Rising.{declined}
 use Rattle.definitions.proofs.Findings.{refused-by, number-of, verdict-by}
 use Rattle.definitions.proofs.Sessions.{sound-next, only-sound, totals-right}
 use Rattle.session.specs.declared.Session.{Session}
-use Rattle.session.specs.Values.{freshSession, valueOf, stateOf, handedBack}
+use Rattle.session.specs.Values.{valueOf, stateOf, handedBack}
 use Rattle.session.proofs.Values.{state-of-value, handed-value}
 use Rattle.spiewomir.specs.declared.SessionNumbers.{SessionNumbers}
 use Rattle.spiewomir.specs.declared.AdvancedResult.{AdvancedResult}
 use Rattle.spiewomir.specs.Results.{numbersFromC, classNumber, macroblockResult, pictureResult}
 use Rattle.spiewomir.specs.Sessions.{flag, sessionFromC, sessionToC, judgedResult, sessionAfter, advancedResult, totalsResult}
 use Rattle.spiewomir.specs.Texts.{textResult, logResult, writtenResult}
-use Rattle.spiewomir.specs.Laws.{ThereAndBack, ClassesDiffer, ZeroWhenAnswered, Gives, judged, advanced, told, callInC, handedOn, throughC, sessionAfterC, stateToC, exchangeInC, SessionInC}
+use Rattle.spiewomir.specs.Laws.{ThereAndBack, ClassesDiffer, ZeroWhenAnswered, judged, advanced, told, callInC, handedOn, throughC, sessionAfterC, stateToC, exchangeInC, SessionInC}
 
 -- ---- There and back
 flag-back : (b : Bool) → eqb (flag b) 1 ≡ b
