@@ -11,7 +11,7 @@
 //! names another folder, by an absolute path.
 //!
 //! ```
-//! use spiewomir::{macroblock, picture, refused, TEXT_WORDS, WORDS};
+//! use spiewomir::{macroblock, picture, picture_words, refused, TEXT_WORDS, WORDS};
 //!
 //! fn main() -> Result<(), Box<dyn std::error::Error>> {
 //!     let text = b"(base 16 16)\n(scaled 32 32)\n(at 0 0)\n(full 48 32)\n(whole (0 -1) (4 -8 0 0))\n";
@@ -19,7 +19,7 @@
 //!     let (geometry, lines) = spiewomir::text(text, &mut base)?;
 //!     base.truncate(lines as usize * WORDS);
 //!
-//!     let mut out = vec![0; 3 * 2 * WORDS];
+//!     let mut out = vec![0; picture_words(geometry.full_width, geometry.full_height)];
 //!     let counts = picture(geometry, &base, &mut out)?;
 //!     assert_eq!((counts.inherited, counts.intra, counts.outside), (4, 0, 2));
 //!     assert_eq!(out[13..15], [8, -16]);
@@ -55,6 +55,13 @@ pub const VERSION: u32 = 10_000;
 /// [`refused::RECORD`] has the rules for a base's. A written vector word can be up to
 /// twice as long, -16384 to 16382.
 pub const WORDS: usize = 77;
+
+/// The words of the records of a picture, [`WORDS`] for each macroblock; 0 for a
+/// side outside 1..=4096, which the calls refuse.
+pub fn picture_words(width: i32, height: i32) -> usize {
+    let macroblocks = |side: i32| if (1..=4096).contains(&side) { side as usize / 16 } else { 0 };
+    macroblocks(width) * macroblocks(height) * WORDS
+}
 
 /// Longest sync text, in bytes.
 pub const TEXT_BYTES: usize = 65_536;

@@ -1,17 +1,20 @@
 -- The examples of texts of specs/Unstarred: written out by the grammar's own rules. Assumes nothing.
 use Prim.Native.Nat.{ℕ, zero, suc, _*_, _-_, _≤_}
 use mathlib.Core.Path.{_≡_, refl}
+use mathlib.Core.Logic.{inl}
 use mathlib.Core.List.{List, [], _∷_}
 use native.Mathlib.Omega.{arith}
 use lib.IntN.{ℤ, pos}
 use lib.ListN.{length}
+use Rattle.definitions.specs.declared.LogReply.{LogReply}
+use Rattle.definitions.specs.declared.LogReply.the-variants.{Refused as NotWritten}
 use Rattle.definitions.specs.declared.TextReply.{TextReply}
 use Rattle.definitions.specs.declared.TextReply.the-variants.{Refused as NotRead}
 use Rattle.definitions.specs.Basics.{pick, minus, allBelow, upTo}
 use Rattle.definitions.specs.Record.{recordWords, laidOut, recordAt, rule1, rule2, rule3, rule4, rule5, rule6, firstBroken}
 use Rattle.definitions.specs.Refusals.{refusal, geometryTests, recordTests}
-use Rattle.definitions.specs.Text.{Digit, none, each, valued, zeroAlone, digits, Number, unsigned, negative, close, note, Part, Form, nothing, isByte, isSpaced, isEnded, numbersThen, mbLine, LineOf, Notes, noHead, head, noRecord, aRecord, Text, textRecords, Reading, notRead, readAs, Reads, tooLong, broken, tooMany, read, TextAnswer, wrongWords, refused, given}
-use Rattle.definitions.specs.Log.{digitsIn, decimal, lineOf, refusedLine, programTests}
+use Rattle.definitions.specs.Text.{Digit, none, each, valued, zeroAlone, digits, word, Number, unsigned, negative, close, item, isWord, Note, note, Part, Form, nothing, isByte, isSpaced, isEnded, numbersThen, mbLine, LineOf, Notes, noHead, head, noRecord, aRecord, Text, textRecords, Reading, notRead, readAs, Reads, tooLong, broken, tooMany, read, TextAnswer, wrongWords, refused, given}
+use Rattle.definitions.specs.Log.{digitsIn, decimal, lineOf, refusedLine, programTests, LogAnswer, tooFew, logged}
 use Rattle.definitions.specs.Unstarred.{zerosThen, mbLineText, mbText, mbNumbers, mbEntries, TextsHold}
 
 -- 0, numbers of two digits, 4 and −2
@@ -71,6 +74,13 @@ wrong n (wrongWords m) = refl
 wrong n (refused e x) = absurd (n e)
 wrong n (given e x) = absurd (n e)
 
+few : {t out new : List ℕ} {reply : LogReply} → length out ≡ 1179678 → LogAnswer t out reply new → (reply ≡ NotWritten (refusal 6)) × (new ≡ out)
+few l (tooFew h) = (refl, refl)
+few l (logged h found) = absurd (omega arith)
+
+letters : Note (40 ∷ 110 ∷ 111 ∷ 116 ∷ 101 ∷ 32 ∷ 97 ∷ 122 ∷ 41 ∷ 10 ∷ [])
+letters = note (item (inl (isWord (word {c = 97} (omega arith, omega arith) (each {c = 122} (omega arith, omega arith) none)))) close)
+
 pub texts-hold : TextsHold
 unfolding pick allBelow upTo laidOut recordAt rule1 rule2 rule3 rule4 rule5 rule6 firstBroken geometryTests recordTests digitsIn decimal lineOf refusedLine programTests
 texts-hold = record {
@@ -85,4 +95,8 @@ texts-hold = record {
   right-words = λ t words r l x. refused (omega arith) x;
   few-words = λ t words new reply l x. wrong (λ e. omega arith) x;
   many-words = λ t words new reply l x. wrong (λ e. omega arith) x;
+  words-first = λ t n entries words l x. given (omega arith) x;
+  right-bytes = λ t log out found l. logged (omega arith) found;
+  few-bytes = λ t out new reply l x. few l x;
+  letters = letters;
 }

@@ -98,8 +98,8 @@ pub record Case (limit : ℕ) (n : Numbers) (column row : ℕ) (base : List ℤ)
   pub column-within : column < macroblocks (fullSize (axesOf n .horizontal))
   pub row-within : row < macroblocks (fullSize (axesOf n .vertical))
 
--- What each call is lent in such a case: words of the right lengths besides. Singly, only those records have to be well formed that the macroblock names
--- (addressesRead: those that its class reads; outside none).
+-- What each call is lent in such a case: words of the right lengths besides. Singly, only those records have to be well formed that its answer will name
+-- (addressesRead, those that its class reads; outside none. That they are the same: proofs/Demand, read-named).
 pub record SinglyCase (limit : ℕ) (n : Numbers) (column row : ℤ) (base words : List ℤ) : Type 0 where
   pub geometry : geometryVerdict n ≡ Accepted
   pub base-length : length base ≡ recordWords * baseCount (axesOf n)

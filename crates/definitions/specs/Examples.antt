@@ -183,7 +183,10 @@ brokenTexts =
     ∷ brokenRow (inNote (51 ∷ 50 ∷ 55 ∷ 54 ∷ 55 ∷ [])) 11  -- (note 32767, which goes on
     ∷ brokenRow (inNote (51 ∷ 50 ∷ 55 ∷ 54 ∷ 56 ∷ [])) 10  -- (note 32768
     ∷ brokenRow (inNote (45 ∷ 51 ∷ 50 ∷ 55 ∷ 54 ∷ 56 ∷ [])) 12  -- (note -32768, which goes on
+    ∷ brokenRow (inNote (45 ∷ 51 ∷ 50 ∷ 55 ∷ 54 ∷ 57 ∷ [])) 11  -- (note -32769
     ∷ brokenRow (inNote (57 ∷ 57 ∷ 57 ∷ 57 ∷ 57 ∷ [])) 10  -- (note 99999
+    ∷ brokenRow (inNote (97 ∷ 96 ∷ [])) 7  -- (note a and the byte before a
+    ∷ brokenRow (inNote (122 ∷ 123 ∷ [])) 7  -- (note z and the byte after z
     ∷ brokenRow (inNote (40 ∷ 41 ∷ 41 ∷ [])) 7  -- (note ())
     ∷ brokenRow (inNote (40 ∷ 40 ∷ 40 ∷ 40 ∷ 40 ∷ 40 ∷ 40 ∷ 97 ∷ [])) 14  -- (note (((((((a, which goes on
     ∷ brokenRow (inNote (40 ∷ 40 ∷ 40 ∷ 40 ∷ 40 ∷ 40 ∷ 40 ∷ 40 ∷ [])) 13  -- (note ((((((((

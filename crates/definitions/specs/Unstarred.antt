@@ -1,11 +1,12 @@
--- Examples that document 01 does not star, in one table beside the starred one (Examples): each definition is held by one, so that a definition and its code changed
--- alike are refused. Records are given by their words, and what is expected by numbers that were worked out apart from these definitions.
-use Prim.Native.Nat.{ℕ, zero, suc, _+_}
+-- Examples that document 01 does not star, in one table beside the starred one (Examples): with it and the laws they hold the definitions, so that one changed alike
+-- with its code is refused. Records are given by their words, and what is expected by numbers that were worked out apart from these definitions.
+use Prim.Native.Nat.{ℕ, zero, suc, _+_, _*_}
 use mathlib.Core.Path.{_≡_, refl}
+use mathlib.Core.Bool.{Bool, true, false}
 use mathlib.Core.List.{List, [], _∷_, _++_, map}
 use lib.Count.{ones, onesIn}
 use lib.IntN.{ℤ, pos}
-use lib.ListN.{length, replicate}
+use lib.ListN.{length, replicate, drop}
 use Rattle.definitions.specs.declared.AxisNumbers.{AxisNumbers}
 use Rattle.definitions.specs.declared.Numbers.{Numbers}
 use Rattle.definitions.specs.declared.Class.{Class}
@@ -19,25 +20,36 @@ use Rattle.definitions.specs.declared.Verdict.{Verdict}
 use Rattle.definitions.specs.declared.Verdict.the-variants.{Accepted, Refused}
 use Rattle.definitions.specs.declared.Refusal.{Refusal}
 use Rattle.definitions.specs.declared.TextReply.{TextReply}
-use Rattle.definitions.specs.declared.TextReply.the-variants.{Refused as NotRead}
+use Rattle.definitions.specs.declared.TextReply.the-variants.{Read, Refused as NotRead}
+use Rattle.definitions.specs.declared.AxisStep.{AxisStep}
+use Rattle.definitions.specs.declared.PictureReply.{PictureReply}
+use Rattle.definitions.specs.declared.PictureReply.the-variants.{Refused as NotMade}
+use Rattle.definitions.specs.declared.LogReply.{LogReply}
+use Rattle.definitions.specs.declared.LogReply.the-variants.{Written, Refused as NotWritten}
 use Rattle.definitions.specs.declared.MacroblockReply.{MacroblockReply}
 use Rattle.definitions.specs.declared.MacroblockReply.the-variants.{Answered, Refused as Declined}
 use Rattle.definitions.specs.Basics.{pick, minus, allBelow, allOf, upTo}
-use Rattle.definitions.specs.Geometry.{insideAxis, mOf, nOf, fOf, twoOf, columnsRead}
+use Rattle.definitions.specs.Geometry.{axisOf, insideAxis, mOf, nOf, fOf, twoOf, columnsRead}
 use Rattle.definitions.specs.BlockMap.{digitsOf, coordinateOf, stepOf, addressRead, blockRead}
 use Rattle.definitions.specs.Splits.{sameMotion, samePrediction, alike, oneEach, fewestIn}
 use Rattle.definitions.specs.Record.{recordAt, motionOf, splitSaid, rule1, rule2, rule3, rule4, rule5, rule6, firstBroken, narrow, laidOut}
 use Rattle.definitions.specs.Inheriting.{setOf, intraSet, gathered, source, clearOf, filled, lower, lowest, having, mergedList, merged, someOf, liveOf, copiedFrom, copied, resolved, scaledPrediction, scaledMotion, inheritedMotions}
 use Rattle.definitions.specs.Answer.{originAt, answerOf, addressesOf, writtenFor, madeOf}
 use Rattle.definitions.specs.Refusals.{refusal, geometryTests, geometryVerdict, recordTests, addressesRead}
-use Rattle.definitions.specs.Calls.{Outcome, macroblockTests, macroblockCall, madeAt, countsOf}
+use Rattle.definitions.specs.Calls.{Outcome, macroblockTests, macroblockCall, pictureTests, pictureCall, madeAt, countsOf}
 use Rattle.definitions.specs.Text.{RecordKind, Entry, intra, whole, mb, wholeLine, LineOf, Note, Text, BreaksAt, baseOf, Reading, notRead, readAs, Reads, TextAnswer}
-use Rattle.definitions.specs.Log.{digitsIn, decimal, lineOf, macroblockLine, syncLine, pictureLines, refusedLine, programTests, judged, logFor, LogOf}
+use Rattle.definitions.specs.Log.{digitsIn, decimal, lineOf, macroblockLine, syncLine, pictureLines, refusedLine, programTests, judged, logFor, findingOf, verdictFor, LogOf, LogAnswer}
 
 -- ---- What is expected
 pub data Instance : Type 0 where
   -- the one-macroblock call on a geometry and a base, at a column and row, with so many words lent: what it hands over
   call : Numbers → List ℤ → ℤ → ℤ → ℕ → Outcome MacroblockReply → Instance
+  -- the picture call, with so many words lent: its refusal
+  picture : Numbers → List ℤ → ℕ → Refusal → Instance
+  -- an axis, and a macroblock's first sample: what the axis gives
+  step : AxisNumbers → ℕ → AxisStep → Instance
+  -- which of a quadrant's four blocks serve: the one that each takes from
+  takes : List Bool → List ℕ → Instance
   -- a geometry: the number by which it is refused, or 0
   geometry : Numbers → ℕ → Instance
   -- a record: its first broken rule, or 0
@@ -54,6 +66,9 @@ verdictBy (suc n) = Refused (refusal (suc n))
 -- what the definitions give, and what is expected
 pub data Result : Type 0 where
   outcome : Outcome MacroblockReply → Result
+  replied : PictureReply → Result
+  axisIs : AxisStep → Result
+  from : List ℕ → Result
   verdict : Verdict → Result
   broken : ℕ → Result
   wordsAre : List ℤ → Result
@@ -61,6 +76,9 @@ pub data Result : Type 0 where
 
 abbrev pub given : Instance → Result
 given (call n base column row lentCount o) = outcome (macroblockCall narrow n base column row (replicate lentCount (pos 0)))
+given (picture n base lentCount r) = replied (pictureCall narrow n base (replicate lentCount (pos 0)) .reply)
+given (step n p s) = axisIs (stepOf (axisOf n) p)
+given (takes good l) = from (upTo 4 (source good))
 given (geometry n k) = verdict (geometryVerdict n)
 given (rule r k) = broken (firstBroken narrow r)
 given (lines entries w) = wordsAre (baseOf entries)
@@ -68,6 +86,9 @@ given (log n entries l) = bytes (logFor (judged n (length entries) (baseOf entri
 
 abbrev pub expected : Instance → Result
 expected (call n base column row lentCount o) = outcome o
+expected (picture n base lentCount r) = replied (NotMade r)
+expected (step n p s) = axisIs s
+expected (takes good l) = from l
 expected (geometry n k) = verdict (verdictBy k)
 expected (rule r k) = broken k
 expected (lines entries w) = wordsAre w
@@ -321,6 +342,9 @@ unstarred =
     ∷ rule (ofType (minus 1)) 1
     ∷ rule (ofSub (pos 4) (listOf4 (pos 0) (pos 1) (pos 2) (pos 3))) 0
     ∷ rule (ofSub (pos 4) (listOf4 (pos 4) (pos 0) (pos 0) (pos 0))) 2
+    ∷ rule (ofSub (pos 0) (listOf4 (pos 0) (pos 0) (pos 0) (pos 1))) 2
+    ∷ rule (ofSub (pos 2) (listOf4 (pos 0) (pos 0) (pos 1) (pos 0))) 2
+    ∷ rule (ofSub (pos 3) (listOf4 (pos 0) (pos 1) (pos 0) (pos 0))) 2
     ∷ rule (ofSub (pos 4) (listOf4 (pos 0) (pos 0) (pos 0) (minus 1))) 2
     ∷ rule (ofSub (pos 3) (listOf4 (pos 0) (pos 0) (pos 0) (pos 1))) 2
     -- references,
@@ -360,11 +384,27 @@ unstarred =
     ∷ call clip (ofVector (pos 3) (minus 8) ++ ofVector (pos 7) (minus 8)) (pos 2) (pos 0) 77
     (record { reply = Answered (Inherited (record { class = Corner; column = 1; row = 0 }) S16x16); words = ofVector (pos 11) (minus 8) })
     ∷ log clip (clipRecord (pos 3) ∷ clipRecord (pos 7) ∷ []) clipLog
+    -- What the axis across gives for its second macroblock: k, M, N, F, two columns, and the coordinates.
+    ∷ step (axisWith (pos 32) (pos 48) (pos 4) (pos 64)) 16
+    (record { k = 1; border = record { 0 = pos 4 }; border8 = record { 0 = minus 8 }; first = 0; two = true; reads = 2 ∷ 2 ∷ 3 ∷ 4 ∷ [] })
+    -- A block takes from itself, else from its horizontal, its vertical, its diagonal neighbour.
+    ∷ takes (true ∷ true ∷ true ∷ true ∷ []) (0 ∷ 1 ∷ 2 ∷ 3 ∷ [])
+    ∷ takes (false ∷ true ∷ true ∷ false ∷ []) (1 ∷ 1 ∷ 2 ∷ 2 ∷ [])
+    ∷ takes (false ∷ false ∷ true ∷ true ∷ []) (2 ∷ 3 ∷ 2 ∷ 3 ∷ [])
+    ∷ takes (false ∷ false ∷ false ∷ true ∷ []) (3 ∷ 3 ∷ 3 ∷ 3 ∷ [])
+    -- The picture call, where two refusals apply: the first of them. And 8 alone.
+    ∷ picture (withAcross (pos 17) (pos 18) (pos 0) (pos 16)) [] 0 (refusal 1)
+    ∷ picture (by plain plain) [] 0 (refusal 5)
+    ∷ picture (by plain plain) (ofType (pos 5)) 76 (refusal 6)
+    ∷ picture (by plain plain) (ofType (pos 5)) 77 (record { number = 8; place = 0; rule = 1 })
+    -- The log of an intra macroblock: (mb 0 0 0 0), (sync 1 0 1 0).
+    ∷ log (by plain plain) (entry intra [] ∷ [])
+    ((40 ∷ 109 ∷ 98 ∷ 32 ∷ 48 ∷ 32 ∷ 48 ∷ 32 ∷ 48 ∷ 32 ∷ 48 ∷ 41 ∷ 10 ∷ []) ++ (40 ∷ 115 ∷ 121 ∷ 110 ∷ 99 ∷ 32 ∷ 49 ∷ 32 ∷ 48 ∷ 32 ∷ 49 ∷ 32 ∷ 48 ∷ 41 ∷ 10 ∷ []))
     ∷ []
 
 -- They hold.
 pub unstarred-hold : map given unstarred ≡ map expected unstarred
-unfolding allOf allBelow pick upTo insideAxis mOf nOf fOf twoOf columnsRead digitsOf coordinateOf stepOf addressRead blockRead sameMotion samePrediction alike oneEach fewestIn recordAt motionOf splitSaid rule1 rule2 rule3 rule4 rule5 rule6 firstBroken laidOut setOf intraSet gathered source clearOf filled lower lowest having mergedList merged someOf liveOf copiedFrom copied resolved scaledPrediction scaledMotion inheritedMotions originAt answerOf addressesOf writtenFor madeOf geometryTests recordTests addressesRead macroblockTests macroblockCall ones onesIn madeAt countsOf digitsIn decimal lineOf macroblockLine syncLine pictureLines refusedLine programTests
+unfolding allOf allBelow pick upTo insideAxis mOf nOf fOf twoOf columnsRead digitsOf coordinateOf stepOf addressRead blockRead sameMotion samePrediction alike oneEach fewestIn recordAt motionOf splitSaid rule1 rule2 rule3 rule4 rule5 rule6 firstBroken laidOut setOf intraSet gathered source clearOf filled lower lowest having mergedList merged someOf liveOf copiedFrom copied resolved scaledPrediction scaledMotion inheritedMotions originAt answerOf addressesOf writtenFor madeOf geometryTests recordTests addressesRead macroblockTests macroblockCall pictureTests pictureCall ones onesIn madeAt countsOf digitsIn decimal lineOf macroblockLine syncLine pictureLines refusedLine programTests
 unstarred-hold = refl
 
 -- ---- Texts
@@ -411,3 +451,12 @@ pub record TextsHold : Type 0 where
   pub right-words : (t : List ℕ) (words : List ℤ) (r : Refusal) → length words ≡ 7623 → Reads t (notRead r) → TextAnswer t words (NotRead r) words
   pub few-words : (t : List ℕ) (words new : List ℤ) (reply : TextReply) → length words ≡ 7622 → TextAnswer t words reply new → reply ≡ NotRead (refusal 6)
   pub many-words : (t : List ℕ) (words new : List ℤ) (reply : TextReply) → length words ≡ 7624 → TextAnswer t words reply new → reply ≡ NotRead (refusal 6)
+  -- The words of the record lines stand first, 77 for each, the rest unchanged.
+  pub words-first : (t : List ℕ) (n : Numbers) (entries : List Entry) (words : List ℤ) → length words ≡ 7623 → Reads t (readAs n entries)
+      → TextAnswer t words (Read (record { numbers = n; lines = length entries })) (baseOf entries ++ drop (77 * length entries) words)
+  -- The log call: 1,179,679 bytes serve, and the log stands first, the rest unchanged; with one fewer it is refused by 6, and the bytes are as they were.
+  pub right-bytes : (t log out : List ℕ) (found : LogOf t log) → length out ≡ 1179679
+      → LogAnswer t out (Written (record { bytes = length log; verdict = verdictFor (findingOf (found .reading)) })) (log ++ drop (length log) out)
+  pub few-bytes : (t out new : List ℕ) (reply : LogReply) → length out ≡ 1179678 → LogAnswer t out reply new → (reply ≡ NotWritten (refusal 6)) × (new ≡ out)
+  -- a note of the letters a and z
+  pub letters : Note (40 ∷ 110 ∷ 111 ∷ 116 ∷ 101 ∷ 32 ∷ 97 ∷ 122 ∷ 41 ∷ 10 ∷ [])

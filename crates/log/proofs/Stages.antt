@@ -171,7 +171,7 @@ log-fits h = subst (λ (o : List ℕ). length o ≤ logBytes) (sym (h .is)) (by 
 -- ---- the log call
 -- an answer with demand 2 of it: the contract's two parts
 promised : {t out new : List ℕ} {reply : LogReply} → LogAnswer t out reply new → LogPromised t reply new
-promised (tooFew l) = tt
+promised (tooFew l) = λ h. omega (arith, l, h)
 promised {t} {out} (logged {log = log} room h) =
     let first = sym (take-at log (drop (length log) out) (length log) refl) in
     record {

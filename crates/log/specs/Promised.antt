@@ -1,4 +1,4 @@
--- Demand 2 of what the log call writes and hands back, as its contract says it: refused, it promises nothing here.
+-- Demand 2 of what the log call writes and hands back, as its contract says it.
 use Prim.Native.Nat.{ℕ, _≤_}
 use mathlib.Core.Path.{_≡_}
 use mathlib.Core.List.{List}
@@ -9,7 +9,7 @@ use Rattle.definitions.specs.declared.LogReply.{LogReply}
 use Rattle.definitions.specs.declared.LogReply.the-variants.{Written, Refused as NotWritten}
 use Rattle.definitions.specs.Refusals.{verdictOf}
 use Rattle.definitions.specs.Text.{Entry, Text, baseOf, textRecords, textBytes}
-use Rattle.definitions.specs.Log.{programTests, SaidByLog, RefusedOnly}
+use Rattle.definitions.specs.Log.{programTests, logBytes, SaidByLog, RefusedOnly}
 
 -- of a text that belongs to the grammar and keeps the limits: the verdict is that of 1 to 5 and 8, and the log is refused only for what they say
 pub record AsJudged (n : Numbers) (entries : List Entry) (verdict : Verdict) (log : List ℕ) : Type 0 where
@@ -21,7 +21,7 @@ pub record Promised (t : List ℕ) (verdict : Verdict) (log : List ℕ) : Type 0
   pub said : SaidByLog verdict log
   pub as-judged : (n : Numbers) (entries : List Entry) → Text n entries t → length t ≤ textBytes → length entries ≤ textRecords → AsJudged n entries verdict log
 
--- the log stands in the first bytes
+-- the log stands in the first bytes; refused, the bytes lent are too few for it
 abbrev pub LogPromised : List ℕ → LogReply → List ℕ → Type 0
 LogPromised t (Written l) out = Promised t (l .verdict) (take (l .bytes) out)
-LogPromised t (NotWritten r) out = Unit
+LogPromised t (NotWritten r) out = logBytes ≤ length out → ⊥

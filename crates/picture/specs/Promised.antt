@@ -29,7 +29,7 @@ PicturePromised n base words (Counted counts) out =
     → (alone : List ℤ) → length alone ≡ recordWords → InPicture n base words out column row alone
 PicturePromised n base words (NotMade r) out = PictureCase narrow n base words → ⊥
 
--- made, its counts and words are those of one-macroblock calls (refused, the clause before this one says where)
+-- made, its counts and words are those of one-macroblock calls (of a refusal the clauses reply and demand3 speak)
 abbrev pub SinglyCounted : Numbers → List ℤ → PictureReply → List ℤ → Type 0
 SinglyCounted n base (Counted counts) out =
     (lent : ℕ → List ℤ) → ((a : ℕ) → a < fullCount (axesOf n) → length (lent a) ≡ recordWords) → AsSingly narrow n base counts out lent

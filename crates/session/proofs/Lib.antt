@@ -1,4 +1,4 @@
 pub mod Values
-mod Promises
+pub mod Promises
 mod Stages
 mod Handing

@@ -31,11 +31,11 @@ use Rattle.definitions.specs.Basics.{allOf}
 use Rattle.definitions.specs.Geometry.{axesOf}
 use Rattle.definitions.specs.Record.{narrow}
 use Rattle.definitions.specs.Refusals.{Test, refusal, verdictOf, geometryTests, recordTests, addressesRead, allAddresses}
-use Rattle.definitions.specs.Calls.{Outcome, byVerdict, noCounts, macroblockTests, pictureTests, macroblockCall, pictureCall}
-use Rattle.definitions.specs.Session.{Call, begin, next, abandon, totals, State, fresh, begun, totalsOf, onwardTests, beginTests, beginVerdict, abandonVerdict, callAtNext, nextCall, ifAccepted, Exchange, beginGave, nextGave, abandonGave, totalsGave, exchange, stateNext, stateAfter, sound}
+use Rattle.definitions.specs.Calls.{Outcome, byVerdict, noCounts, countsOf, sumOf, macroblockTests, pictureTests, macroblockCall, pictureCall}
+use Rattle.definitions.specs.Session.{Call, begin, next, abandon, totals, State, fresh, begun, totalsOf, onwardTests, beginTests, beginVerdict, abandonVerdict, callAtNext, nextCall, ifAccepted, Exchange, beginGave, nextGave, abandonGave, totalsGave, exchange, stateNext, stateAfter, madeSince, sound}
 use Rattle.definitions.specs.Session.{advanced as advancedState}
 use Rattle.definitions.specs.Text.{Reading, notRead, readAs, Reads, tooLong, broken, tooMany, read, baseOf, TextAnswer, wrongWords, refused, given}
-use Rattle.definitions.specs.Log.{findingOf, verdictFor, programTests, pictureLines, LogAnswer, tooFew, logged}
+use Rattle.definitions.specs.Log.{lineOf, refusedWord, refusedLine, findingOf, verdictFor, programTests, pictureLines, LogAnswer, tooFew, logged}
 use Rattle.definitions.proofs.Choices.{of-true}
 use Rattle.definitions.proofs.Verdicts.{EachGives, given-by, reply-refused}
 use Rattle.definitions.proofs.RecordLists.{records-give}
@@ -48,9 +48,18 @@ use Rattle.session.proofs.Values.{state-of-value, handed-value}
 use Rattle.spiewomir.specs.declared.SessionNumbers.{SessionNumbers}
 use Rattle.spiewomir.specs.declared.AdvancedResult.{AdvancedResult}
 use Rattle.spiewomir.specs.Results.{numbersFromC, classNumber, macroblockResult, pictureResult}
-use Rattle.spiewomir.specs.Sessions.{flag, sessionFromC, sessionToC, judgedResult, sessionAfter, advancedResult, totalsResult}
+use Rattle.spiewomir.specs.Sessions.{flag, sessionFromC, sessionToC, judgedResult, sessionAfter, advancedResult, totalsResult, totalsGives}
 use Rattle.spiewomir.specs.Texts.{textResult, logResult, writtenResult}
-use Rattle.spiewomir.specs.Laws.{ThereAndBack, ClassesDiffer, ZeroWhenAnswered, judged, advanced, told, callInC, handedOn, throughC, sessionAfterC, stateToC, exchangeInC, SessionInC}
+use Rattle.spiewomir.specs.Laws.{ThereAndBack, ClassesDiffer, ZeroWhenAnswered, LogLine, judged, advanced, told, callInC, handedOn, throughC, sessionAfterC, stateToC, exchangeInC, countsFromC, SessionInC}
+
+-- ---- The log's line
+pub log-line : LogLine
+unfolding refusedLine
+log-line l log said r e =
+    let k = ap (writtenResult (l .bytes)) e in (
+      said .refused r e ∙ (λ i. lineOf refusedWord (sym k i .text ∷ sym k i .place ∷ [])),
+      (λ i. k i .rule),
+    )
 
 -- ---- There and back
 flag-back : (b : Bool) → eqb (flag b) 1 ≡ b
@@ -272,11 +281,15 @@ state-after calls =
     let s = stateAfter fresh calls in
     ap stateOf (ap sessionFromC (numbers-after calls) ∙ session-back (valueOf s)) ∙ state-of-value s (only-sound calls)
 
-pub session-in-c : SessionInC
+counts-after : (calls : List Call) → countsFromC (totalsGives (sessionAfterC calls)) ≡ countsOf (madeSince calls)
 unfolding exchange
+counts-after calls = ap totalsOf (state-after calls) ∙ cc (totals-right .counts calls)
+
+pub session-in-c : SessionInC
 session-in-c = record {
   numbers = numbers-after;
   state = state-after;
   gives = λ calls c. ap (λ (n : SessionNumbers). callInC n c) (numbers-after calls) ∙ call-carried (stateAfter fresh calls) c (only-sound calls);
-  counts = λ calls. ap totalsOf (state-after calls) ∙ cc (totals-right .counts calls);
+  counts = counts-after;
+  sum = λ calls. ap sumOf (counts-after calls) ∙ totals-right .sum calls;
 }

@@ -1,14 +1,17 @@
--- What holds of the definitions of the C interface: numbers there and back, a number for each class, refusal 0, and the session over every list of calls.
+-- What holds of the definitions of the C interface: numbers there and back, a number for each class, refusal 0, the log's line, and the session over every list
+-- of calls.
 use Prim.Native.Nat.{ℕ, _≤_}
 use mathlib.Core.Path.{_≡_}
 use mathlib.Core.Logic.{_↔_}
 use mathlib.Core.List.{List, [], _∷_}
 use lib.IntN.{ℤ}
+use lib.ListN.{length}
 use Rattle.definitions.specs.declared.Numbers.{Numbers}
 use Rattle.definitions.specs.declared.Class.{Class}
 use Rattle.definitions.specs.declared.Answer.{Answer}
 use Rattle.definitions.specs.declared.Counts.{Counts}
-use Rattle.definitions.specs.declared.Verdict.the-variants.{Accepted}
+use Rattle.definitions.specs.declared.Refusal.{Refusal}
+use Rattle.definitions.specs.declared.Verdict.the-variants.{Accepted, Refused}
 use Rattle.definitions.specs.declared.MacroblockReply.the-variants.{Answered}
 use Rattle.definitions.specs.declared.PictureReply.the-variants.{Counted}
 use Rattle.definitions.specs.declared.TextRead.{TextRead}
@@ -18,10 +21,10 @@ use Rattle.definitions.specs.declared.Logged.{Logged}
 use Rattle.definitions.specs.declared.LogReply.{LogReply}
 use Rattle.definitions.specs.declared.LogReply.the-variants.{Written}
 use Rattle.definitions.specs.Record.{narrow}
-use Rattle.definitions.specs.Calls.{macroblockCall, pictureCall, countsOf}
+use Rattle.definitions.specs.Calls.{macroblockCall, pictureCall, countsOf, sumOf}
 use Rattle.definitions.specs.Session.{Call, begin, next, abandon, totals, State, fresh, Exchange, beginGave, nextGave, abandonGave, totalsGave, beginVerdict, abandonVerdict, nextCall, exchange, stateNext, stateAfter, madeSince}
 use Rattle.definitions.specs.Text.{TextAnswer}
-use Rattle.definitions.specs.Log.{LogAnswer}
+use Rattle.definitions.specs.Log.{lineOf, refusedWord, LogAnswer, SaidByLog}
 use Rattle.session.specs.declared.Session.{Session}
 use Rattle.session.specs.Values.{freshSession, valueOf, stateOf}
 use Rattle.spiewomir.specs.declared.GeometryNumbers.{GeometryNumbers}
@@ -63,6 +66,13 @@ pub record ZeroWhenAnswered : Type 0 where
       → (logResult reply .refusal ≡ 0) ↔ ((l : Logged) × (reply ≡ Written l))
   pub log-text : (t out : List ℕ) (l : Logged) (new : List ℕ) → LogAnswer t out (Written l) new
       → (logResult (Written l) .text ≡ 0) ↔ (l .verdict ≡ Accepted)
+
+-- A refused text's log is the line of the number and place handed back, and the rule is the refusal's. (SaidByLog is what the log call promises of the verdict
+-- and the log's bytes.)
+abbrev pub LogLine : Type 0
+LogLine =
+    (l : Logged) (log : List ℕ) → SaidByLog (l .verdict) log → (r : Refusal) → l .verdict ≡ Refused r
+    → (log ≡ lineOf refusedWord (logResult (Written l) .text ∷ logResult (Written l) .place ∷ [])) × (logResult (Written l) .rule ≡ r .rule)
 
 -- ---- The session over every list of calls
 -- what a call of the session gives in C; of next also the lent words, afterwards
@@ -106,10 +116,11 @@ abbrev pub countsFromC : TotalsResult → Counts
 countsFromC t = record { inherited = t .inherited; intra = t .intra; outside = t .outside }
 
 -- After every list of calls from a fresh session: the session in C is that of the state of document 01's calls, and stands for it; one call more gives what
--- document 01's does; and so totals are the counts of the accepted next calls since the last accepted begin or abandon.
+-- document 01's does; and so totals are the counts of the accepted next calls since the last accepted begin or abandon, and their sum is their number.
 pub record SessionInC : Type 0 where
   pub numbers : (calls : List Call) → sessionAfterC calls ≡ stateToC (stateAfter fresh calls)
   pub state : (calls : List Call) → stateOf (sessionFromC (sessionAfterC calls)) ≡ stateAfter fresh calls
   pub gives : (calls : List Call) (c : Call)
       → callInC (sessionAfterC calls) c ≡ exchangeInC (stateNext (stateAfter fresh calls) c) (exchange (stateAfter fresh calls) c)
   pub counts : (calls : List Call) → countsFromC (totalsGives (sessionAfterC calls)) ≡ countsOf (madeSince calls)
+  pub sum : (calls : List Call) → sumOf (countsFromC (totalsGives (sessionAfterC calls))) ≡ length (madeSince calls)

@@ -22,6 +22,7 @@ numbersFromC g = record {
   vertical = record { base = g .bh; scaled = g .sh; offset = g .y; full = g .fh };
 }
 
+-- the header's numbers of the classes: document 01 gives them none
 abbrev pub classNumber : Class → ℕ
 classNumber Corner = 0
 classNumber Vert = 1

@@ -8,6 +8,7 @@ ghost use Rattle.spiewomir.specs.Results.{answerResult, answerSubTypes, 
 ghost use Rattle.spiewomir.specs.Sessions.{abandonGives, advancedResult, beginGives, flag, judgedResult, nextGives, numbersToC, sessionFromC, sessionToC, totalsGives};
 ghost use Rattle.spiewomir.specs.Texts.{LogGiven, TextGiven, writtenResult};
 ghost use Rattle.spiewomir.specs.Version.{version};
+ghost use Rattle.session.specs.Promised.{NextPromised};
 ghost use Rattle.session.specs.Values.{freshSession, stateOf};
 ghost use mathlib.Core.Path.{_≡_};
 use definitions::Answer;
@@ -398,6 +399,7 @@ pub extern "C" fn spiewomir_session_next(
 ) -> AdvancedResult
     ensures result { λ r. ⌜ r ≡ nextGives s (now (base .entry)) (now (out .entry)) ⌝ }
     ensures words { λ r. ⌜ now (out .exit) ≡ nextCall (stateOf (sessionFromC s)) (now (base .entry)) (now (out .entry)) .words ⌝ }
+    ensures demand3 { λ r. ⌜ NextPromised (stateOf (sessionFromC s)) (now (base .entry)) (now (out .entry)) (nextCall (stateOf (sessionFromC s)) (now (base .entry)) (now (out .entry)) .reply) (now (out .exit)) ⌝ }
 {
     let v = session_from_c(s);
     advanced_result(s, v.next(base, out))

@@ -7,7 +7,7 @@ use Rattle.definitions.specs.declared.MacroblockReply.the-variants.{Answered, R
 use Rattle.definitions.specs.Record.{narrow}
 use Rattle.definitions.specs.Demand3.{Demand3Singly, SinglyCase}
 
--- answered, its answer and its written record are as demanded (column and row are then not below 0); refused, there is no case of the demand
+-- answered, its answer and its written record are as demanded (by the clause reply, column and row are then not below 0); refused, there is no case of the demand
 abbrev pub SinglyPromised : Numbers → List ℤ → ℤ → ℤ → List ℤ → MacroblockReply → List ℤ → Type 0
 SinglyPromised n base column row words (Answered answer) written = Demand3Singly narrow n (natAbs column) (natAbs row) words base answer written
 SinglyPromised n base column row words (Declined r) written = SinglyCase narrow n column row base words → ⊥

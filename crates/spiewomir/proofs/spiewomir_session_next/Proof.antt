@@ -1,8 +1,10 @@
 -- `spiewomir::spiewomir_session_next` meets its contract. Assumes nothing.
-use Rattle.spiewomir.specs.Sessions.{advancedResult}
+use Rattle.spiewomir.specs.Sessions.{advancedResult, sessionFromC}
 use Rattle.session.specs.Values.{stateOf, handedBack}
 use Rattle.definitions.specs.Session.{next, nextCall}
-use mathlib.Core.Path.{_∙_}
+use Rattle.session.proofs.Values.{state-sound}
+use Rattle.session.proofs.Promises.{next-promised}
+use mathlib.Core.Path.{refl, _∙_}
 use borrow.Author.Needs.{needs}
 use Rattle.spiewomir.proofs.spiewomir_session_next.Statement.{statement}
 use Rattle.spiewomir.proofs.spiewomir_session_next.Tie as tie
@@ -23,11 +25,12 @@ returns : tie.Need-returns
 returns c =
     let a = c .before .before .before .before .before .args in
     let v = c .before .before .before .before .session-from-c .ensures in
-    let k = c .before .before .next .ensures in (
+    let k = c .before .before .next .ensures in
+    let w = k .1 .0 ∙ (λ i. nextCall (stateOf (v i)) (a .base .now) (a .out .now) .words) in (
       c .advanced-result .ensures
           ∙ ((λ i. advancedResult (a .s) (k .0 i) (k .1 .1 .0 .value i))
           ∙ (λ i. advancedResult (a .s) (nextCall (stateOf (v i)) (a .base .now) (a .out .now) .reply) (handedBack (v i) (next (a .base .now) (a .out .now))))),
-      k .1 .0 ∙ (λ i. nextCall (stateOf (v i)) (a .base .now) (a .out .now) .words),
+      (w, next-promised (stateOf (sessionFromC (a .s))) (state-sound (sessionFromC (a .s))) (a .base .now) (a .out .now) _ _ refl w),
     )
 
 pub spiewomir-session-next-spec : {M : Type 1} → statement M
