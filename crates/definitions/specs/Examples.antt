@@ -145,6 +145,17 @@ wholeText =
     ++ ((40 ∷ 102 ∷ 117 ∷ 108 ∷ 108 ∷ 32 ∷ 52 ∷ 56 ∷ 32 ∷ 51 ∷ 50 ∷ 41 ∷ 10 ∷ [])
     ++ (40 ∷ 119 ∷ 104 ∷ 111 ∷ 108 ∷ 101 ∷ 32 ∷ 40 ∷ 48 ∷ 32 ∷ 45 ∷ 49 ∷ 41 ∷ 32 ∷ 40 ∷ 52 ∷ 32 ∷ 45 ∷ 56 ∷ 32 ∷ 48 ∷ 32 ∷ 48 ∷ 41 ∷ 41 ∷ 10 ∷ []))))
 
+-- the same with (note) before, between and after its lines
+abbrev pub notedText : List ℕ
+notedText =
+    let n : List ℕ = (40 ∷ 110 ∷ 111 ∷ 116 ∷ 101 ∷ 41 ∷ 10 ∷ []) in
+    (n ++ (40 ∷ 98 ∷ 97 ∷ 115 ∷ 101 ∷ 32 ∷ 49 ∷ 54 ∷ 32 ∷ 49 ∷ 54 ∷ 41 ∷ 10 ∷ []))
+    ++ ((n ++ (40 ∷ 115 ∷ 99 ∷ 97 ∷ 108 ∷ 101 ∷ 100 ∷ 32 ∷ 51 ∷ 50 ∷ 32 ∷ 51 ∷ 50 ∷ 41 ∷ 10 ∷ []))
+    ++ ((n ++ (n ++ (40 ∷ 97 ∷ 116 ∷ 32 ∷ 48 ∷ 32 ∷ 48 ∷ 41 ∷ 10 ∷ [])))
+    ++ ((n ++ (40 ∷ 102 ∷ 117 ∷ 108 ∷ 108 ∷ 32 ∷ 52 ∷ 56 ∷ 32 ∷ 51 ∷ 50 ∷ 41 ∷ 10 ∷ []))
+    ++ (n
+    ++ ((40 ∷ 119 ∷ 104 ∷ 111 ∷ 108 ∷ 101 ∷ 32 ∷ 40 ∷ 48 ∷ 32 ∷ 45 ∷ 49 ∷ 41 ∷ 32 ∷ 40 ∷ 52 ∷ 32 ∷ 45 ∷ 56 ∷ 32 ∷ 48 ∷ 32 ∷ 48 ∷ 41 ∷ 41 ∷ 10 ∷ []) ++ n)))))
+
 abbrev pub wholeLog : List ℕ
 wholeLog =
     (40 ∷ 109 ∷ 98 ∷ 32 ∷ 48 ∷ 32 ∷ 48 ∷ 32 ∷ 49 ∷ 32 ∷ 49 ∷ 41 ∷ 10 ∷ [])
@@ -185,6 +196,10 @@ brokenTexts =
     ∷ brokenRow (inNote (45 ∷ 51 ∷ 50 ∷ 55 ∷ 54 ∷ 56 ∷ [])) 12  -- (note -32768, which goes on
     ∷ brokenRow (inNote (45 ∷ 51 ∷ 50 ∷ 55 ∷ 54 ∷ 57 ∷ [])) 11  -- (note -32769
     ∷ brokenRow (inNote (57 ∷ 57 ∷ 57 ∷ 57 ∷ 57 ∷ [])) 10  -- (note 99999
+    ∷ brokenRow (inNote (122 ∷ 98 ∷ [])) 8  -- (note zb, which goes on
+    ∷ brokenRow (inNote (97 ∷ 49 ∷ [])) 7  -- (note a1
+    ∷ brokenRow (inNote (96 ∷ [])) 6  -- (note and the byte before a
+    ∷ brokenRow (inNote (123 ∷ [])) 6  -- (note and the byte after z
     ∷ brokenRow (inNote (97 ∷ 96 ∷ [])) 7  -- (note a and the byte before a
     ∷ brokenRow (inNote (122 ∷ 123 ∷ [])) 7  -- (note z and the byte after z
     ∷ brokenRow (inNote (40 ∷ 41 ∷ 41 ∷ [])) 7  -- (note ())

@@ -15,7 +15,9 @@ use Rattle.definitions.specs.declared.SubSplit.{SubSplit}
 use Rattle.definitions.specs.declared.SubSplit.the-variants.{S8x8, S8x4, S4x8, S4x4}
 use Rattle.definitions.specs.declared.Split.{Split}
 use Rattle.definitions.specs.declared.Split.the-variants.{S16x16, S16x8, S8x16, S8x8 as Quarters}
-use Rattle.definitions.specs.declared.Answer.the-variants.{Inherited}
+use Rattle.definitions.specs.declared.Axes.{Axes}
+use Rattle.definitions.specs.declared.Answer.{Answer}
+use Rattle.definitions.specs.declared.Answer.the-variants.{Outside, Intra, Inherited}
 use Rattle.definitions.specs.declared.Verdict.{Verdict}
 use Rattle.definitions.specs.declared.Verdict.the-variants.{Accepted, Refused}
 use Rattle.definitions.specs.declared.Refusal.{Refusal}
@@ -28,13 +30,14 @@ use Rattle.definitions.specs.declared.LogReply.{LogReply}
 use Rattle.definitions.specs.declared.LogReply.the-variants.{Written, Refused as NotWritten}
 use Rattle.definitions.specs.declared.MacroblockReply.{MacroblockReply}
 use Rattle.definitions.specs.declared.MacroblockReply.the-variants.{Answered, Refused as Declined}
-use Rattle.definitions.specs.Basics.{pick, minus, allBelow, allOf, upTo}
+use Rattle.definitions.specs.Basics.{pick, minus, allBelow, allOf, upTo, forEach}
+use Rattle.definitions.specs.Raster.{baseAddress}
 use Rattle.definitions.specs.Geometry.{axisOf, insideAxis, mOf, nOf, fOf, twoOf, columnsRead}
 use Rattle.definitions.specs.BlockMap.{digitsOf, coordinateOf, stepOf, addressRead, blockRead}
 use Rattle.definitions.specs.Splits.{sameMotion, samePrediction, alike, oneEach, fewestIn}
 use Rattle.definitions.specs.Record.{recordAt, motionOf, splitSaid, rule1, rule2, rule3, rule4, rule5, rule6, firstBroken, narrow, laidOut}
 use Rattle.definitions.specs.Inheriting.{setOf, intraSet, gathered, source, clearOf, filled, lower, lowest, having, mergedList, merged, someOf, liveOf, copiedFrom, copied, resolved, scaledPrediction, scaledMotion, inheritedMotions}
-use Rattle.definitions.specs.Answer.{originAt, answerOf, addressesOf, writtenFor, madeOf}
+use Rattle.definitions.specs.Answer.{originAt, answerOf, columnsNamed, rowsNamed, addressesNamed, addressesOf, writtenFor, madeOf}
 use Rattle.definitions.specs.Refusals.{refusal, geometryTests, geometryVerdict, recordTests, addressesRead}
 use Rattle.definitions.specs.Calls.{Outcome, macroblockTests, macroblockCall, pictureTests, pictureCall, madeAt, countsOf}
 use Rattle.definitions.specs.Text.{RecordKind, Entry, intra, whole, mb, wholeLine, LineOf, Note, Text, BreaksAt, baseOf, Reading, notRead, readAs, Reads, TextAnswer}
@@ -218,6 +221,17 @@ fromRight at =
 abbrev twiceAsLarge : Numbers
 twiceAsLarge = by (axisWith (pos 32) (pos 64) (pos 8) (pos 48)) (axisWith (pos 32) (pos 64) (pos 8) (pos 48))
 
+-- ratio 1, the base's middle in the middle of the macroblock: a quadrant to each base macroblock, of four of its blocks
+abbrev shifted : Numbers
+shifted = by (axisWith (pos 32) (pos 32) (pos 8) (pos 32)) (axisWith (pos 32) (pos 32) (pos 8) (pos 32))
+
+abbrev copiedThere : List ℤ
+copiedThere =
+    let r = rowOf4 (block 3 4 0 0) (block 3 4 0 0) (block 5 6 0 0) (block 5 6 0 0) in
+    words (pos 4) (listOf4 (pos 3) (pos 3) (pos 0) (pos 0)) (listOf4 (pos 0) (pos 2) (pos 0) (pos 2) ++ listOf4 (pos 0) (minus 1) (pos 0) (minus 1))
+    (rowOf4 (rowOf4 (block 33 34 35 36) (block 37 38 39 40) (block 33 34 35 36) (block 37 38 39 40))
+    (rowOf4 (block 49 50 51 52) (block 53 54 55 56) (block 49 50 51 52) (block 53 54 55 56)) r r)
+
 -- ---- Limits and orders
 -- a record (of type 1 with one motion, reference 0 in list 0) with one thing changed
 abbrev ofType : ℤ → List ℤ
@@ -290,6 +304,16 @@ unstarred =
     (inherits Center S16x8 (words (pos 2) noSub (both (pos 0) (minus 1)) (rowOf4 (ofAll (block 2 4 0 0)) (ofAll (block 2 4 0 0)) (ofAll (block 6 8 0 0)) (ofAll (block 6 8 0 0)))))
     ∷ call twiceAsLarge (noMotion ++ (noMotion ++ (firstList 0 3 4 ++ firstList 0 5 6))) (pos 2) (pos 2) 77
     (inherits Center S8x16 (words (pos 3) noSub (both (pos 0) (minus 1)) (ofAll (rowOf4 (block 6 8 0 0) (block 6 8 0 0) (block 10 12 0 0) (block 10 12 0 0)))))
+    -- Block for block: quadrant 0, all intra, has the four motions of quadrant 1.
+    ∷ call shifted
+    (noMotion ++ (words (pos 4) (listOf4 (pos 3) (pos 3) (pos 3) (pos 3)) (both (pos 0) (pos 2)) (rising 1) ++ (firstList 0 3 4 ++ firstList 0 5 6)))
+    (pos 1) (pos 1) 77
+    (inherits Center (quarters S4x4 S4x4 S8x8 S8x8) copiedThere)
+    -- Base 0 and 1 intra: the vertical neighbour's motion, though the diagonal one serves too and differs.
+    ∷ call centre (noMotion ++ (noMotion ++ (firstList 0 3 4 ++ firstList 0 5 6))) (pos 1) (pos 1) 77
+    (inherits Center (quarters S4x8 S8x8 S4x8 S8x8)
+    (words (pos 4) (listOf4 (pos 2) (pos 0) (pos 2) (pos 0)) (both (pos 0) (minus 1))
+    (ofAll (rowOf4 (block 3 4 0 0) (block 5 6 0 0) (block 5 6 0 0) (block 5 6 0 0)))))
     -- Limits of a geometry, each on both sides: B, E,
     ∷ geometry (withAcross (pos 16) (pos 16) (pos 0) (pos 16)) 0
     ∷ geometry (withAcross (pos 4096) (pos 4096) (pos 0) (pos 16)) 0
@@ -333,6 +357,7 @@ unstarred =
     ∷ call (by plain plain) noMotion (pos 0) (pos 0) 78 (declines 78 6 0 0)
     ∷ call (by plain plain) noMotion (minus 1) (pos 0) 77 (declines 77 7 0 0)
     ∷ call (by plain plain) noMotion (pos 0) (pos 1) 77 (declines 77 7 0 0)
+    ∷ call (by plain plain) noMotion (pos 0) (minus 1) 77 (declines 77 7 0 0)
     ∷ call (withAcross (pos 16) (pos 32) (pos 0) (pos 16)) (ofType (pos 5)) (pos 0) (pos 0) 77 (declines 77 8 0 1)
     ∷ call centre (firstList 0 1 2 ++ (ofReferences (both (pos 32) (minus 1)) ++ (ofType (pos 5) ++ firstList 0 5 6))) (pos 1) (pos 1) 77 (declines 77 8 1 3)
     -- Limits of a record, each on both sides: type and sub-types,
@@ -359,6 +384,7 @@ unstarred =
     ∷ rule (ofVector (pos 8192) (pos 0)) 5
     ∷ rule (ofVector (pos 0) (minus 8193)) 5
     ∷ rule (words (pos 1) noSub (both (pos 0) (minus 1)) (allBlocks (block 0 0 0 1))) 5
+    ∷ rule (words (pos 1) noSub (both (minus 1) (pos 0)) (allBlocks (block 1 0 0 0))) 5
     -- and pieces.
     ∷ rule (halves (pos 2)) 0
     ∷ rule (sides (pos 3)) 0
@@ -384,20 +410,26 @@ unstarred =
     ∷ call clip (ofVector (pos 3) (minus 8) ++ ofVector (pos 7) (minus 8)) (pos 2) (pos 0) 77
     (record { reply = Answered (Inherited (record { class = Corner; column = 1; row = 0 }) S16x16); words = ofVector (pos 11) (minus 8) })
     ∷ log clip (clipRecord (pos 3) ∷ clipRecord (pos 7) ∷ []) clipLog
-    -- What the axis across gives for its second macroblock: k, M, N, F, two columns, and the coordinates.
+    -- What the axis across gives for its second macroblock: k, M, N, F, two columns, and the coordinates. And where Z and p(j) round up by B/2, with o below 0.
     ∷ step (axisWith (pos 32) (pos 48) (pos 4) (pos 64)) 16
     (record { k = 1; border = record { 0 = pos 4 }; border8 = record { 0 = minus 8 }; first = 0; two = true; reads = 2 ∷ 2 ∷ 3 ∷ 4 ∷ [] })
+    ∷ step (axisWith (pos 32) (pos 38) (minus 4) (pos 64)) 16
+    (record { k = 3; border = record { 0 = pos 12 }; border8 = record { 0 = pos 0 }; first = 1; two = false; reads = 5 ∷ 5 ∷ 6 ∷ 6 ∷ [] })
+    ∷ step (axisWith (pos 32) (pos 34) (minus 2) (pos 64)) 0
+    (record { k = 1; border = record { 0 = pos 8 }; border8 = record { 0 = pos 0 }; first = 0; two = false; reads = 0 ∷ 1 ∷ 2 ∷ 3 ∷ [] })
     -- A block takes from itself, else from its horizontal, its vertical, its diagonal neighbour.
     ∷ takes (true ∷ true ∷ true ∷ true ∷ []) (0 ∷ 1 ∷ 2 ∷ 3 ∷ [])
     ∷ takes (false ∷ true ∷ true ∷ false ∷ []) (1 ∷ 1 ∷ 2 ∷ 2 ∷ [])
     ∷ takes (false ∷ false ∷ true ∷ true ∷ []) (2 ∷ 3 ∷ 2 ∷ 3 ∷ [])
     ∷ takes (false ∷ false ∷ false ∷ true ∷ []) (3 ∷ 3 ∷ 3 ∷ 3 ∷ [])
-    -- The picture call, where two refusals apply: the first of them. And 8 alone.
-    ∷ picture (withAcross (pos 17) (pos 18) (pos 0) (pos 16)) [] 0 (refusal 1)
+    -- The picture call, where two refusals apply: the first of them. Too many words; and 8 of a record that no macroblock reads.
+    ∷ picture (withAcross (pos 16) (pos 16) (pos 1) (pos 16)) [] 77 (refusal 4)
     ∷ picture (by plain plain) [] 0 (refusal 5)
     ∷ picture (by plain plain) (ofType (pos 5)) 76 (refusal 6)
-    ∷ picture (by plain plain) (ofType (pos 5)) 77 (record { number = 8; place = 0; rule = 1 })
-    -- The log of an intra macroblock: (mb 0 0 0 0), (sync 1 0 1 0).
+    ∷ picture (by plain plain) noMotion 154 (refusal 6)
+    ∷ picture (by (axisWith (pos 32) (pos 32) (pos 0) (pos 16)) plain) (noMotion ++ ofType (pos 5)) 77 (record { number = 8; place = 1; rule = 1 })
+    -- The log of too few lines, and of an intra macroblock: (mb 0 0 0 0), (sync 1 0 1 0).
+    ∷ log (by (axisWith (pos 32) (pos 32) (pos 0) (pos 32)) plain) (entry intra [] ∷ []) (refusedLog 5 0)
     ∷ log (by plain plain) (entry intra [] ∷ [])
     ((40 ∷ 109 ∷ 98 ∷ 32 ∷ 48 ∷ 32 ∷ 48 ∷ 32 ∷ 48 ∷ 32 ∷ 48 ∷ 41 ∷ 10 ∷ []) ++ (40 ∷ 115 ∷ 121 ∷ 110 ∷ 99 ∷ 32 ∷ 49 ∷ 32 ∷ 48 ∷ 32 ∷ 49 ∷ 32 ∷ 48 ∷ 41 ∷ 10 ∷ []))
     ∷ []
@@ -406,6 +438,13 @@ unstarred =
 pub unstarred-hold : map given unstarred ≡ map expected unstarred
 unfolding allOf allBelow pick upTo insideAxis mOf nOf fOf twoOf columnsRead digitsOf coordinateOf stepOf addressRead blockRead sameMotion samePrediction alike oneEach fewestIn recordAt motionOf splitSaid rule1 rule2 rule3 rule4 rule5 rule6 firstBroken laidOut setOf intraSet gathered source clearOf filled lower lowest having mergedList merged someOf liveOf copiedFrom copied resolved scaledPrediction scaledMotion inheritedMotions originAt answerOf addressesOf writtenFor madeOf geometryTests recordTests addressesRead macroblockTests macroblockCall pictureTests pictureCall ones onesIn madeAt countsOf digitsIn decimal lineOf macroblockLine syncLine pictureLines refusedLine programTests
 unstarred-hold = refl
+
+-- The addresses that an answer names are those of its columns and rows.
+pub addresses-named : (g : Axes) (a : Answer) → addressesNamed g a ≡ forEach (rowsNamed a) (λ row. map (λ column. baseAddress g column row) (columnsNamed a))
+unfolding addressesOf
+addresses-named g Outside = refl
+addresses-named g (Intra o) = refl
+addresses-named g (Inherited o s) = refl
 
 -- ---- Texts
 -- n + 1 zeros separated by one space, a closing bracket, and then t

@@ -12,7 +12,7 @@ use borrow.Author.Tests.{ltb-true, ltb-false, leb-true}
 use Rattle.definitions.specs.Basics.{allOf}
 use Rattle.definitions.specs.Text.{none, each, digits, Number, unsigned, readAs, read}
 use Rattle.definitions.specs.Log.{logFor, LogOf}
-use Rattle.definitions.specs.Examples.{wholeCase, wholeEntries, wholeText, wholeLog, whole-holds, Broken, brokenTexts, PlacesRight}
+use Rattle.definitions.specs.Examples.{wholeCase, wholeEntries, wholeText, notedText, wholeLog, whole-holds, Broken, brokenTexts, PlacesRight}
 use Rattle.definitions.proofs.Choices.{both-true}
 use Rattle.grammar.specs.declared.Num.the-variants.{Value}
 use Rattle.grammar.specs.declared.Num.the-variants as num
@@ -77,6 +77,16 @@ places-right = all-right brokenTexts refl
 pub whole-log : LogOf wholeText wholeLog
 unfolding runs step stepK δ byteClassOf
 whole-log =
+    record {
+      reading = readAs wholeCase wholeEntries;
+      reads = read (leb-true _ _ refl) (ends-text-as wholeCase wholeEntries refl) (leb-true _ _ refl);
+      is = sym (ap logFor whole-holds);
+    }
+
+-- and with notes before, between and after its lines
+pub noted-log : LogOf notedText wholeLog
+unfolding runs step stepK δ byteClassOf
+noted-log =
     record {
       reading = readAs wholeCase wholeEntries;
       reads = read (leb-true _ _ refl) (ends-text-as wholeCase wholeEntries refl) (leb-true _ _ refl);
