@@ -221,10 +221,9 @@ pub struct Log {
 pub fn log(text: &[u8]) -> Log {
     let mut bytes = vec![0; LOG_BYTES];
     let written = numbers::log(text, &mut bytes);
-    bytes.truncate(written.bytes);
-    bytes.shrink_to_fit();
     Log {
-        bytes,
+        // Copied, so that the whole block is given back: shrunk, it would keep a page and a mapping of its own.
+        bytes: bytes[..written.bytes].to_vec(),
         refusal: written.text_verdict().err(),
     }
 }
