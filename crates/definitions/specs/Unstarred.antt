@@ -1,5 +1,5 @@
--- Examples that document 01 does not star, in one table beside the starred one (Examples): with it and the laws they hold the definitions, so that one changed alike
--- with its code is refused. Records are given by their words, and what is expected by numbers that were worked out apart from these definitions.
+-- Examples that document 01 does not star, in one table beside the starred one (Examples). With it and the laws they are there so that a definition changed alike with
+-- its code is refused: the wrong ones that were tried are. Records are given by their words, and what is expected by numbers that were worked out apart from these definitions.
 use Prim.Native.Nat.{ℕ, zero, suc, _+_, _*_}
 use mathlib.Core.Path.{_≡_, refl}
 use mathlib.Core.Bool.{Bool, true, false}

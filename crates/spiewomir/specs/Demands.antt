@@ -1,4 +1,4 @@
--- One macroblock and the picture, as the C interface hands them over: the numbers of the call's reply, with demand 3 of it.
+-- One macroblock, the picture and a session's next, as the C interface hands them over: the numbers of the call's reply, with demand 3 of it.
 use mathlib.Core.Path.{_≡_}
 use mathlib.Core.List.{List}
 use lib.IntN.{ℤ}
@@ -7,11 +7,17 @@ use Rattle.definitions.specs.declared.MacroblockReply.{MacroblockReply}
 use Rattle.definitions.specs.declared.PictureReply.{PictureReply}
 use Rattle.definitions.specs.Record.{narrow}
 use Rattle.definitions.specs.Calls.{macroblockCall, pictureCall}
+use Rattle.definitions.specs.Session.{nextCall}
 use Rattle.upsample.specs.Promised.{SinglyPromised}
 use Rattle.picture.specs.Promised.{PicturePromised, SinglyCounted}
 use Rattle.spiewomir.specs.declared.MacroblockResult.{MacroblockResult}
 use Rattle.spiewomir.specs.declared.PictureResult.{PictureResult}
+use Rattle.session.specs.Promised.{NextPromised}
+use Rattle.session.specs.Values.{stateOf}
+use Rattle.spiewomir.specs.declared.SessionNumbers.{SessionNumbers}
+use Rattle.spiewomir.specs.declared.AdvancedResult.{AdvancedResult}
 use Rattle.spiewomir.specs.Results.{macroblockResult, pictureResult}
+use Rattle.spiewomir.specs.Sessions.{sessionFromC}
 
 pub record MacroblockGiven (n : Numbers) (base : List ℤ) (column row : ℤ) (words : List ℤ) (result : MacroblockResult) (new : List ℤ) : Type 0 where
   pub reply : MacroblockReply
@@ -25,3 +31,10 @@ pub record PictureGiven (n : Numbers) (base words : List ℤ) (result : PictureR
   pub demand3 : PicturePromised n base words reply new
   pub singly : SinglyCounted n base reply new
   pub is : result ≡ pictureResult reply
+
+-- of the session that the numbers stand for
+pub record NextGiven (s : SessionNumbers) (base words : List ℤ) (result : AdvancedResult) (new : List ℤ) : Type 0 where
+  pub reply : MacroblockReply
+  pub answer : reply ≡ nextCall (stateOf (sessionFromC s)) base words .reply
+  pub demand3 : NextPromised (stateOf (sessionFromC s)) base words reply new
+  pub is : result .macroblock ≡ macroblockResult reply

@@ -4,3 +4,4 @@ pub mod Sessions
 pub mod Texts
 pub mod Version
 pub mod Laws
+pub mod Examples

@@ -3,12 +3,11 @@ ghost use Rattle.definitions.specs.Record.{narrow};
 ghost use Rattle.definitions.specs.Answer.{answerOrigin};
 ghost use Rattle.definitions.specs.Calls.{macroblockCall, pictureCall};
 ghost use Rattle.definitions.specs.Session.{nextCall};
-ghost use Rattle.spiewomir.specs.Demands.{MacroblockGiven, PictureGiven};
+ghost use Rattle.spiewomir.specs.Demands.{MacroblockGiven, NextGiven, PictureGiven};
 ghost use Rattle.spiewomir.specs.Results.{answerResult, answerSubTypes, classNumber, macroblockResult, numbersFromC, pictureResult};
 ghost use Rattle.spiewomir.specs.Sessions.{abandonGives, advancedResult, beginGives, flag, judgedResult, nextGives, numbersToC, sessionFromC, sessionToC, totalsGives};
 ghost use Rattle.spiewomir.specs.Texts.{LogGiven, TextGiven, writtenResult};
 ghost use Rattle.spiewomir.specs.Version.{version};
-ghost use Rattle.session.specs.Promised.{NextPromised};
 ghost use Rattle.session.specs.Values.{freshSession, stateOf};
 ghost use mathlib.Core.Path.{_≡_};
 use definitions::Answer;
@@ -399,7 +398,7 @@ pub extern "C" fn spiewomir_session_next(
 ) -> AdvancedResult
     ensures result { λ r. ⌜ r ≡ nextGives s (now (base .entry)) (now (out .entry)) ⌝ }
     ensures words { λ r. ⌜ now (out .exit) ≡ nextCall (stateOf (sessionFromC s)) (now (base .entry)) (now (out .entry)) .words ⌝ }
-    ensures demand3 { λ r. ⌜ NextPromised (stateOf (sessionFromC s)) (now (base .entry)) (now (out .entry)) (nextCall (stateOf (sessionFromC s)) (now (base .entry)) (now (out .entry)) .reply) (now (out .exit)) ⌝ }
+    ensures demand3 { λ r. ⌜ NextGiven s (now (base .entry)) (now (out .entry)) r (now (out .exit)) ⌝ }
 {
     let v = session_from_c(s);
     advanced_result(s, v.next(base, out))

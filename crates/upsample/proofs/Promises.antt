@@ -1,11 +1,14 @@
 -- What the calls hand over is as demand 3 says: the theorem of definitions, at their replies. Assumes nothing.
-use mathlib.Core.Path.{_≡_, sym, _∙_}
+use mathlib.Core.Path.{_≡_, refl, sym, _∙_}
 use mathlib.Core.List.{List}
 use lib.IntN.{ℤ, pos, natAbs}
 use lib.ListN.{length}
 use lib.Signed.{pos-natAbs}
 use Rattle.definitions.specs.declared.Numbers.{Numbers}
+use Rattle.definitions.specs.declared.Origin.{Origin}
+use Rattle.definitions.specs.declared.Split.{Split}
 use Rattle.definitions.specs.declared.Answer.{Answer}
+use Rattle.definitions.specs.declared.Answer.the-variants.{Inherited}
 use Rattle.definitions.specs.declared.Refusal.{Refusal}
 use Rattle.definitions.specs.declared.MacroblockReply.{MacroblockReply}
 use Rattle.definitions.specs.declared.MacroblockReply.the-variants.{Answered, Refused as Declined}
@@ -52,3 +55,10 @@ whole-answered r out promised = promised (cases .inherited .singly-case)
 -- nor beside the window, whatever the base holds
 pub outside-answered : (base : List ℤ) → length base ≡ recordWords → (r : Refusal) (out : List ℤ) → SinglyPromised wholeCase base (pos 2) (pos 0) (blank 1) (Declined r) out → ⊥
 outside-answered base l r out promised = promised (cases .others-case base l)
+
+-- Nor can it be met by answering intra or outside everywhere: in the whole case each answer that keeps it is inherited.
+pub whole-inherited : (answer : Answer) (out : List ℤ) → SinglyPromised wholeCase wholeRecord (pos 0) (pos 0) (blank 1) (Answered answer) out
+    → (o : Origin) × (s : Split) × (answer ≡ Inherited o s)
+whole-inherited answer out promised =
+    let there = demand3 narrow .singly wholeCase 0 0 (blank 1) wholeRecord _ _ (cases .inherited .singly) in
+    promised .inherited .1 (there .inherited .0 (_, _, refl))

@@ -26,12 +26,12 @@ returns c =
     let a = c .before .before .before .before .before .args in
     let v = c .before .before .before .before .session-from-c .ensures in
     let k = c .before .before .next .ensures in
-    let w = k .1 .0 ∙ (λ i. nextCall (stateOf (v i)) (a .base .now) (a .out .now) .words) in (
-      c .advanced-result .ensures
-          ∙ ((λ i. advancedResult (a .s) (k .0 i) (k .1 .1 .0 .value i))
-          ∙ (λ i. advancedResult (a .s) (nextCall (stateOf (v i)) (a .base .now) (a .out .now) .reply) (handedBack (v i) (next (a .base .now) (a .out .now))))),
-      (w, next-promised (stateOf (sessionFromC (a .s))) (state-sound (sessionFromC (a .s))) (a .base .now) (a .out .now) _ _ refl w),
-    )
+    let w = k .1 .0 ∙ (λ i. nextCall (stateOf (v i)) (a .base .now) (a .out .now) .words) in
+    let is = c .advanced-result .ensures
+    ∙ ((λ i. advancedResult (a .s) (k .0 i) (k .1 .1 .0 .value i))
+    ∙ (λ i. advancedResult (a .s) (nextCall (stateOf (v i)) (a .base .now) (a .out .now) .reply) (handedBack (v i) (next (a .base .now) (a .out .now))))) in
+    let promised = next-promised (stateOf (sessionFromC (a .s))) (state-sound (sessionFromC (a .s))) (a .base .now) (a .out .now) _ _ refl w in
+    (is, (w, record { reply = nextCall (stateOf (sessionFromC (a .s))) (a .base .now) (a .out .now) .reply; answer = refl; demand3 = promised; is = λ i. is i .macroblock }))
 
 pub spiewomir-session-next-spec : {M : Type 1} → statement M
 spiewomir-session-next-spec =
