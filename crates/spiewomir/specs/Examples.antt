@@ -2,7 +2,7 @@
 -- where the code is changed alike.
 use Prim.Native.Nat.{ℕ}
 use mathlib.Core.Path.{_≡_, refl}
-use mathlib.Core.Bool.{true}
+use mathlib.Core.Bool.{true, false}
 use mathlib.Core.List.{List, [], _∷_, map}
 use lib.IntN.{pos}
 use Rattle.definitions.specs.declared.Numbers.{Numbers}
@@ -30,21 +30,22 @@ use Rattle.spiewomir.specs.declared.TotalsResult.{TotalsResult}
 use Rattle.spiewomir.specs.declared.TextResult.{TextResult}
 use Rattle.spiewomir.specs.declared.LogResult.{LogResult}
 use Rattle.spiewomir.specs.Results.{macroblockResult, pictureResult}
-use Rattle.spiewomir.specs.Sessions.{sessionToC, judgedResult, advancedResult, totalsResult}
+use Rattle.spiewomir.specs.Sessions.{sessionFromC, sessionToC, judgedResult, advancedResult, totalsResult}
 use Rattle.spiewomir.specs.Texts.{textResult, logResult}
 
--- what C is handed
+-- what C is handed, and the session that its numbers are taken for
 pub data Handed : Type 0 where
   macroblock : MacroblockResult → Handed
   picture : PictureResult → Handed
   session : SessionNumbers → Handed
+  taken : Session → Handed
   judged : JudgedResult → Handed
   advanced : AdvancedResult → Handed
   told : TotalsResult → Handed
   text : TextResult → Handed
   log : LogResult → Handed
 
--- by the definitions, and as the header has it
+-- by the definitions, and as the header has it. (The refusal here, and a session that is begun 3, are no call's of each kind: the definitions are of any.)
 pub record Instance : Type 0 where
   pub given : Handed
   pub expected : Handed
@@ -68,15 +69,21 @@ geometry = record { bw = pos 16; bh = pos 64; sw = pos 32; sh = pos 80; x = pos 
 abbrev nothing : GeometryNumbers
 nothing = record { bw = pos 0; bh = pos 0; sw = pos 0; sh = pos 0; x = pos 0; y = pos 0; fw = pos 0; fh = pos 0 }
 
+abbrev noNumbers : Numbers
+noNumbers = record { horizontal = record { base = pos 0; scaled = pos 0; offset = pos 0; full = pos 0 }; vertical = record { base = pos 0; scaled = pos 0; offset = pos 0; full = pos 0 } }
+
 abbrev begun : Session
 begun = record { begun = true; numbers = numbers; counts = counts }
 
 abbrev begunNumbers : SessionNumbers
 begunNumbers = record { begun = 1; geometry = geometry; inherited = 4; intra = 9; outside = 2 }
 
--- numbers that a refused call hands back, and that are no session's
+-- numbers that a refused call hands back, and that no call makes: begun is neither 0 nor 1, which stands for nothing begun
 abbrev before : SessionNumbers
 before = record { begun = 3; geometry = nothing; inherited = 10; intra = 11; outside = 12 }
+
+abbrev unbegun : Session
+unbegun = record { begun = false; numbers = noNumbers; counts = record { inherited = 10; intra = 11; outside = 12 } }
 
 -- an answer's type, sub-types, class, column and row
 abbrev answer : ℕ → ℕ → ℕ → ℕ → ℕ → ℕ → ℕ → ℕ → MacroblockResult
@@ -88,6 +95,7 @@ noAnswer = record { refusal = 8; place = 41; rule = 6; kind = 0; sub0 = 0; sub1 
 abbrev pub examples : List Instance
 examples =
     record { given = macroblock (macroblockResult (Answered (Inherited (from Hori) (Quarters (record { a = S8x4; b = S4x8; c = S4x4; d = S8x8 }))))); expected = macroblock (answer 4 1 2 3 0 2 5 7) }
+    ∷ record { given = macroblock (macroblockResult (Answered (Inherited (from Center) (Quarters (record { a = S4x4; b = S8x8; c = S8x4; d = S4x8 }))))); expected = macroblock (answer 4 3 0 1 2 3 5 7) }
     ∷ record { given = macroblock (macroblockResult (Answered (Inherited (from Vert) S16x16))); expected = macroblock (answer 1 0 0 0 0 1 5 7) }
     ∷ record { given = macroblock (macroblockResult (Answered (Inherited (from Corner) S16x8))); expected = macroblock (answer 2 0 0 0 0 0 5 7) }
     ∷ record { given = macroblock (macroblockResult (Answered (Inherited (from Center) S8x16))); expected = macroblock (answer 3 0 0 0 0 3 5 7) }
@@ -97,6 +105,8 @@ examples =
     ∷ record { given = picture (pictureResult (Counted counts)); expected = picture (record { refusal = 0; place = 0; rule = 0; inherited = 4; intra = 9; outside = 2 }) }
     ∷ record { given = picture (pictureResult (NotMade refused)); expected = picture (record { refusal = 8; place = 41; rule = 6; inherited = 0; intra = 0; outside = 0 }) }
     ∷ record { given = session (sessionToC begun); expected = session begunNumbers }
+    ∷ record { given = taken (sessionFromC begunNumbers); expected = taken begun }
+    ∷ record { given = taken (sessionFromC before); expected = taken unbegun }
     ∷ record { given = judged (judgedResult before Accepted begun); expected = judged (record { session = begunNumbers; refusal = 0; place = 0; rule = 0 }) }
     ∷ record { given = judged (judgedResult before (Refused refused) begun); expected = judged (record { session = before; refusal = 8; place = 41; rule = 6 }) }
     ∷ record { given = advanced (advancedResult before (Answered Outside) begun); expected = advanced (record { session = begunNumbers; macroblock = answer 5 0 0 0 0 0 0 0 }) }

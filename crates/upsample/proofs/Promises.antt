@@ -56,7 +56,7 @@ whole-answered r out promised = promised (cases .inherited .singly-case)
 pub outside-answered : (base : List ℤ) → length base ≡ recordWords → (r : Refusal) (out : List ℤ) → SinglyPromised wholeCase base (pos 2) (pos 0) (blank 1) (Declined r) out → ⊥
 outside-answered base l r out promised = promised (cases .others-case base l)
 
--- Nor can it be met by answering intra or outside everywhere: in the whole case each answer that keeps it is inherited.
+-- Nor can it be met by answering intra or outside everywhere: at the whole case's first macroblock each answer that keeps it is inherited.
 pub whole-inherited : (answer : Answer) (out : List ℤ) → SinglyPromised wholeCase wholeRecord (pos 0) (pos 0) (blank 1) (Answered answer) out
     → (o : Origin) × (s : Split) × (answer ≡ Inherited o s)
 whole-inherited answer out promised =
