@@ -32,7 +32,7 @@ pub record PictureGiven (n : Numbers) (base words : List ℤ) (result : PictureR
   pub singly : SinglyCounted n base reply new
   pub is : result ≡ pictureResult reply
 
--- of the session that the numbers stand for
+-- Next, of the session that the numbers stand for. (What session it hands back: the clause result of its contract.)
 pub record NextGiven (s : SessionNumbers) (base words : List ℤ) (result : AdvancedResult) (new : List ℤ) : Type 0 where
   pub reply : MacroblockReply
   pub answer : reply ≡ nextCall (stateOf (sessionFromC s)) base words .reply

@@ -45,7 +45,8 @@ pub data Handed : Type 0 where
   text : TextResult → Handed
   log : LogResult → Handed
 
--- by the definitions, and as the header has it. (The refusal here, and a session that is begun 3, are no call's of each kind: the definitions are of any.)
+-- by the definitions, and as the header has it. (Some of what is handed over here comes of no call, as a text refused by 8, or numbers whose begun is 3: the definitions
+-- are of any reply and of any numbers.)
 pub record Instance : Type 0 where
   pub given : Handed
   pub expected : Handed
