@@ -15,7 +15,7 @@ use Rattle.definitions.specs.Geometry.{pOf, scaledSize, offsetOf, insideAxis}
 use Rattle.definitions.specs.Basics.{minus}
 use Rattle.definitions.proofs.Choices.{both-true}
 use Rattle.definitions.proofs.Differences.{sub-cases}
-use Rattle.definitions.proofs.Positions.{room}
+use Rattle.definitions.proofs.Positions.{near, room}
 
 pub base-product : (b s c : ℕ) → Inside b s c → c * b + b / 2 < 2 ^ 31
 base-product b s c a = omega (arith, room b s c a)
@@ -32,6 +32,10 @@ place-top b s j z h =
 
 pub difference-small : (a b : ℕ) → a < 65536 → b < 65536 → natAbs (subℕ a b) < 65536
 difference-small a b h g = sub-cases (λ z. natAbs z < 65536) a b (λ l. omega arith) (λ l. omega arith)
+
+-- a border that is at most 512 blocks from the edge, from a centre inside
+pub distance-small : (b s c j : ℕ) → Inside b s c → j ≤ 512 → natAbs (subℕ (pOf b s j) c) < 65536
+distance-small b s c j a h = difference-small _ _ (place-top b s j (a .sized) h) (omega (arith, near b s c a))
 
 -- ---- the window
 pub offset-small : (o : ℤ) → minus 8192 ≤ℤ o → o ≤ℤ pos 8190 → mag o < 8192

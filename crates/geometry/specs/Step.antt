@@ -7,12 +7,18 @@ use lib.ListN.{getD, length}
 use Rattle.definitions.specs.declared.Axis.{Axis}
 use Rattle.definitions.specs.Accepted.{AcceptedAxis}
 use Rattle.definitions.specs.BlockMap.{digitsOf}
-use Rattle.definitions.specs.Geometry.{even}
+use Rattle.definitions.specs.Geometry.{d1Of, d2Of, even, kOf, roundedOf}
 
 -- an axis of an accepted geometry, and a sample far below what 32 bits hold
 pub record AtSample (a : Axis) (p : ℕ) : Type 0 where
   pub accepted : AcceptedAxis a
   pub reach : p < 65536
+
+-- what steps 1 to 3 give for B, S and c: k, D1 and D2
+pub record RoundedAt (b s c k : ℕ) (d1 d2 : ℤ) : Type 0 where
+  pub k-is : k ≡ kOf b s c
+  pub d1-is : d1 ≡ roundedOf (d1Of b s c)
+  pub d2-is : d2 ≡ roundedOf (d2Of b s c)
 
 -- the four decimal digits of a number below 10,000
 abbrev pub decimals : ℕ → List ℕ

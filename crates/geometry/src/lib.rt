@@ -1,11 +1,12 @@
 // The geometry of the two layers: numbers that refusals 1 to 4 accept, and what an axis gives for one macroblock.
 pub mod map; // map.rt: the block map
 pub mod sign; // sign.rt: the size and the sign of a displacement
-pub mod step; // step.rt: an axis, for one macroblock
+pub mod step; // step.rt: an axis, for one macroblock, and the class of both
 
 pub use step::axis_step;
+pub use step::class_of;
 pub use step::is_inside;
-ghost use Rattle.definitions.specs.Geometry.{axesOf, axisOf, classOf};
+ghost use Rattle.definitions.specs.Geometry.{axesOf, axisOf};
 ghost use Rattle.definitions.specs.Refusals.{geometryVerdict, offsetRight, refusal, scaledRight, sizeRight};
 ghost use Rattle.definitions.specs.Basics.{between as inRange};
 ghost use Rattle.geometry.specs.Checked.{NoneNegative, checkedOf};
@@ -17,7 +18,6 @@ use definitions::Axes;
 use definitions::Axis;
 use definitions::AxisNumbers;
 use definitions::BaseSample;
-use definitions::Class;
 use definitions::EnhancementOffset;
 use definitions::EnhancementSample;
 use definitions::Numbers;
@@ -169,16 +169,5 @@ fn axis_of(n: AxisNumbers) -> Axis
         scaled: EnhancementSample(n.scaled as u32),
         offset: EnhancementOffset(n.offset),
         full: EnhancementSample(n.full as u32),
-    }
-}
-
-// Whether two columns, and two rows, are read.
-pub fn class_of(columns: bool, rows: bool) -> Class
-    ensures { λ r. ⌜ r ≡ classOf columns rows ⌝ }
-{
-    if columns {
-        if rows { Class::Center } else { Class::Vert }
-    } else {
-        if rows { Class::Hori } else { Class::Corner }
     }
 }

@@ -1,12 +1,16 @@
 -- `geometry::step::axis_step` meets its contract. Assumes nothing.
-use mathlib.Core.Path.{_≡_, _∙_}
+use Prim.Native.Nat.{ℕ}
+use mathlib.Core.Path.{_≡_, ap, _∙_}
 use native.Mathlib.Omega.{arith}
 use borrow.Author.Needs.{needs}
 use Rattle.definitions.specs.Accepted.{Inside}
 use Rattle.definitions.specs.BlockMap.{stepOf}
-use Rattle.definitions.specs.Geometry.{baseSize, fOf, mOf, nOf, scaledSize}
+use Rattle.definitions.specs.Geometry.{baseSize, fOf, kOf, mOf, nOf, roundedOf, scaledSize}
 use Rattle.definitions.proofs.Accepted.{inside-axis}
-use Rattle.definitions.proofs.Map.{f-below, row-of}
+use Rattle.definitions.proofs.Map.{f-below}
+use Rattle.definitions.proofs.Positions.{room}
+use Rattle.geometry.specs.Step.{RoundedAt}
+use Rattle.geometry.proofs.Bounds.{distance-small}
 use Rattle.geometry.proofs.Steps as steps
 use Rattle.geometry.proofs.step.axis_step.Statement.{statement}
 use Rattle.geometry.proofs.step.axis_step.Tie as tie
@@ -14,62 +18,93 @@ use Rattle.geometry.proofs.step.axis_step.Tie as tie
 centre-requires : tie.Need-centre-requires
 centre-requires c κs = search needs
 
--- B, S and c are the axis's from here on
-inside : (c : tie.After-centre) → Inside (baseSize (c .before .args .a)) (scaledSize (c .before .args .a)) (c .centre .result .0)
-inside c =
-    let s = c .before in
-    rw (c .centre .ensures) (inside-axis (s .args .a) (s .args .p .0) (s .pre .0 .accepted) (s .pre .1))
+-- B, S and c of the call, from its first statement on
+module _ (c : tie.After-centre) where
+  b : ℕ
+  b = baseSize (c .before .args .a)
 
-distances-at-requires : tie.Need-distances-at-requires
-distances-at-requires c κs = inside c
+  s : ℕ
+  s = scaledSize (c .before .args .a)
 
-by-parity-requires : tie.Need-by-parity-requires
-by-parity-requires c κs = search needs
+  z : ℕ
+  z = c .centre .result .c .0
 
-by-parity-requires-2 : tie.Need-by-parity-requires-2
-by-parity-requires-2 c κs = search needs
+  inside : Inside b s z
+  unfolding b s z
+  inside =
+      let e = c .before in
+      rw (c .centre .ensures .0) (inside-axis (e .args .a) (e .args .p .0) (e .pre .0 .accepted) (e .pre .1))
 
-m-is : (c : tie.After-by-parity) → c .by-parity .result .0 ≡ mOf (baseSize (c .before .before .before .args .a)) (scaledSize (c .before .before .before .args .a)) (c .before .before .centre .result .0)
-m-is c = let d = c .before .distances-at .ensures in c .by-parity .ensures ∙ steps.border _ _ _ (d .0) (d .1 .0) (d .1 .1)
+  k-is : c .centre .result .k ≡ kOf b s z
+  unfolding b s z
+  k-is = rw (c .centre .ensures .0) (c .centre .ensures .1 .1)
 
-n-is : (c : tie.After-by-parity2) → c .by-parity2 .result .0 ≡ nOf (baseSize (c .before .before .before .before .args .a)) (scaledSize (c .before .before .before .before .args .a)) (c .before .before .before .centre .result .0)
-n-is c = let d = c .before .before .distances-at .ensures in c .by-parity2 .ensures ∙ steps.border8 _ _ _ (d .0) (d .1 .0) (d .1 .1)
+distances-requires : tie.Need-distances-requires
+unfolding b s z
+distances-requires c κs = (inside c, k-is c)
 
-first-requires : tie.Need-first-requires
-first-requires c κs =
-    rw (c .before .before .distances-at .ensures .0, m-is (c .before)) (steps.not-zero _ _ _ (inside (c .before .before .before)))
+rounded-requires : tie.Need-rounded-requires
+unfolding b s z
+rounded-requires c κs =
+    let at = c .before in
+    let r = room _ _ _ (inside at) in
+    rw (c .distances .ensures .0, c .distances .ensures .1) (distance-small _ _ _ _ (inside at) (omega (arith, r)), distance-small _ _ _ _ (inside at) (omega (arith, r)))
 
-f-is : (c : tie.After-first) → c .first .result ≡ fOf (baseSize (c .before .before .before .before .before .args .a)) (scaledSize (c .before .before .before .before .before .args .a)) (c .before .before .before .before .centre .result .0)
-f-is c = let m = c .before .before in c .first .ensures ∙ steps.first _ _ _ (m .before .distances-at .ensures .0) (m-is m)
+borders-by-parity-requires : tie.Need-borders-by-parity-requires
+borders-by-parity-requires c κs = search needs
 
-reads-two-requires : tie.Need-reads-two-requires
-reads-two-requires c κs =
+-- M and N are what the fourth step gives
+module _ (c : tie.After-borders-by-parity) where
+  at : tie.After-centre
+  at = c .before .before .before
+
+  rounded-at : RoundedAt (b at) (s at) (z at) (at .centre .result .k) (c .before .rounded .result .d1 .0) (c .before .rounded .result .d2 .0)
+  unfolding b s z at
+  rounded-at =
+      let d = c .before .before .distances .ensures in
+      record { k-is = k-is at; d1-is = c .before .rounded .ensures .0 ∙ ap roundedOf (d .0); d2-is = c .before .rounded .ensures .1 ∙ ap roundedOf (d .1) }
+
+  m-is : c .borders-by-parity .result .border .0 ≡ mOf (b at) (s at) (z at)
+  unfolding b s z at
+  m-is = c .borders-by-parity .ensures .1 .1 .0 _ _ _ rounded-at
+
+  n-is : c .borders-by-parity .result .border8 .0 ≡ nOf (b at) (s at) (z at)
+  unfolding b s z at
+  n-is = c .borders-by-parity .ensures .1 .1 .1 _ _ _ rounded-at
+
+columns-read-requires : tie.Need-columns-read-requires
+unfolding b s z at
+columns-read-requires c κs =
     let m = c .before .before in
-    rw (m-is m) (steps.border-small _ _ _ (inside (m .before .before)))
+    steps.columns-asked _ _ _ (inside (at m)) (k-is (at m)) (m-is m)
+
+-- and F what the fifth gives
+f-is : (c : tie.After-columns-read) → let g = at (c .before .before .before) in c .columns-read .result .first ≡ fOf (b g) (s g) (z g)
+unfolding b s z at
+f-is c = let m = c .before .before .before in c .columns-read .ensures .1 .1 .0 _ _ _ (k-is (at m)) (m-is m)
 
 reads-requires : tie.Need-reads-requires
+unfolding b s z at
 reads-requires c κs =
-    let f = c .before in
-    let d = f .before .before .before in
-    (rw (d .distances-at .ensures .0, m-is (f .before .before), n-is (f .before)) (row-of _ _ _ (inside (d .before))), omega (arith, f-is f, f-below _ _ _ (inside (d .before)), inside (d .before)))
+    let m = c .before .before .before in
+    let g = inside (at m) in
+    (steps.row-there _ _ _ g (k-is (at m)) (m-is m) (n-is m), omega (arith, f-is c, f-below _ _ _ g, g))
 
 returns : tie.Need-returns
-unfolding stepOf
+unfolding b s z at stepOf
 returns c =
-    let f = c .before .before in
-    let n = f .before in
-    let m = n .before in
-    let d = m .before in
-    let k = d .distances-at .ensures .0 in
-    rw (← d .before .centre .ensures)
+    let f = c .before in
+    let m = f .before .before .before in
+    let k = k-is (at m) in
+    rw (← at m .centre .ensures .0)
     (λ i. record {
       k = k i;
       border = record { 0 = m-is m i };
-      border8 = record { 0 = n-is n i };
+      border8 = record { 0 = n-is m i };
       first = f-is f i;
-      two = (c .before .reads-two .ensures ∙ steps.two _ _ _ (m-is m)) i;
-      reads = (c .reads .ensures ∙ steps.reads _ _ _ k (m-is m) (n-is n) (f-is f)) i;
+      two = f .columns-read .ensures .1 .1 .1 _ _ _ (m-is m) i;
+      reads = (c .reads .ensures ∙ steps.reads _ _ _ k (m-is m) (n-is m) (f-is f)) i;
     })
 
 pub axis-step-spec : {M : Type 1} → statement M
-axis-step-spec = tie.close (tie.spec centre-requires distances-at-requires by-parity-requires by-parity-requires-2 first-requires reads-two-requires reads-requires returns)
+axis-step-spec = tie.close (tie.spec centre-requires distances-requires rounded-requires borders-by-parity-requires columns-read-requires reads-requires returns)

@@ -1,4 +1,4 @@
--- `geometry::step::first` meets its contract. Assumes nothing.
+-- `geometry::step::first_column` meets its contract. Assumes nothing.
 use mathlib.Core.Path.{sym}
 use native.Mathlib.Omega.{arith}
 use borrow.Author.Needs.{needs}
@@ -6,8 +6,8 @@ use mir.Syntax.{w32}
 use mir.Val.{SFits}
 use mir.Facts.{toZ-ofZ}
 use Rattle.definitions.proofs.Choices.{yes, no}
-use Rattle.geometry.proofs.step.first.Statement.{statement}
-use Rattle.geometry.proofs.step.first.Tie as tie
+use Rattle.geometry.proofs.step.first_column.Statement.{statement}
+use Rattle.geometry.proofs.step.first_column.Tie as tie
 
 sub-result : tie.Need-sub-result
 sub-result c =
@@ -26,5 +26,5 @@ returns-2 c =
     let f : SFits w32 (c .before .before .before .args .m .0) = search needs in
     sym (no _ _ (rw (toZ-ofZ f) at (c .if1 .left)))
 
-pub first-spec : {M : Type 1} → statement M
-first-spec = tie.close (tie.spec sub-result returns returns-2)
+pub first-column-spec : {M : Type 1} → statement M
+first-column-spec = tie.close (tie.spec sub-result returns returns-2)

@@ -1,11 +1,11 @@
--- `geometry::step::rounded` meets its contract. Assumes nothing.
+-- `geometry::step::to_fours` meets its contract. Assumes nothing.
 use Prim.Native.Nat.{ℕ, _+_, _*_, _/_}
 use mathlib.Core.Path.{_∙_, ap}
 use native.Mathlib.Omega.{arith}
 use borrow.Author.Needs.{needs}
 use Rattle.definitions.specs.Basics.{signed}
-use Rattle.geometry.proofs.step.rounded.Statement.{statement}
-use Rattle.geometry.proofs.step.rounded.Tie as tie
+use Rattle.geometry.proofs.step.to_fours.Statement.{statement}
+use Rattle.geometry.proofs.step.to_fours.Tie as tie
 
 magnitude-requires : tie.Need-magnitude-requires
 magnitude-requires c κs = search needs
@@ -24,5 +24,5 @@ returns c =
     c .with-sign-of .ensures
     ∙ ap (λ (n : ℕ). signed (c .before .before .args .d .0) (4 * ((n + 2) / 4))) (c .before .magnitude .ensures)
 
-pub rounded-spec : {M : Type 1} → statement M
-rounded-spec = tie.close (tie.spec magnitude-requires add-with-sign-of mul-with-sign-of with-sign-of-requires returns)
+pub to-fours-spec : {M : Type 1} → statement M
+to-fours-spec = tie.close (tie.spec magnitude-requires add-with-sign-of mul-with-sign-of with-sign-of-requires returns)
