@@ -167,19 +167,17 @@ fn borders_by_parity(k: u32, d: FromCentre) -> Borders
     ensures m { λ r. ⌜ ((b s c : ℕ) → RoundedAt b s c k (d .d1 .0) (d .d2 .0) → r .border .0 ≡ mOf b s c) ⌝ }
     ensures n { λ r. ⌜ ((b s c : ℕ) → RoundedAt b s c k (d .d1 .0) (d .d2 .0) → r .border8 .0 ≡ nOf b s c) ⌝ }
 {
-    let d1 = d.d1;
-    let d2 = d.d2;
-    if k % 2 == 0 {
-        Borders {
-            border: d1,
-            border8: d2,
-        }
-    } else {
-        Borders {
-            border: d2,
-            border8: d1,
-        }
+    Borders {
+        border: by_parity(k, d.d1, d.d2),
+        border8: by_parity(k, d.d2, d.d1),
     }
+}
+
+// The one where k is even, the other where it is odd.
+fn by_parity(k: u32, one: EnhancementOffset, other: EnhancementOffset) -> EnhancementOffset
+    ensures { λ r. ⌜ r .0 ≡ pick (even k) (one .0) (other .0) ⌝ }
+{
+    if k % 2 == 0 { one } else { other }
 }
 
 // ---- 5. The columns (rows) read, and the class (3.2.1, 3.2.2)
