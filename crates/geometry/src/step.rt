@@ -44,13 +44,13 @@ pub fn axis_step(a: Axis, p: EnhancementSample) -> AxisStep
     requires { ⌜ AtSample a (p .0) × (insideAxis a (p .0) ≡ true) ⌝ }
     ensures { λ r. ⌜ r ≡ stepOf a (p .0) ⌝ }
 {
-    let at = centre(a, p);
-    let unrounded = distances(a.base, a.scaled, at);
-    let d = rounded(unrounded);
-    let chosen = borders_by_parity(at.k, d);
+    let at = centre(a, p); // 1. XP0 + 8 and XC
+    let unrounded = distances(a.base, a.scaled, at); // 2. dX1 and dX2
+    let d = rounded(unrounded); // 3. rounded to fours
+    let chosen = borders_by_parity(at.k, d); // 4. MbBorderX and B8x8BorderX
     let border = chosen.border;
     let border8 = chosen.border8;
-    let columns = columns_read(at.k, border);
+    let columns = columns_read(at.k, border); // 5. XB / 16, one or two
     AxisStep {
         k: at.k,
         border,
@@ -104,7 +104,7 @@ struct FromCentre {
     d2: EnhancementOffset,
 }
 
-// dX1 is to where base sample 8 * (XC >> 3) lies, dX2 to where 8 * ((XC >> 3) + 1) does: d1 = p(k) − c and d2 = p(k+1) − c.
+// dX1 is to where base sample 8 * (XC >> 3) lies, dX2 to where 8 * ((XC >> 3) + 1) does (003 prints 8 * (XC >> 3 + 1)): d1 = p(k) − c and d2 = p(k+1) − c.
 fn distances(b: BaseSample, s: EnhancementSample, at: Centred) -> FromCentre
     requires { ⌜ Inside (b .0) (s .0) (at .c .0) × (at .k ≡ kOf (b .0) (s .0) (at .c .0)) ⌝ }
     ensures d1 { λ r. ⌜ r .d1 .0 ≡ d1Of (b .0) (s .0) (at .c .0) ⌝ }
@@ -223,13 +223,13 @@ fn reads_two(m: EnhancementOffset) -> bool
     !one
 }
 
-// 3.2.2, MbClass of both axes, by whether two columns and two rows are read: Corner where neither, Hori where rows only, Vert where columns only, else Center.
+// 3.2.2, MbClass, by whether two columns and two rows are read. If one column (| MbBorderX | >= 8): Corner or, with two rows, Hori; otherwise Vert or Center.
 pub fn class_of(columns: bool, rows: bool) -> Class
     ensures { λ r. ⌜ r ≡ classOf columns rows ⌝ }
 {
-    if columns {
-        if rows { Class::Center } else { Class::Vert }
+    if !columns {
+        if !rows { Class::Corner } else { Class::Hori }
     } else {
-        if rows { Class::Hori } else { Class::Corner }
+        if !rows { Class::Vert } else { Class::Center }
     }
 }
