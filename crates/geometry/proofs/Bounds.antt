@@ -33,7 +33,7 @@ place-top b s j z h =
 pub difference-small : (a b : ℕ) → a < 65536 → b < 65536 → natAbs (subℕ a b) < 65536
 difference-small a b h g = sub-cases (λ z. natAbs z < 65536) a b (λ l. omega arith) (λ l. omega arith)
 
--- a border that is at most 512 blocks from the edge, from a centre inside
+-- the distance from a centre inside to a border at most 512 blocks from the edge
 pub distance-small : (b s c j : ℕ) → Inside b s c → j ≤ 512 → natAbs (subℕ (pOf b s j) c) < 65536
 distance-small b s c j a h = difference-small _ _ (place-top b s j (a .sized) h) (omega (arith, near b s c a))
 

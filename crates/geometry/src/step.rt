@@ -7,7 +7,9 @@
 //     dX1, dX2                        d1, d2   2. distances
 //     the same, rounded               D1, D2   3. rounded
 //     MbBorderX, B8x8BorderX          M, N     4. borders_by_parity
-//     XB / 16; | MbBorderX | >= 8     F; one   5. columns_read; MbClass of both axes: class_of
+//     XB / 16; | MbBorderX | >= 8     F; one   5. columns_read: F, one or two; MbClass of both axes: class_of
+//
+// From step 3 on 003 writes Z for X and Y (dZi, ZC, MbBorderZ). Here it is quoted for X, because Z is document 01's letter for XC.
 ghost use Prim.Native.Nat.{ℕ, _*_, _+_, _-_, _/_, _<_, _≤_};
 ghost use Rattle.definitions.specs.Accepted.{Inside, Sized};
 ghost use Rattle.definitions.specs.BlockMap.{stepOf};
@@ -44,13 +46,13 @@ pub fn axis_step(a: Axis, p: EnhancementSample) -> AxisStep
     requires { ⌜ AtSample a (p .0) × (insideAxis a (p .0) ≡ true) ⌝ }
     ensures { λ r. ⌜ r ≡ stepOf a (p .0) ⌝ }
 {
-    let at = centre(a, p); // 1. XP0 + 8 and XC
+    let at = centre(a, p); // 1. XP0 + 8, XC and XC >> 3
     let unrounded = distances(a.base, a.scaled, at); // 2. dX1 and dX2
     let d = rounded(unrounded); // 3. rounded to fours
     let chosen = borders_by_parity(at.k, d); // 4. MbBorderX and B8x8BorderX
+    let columns = columns_read(at.k, chosen.border); // 5. XB / 16, one or two
     let border = chosen.border;
     let border8 = chosen.border8;
-    let columns = columns_read(at.k, border); // 5. XB / 16, one or two
     AxisStep {
         k: at.k,
         border,
@@ -62,7 +64,8 @@ pub fn axis_step(a: Axis, p: EnhancementSample) -> AxisStep
 }
 
 // ---- 1. The centre (3.1.2)
-// The macroblock's centre on both scales: c, which is XP0 + 8, in the high layer's reference, and Z, which is XC, in the base layer's; and k, which is XC >> 3.
+// The macroblock's centre: c, which is XP0 + 8, on the high layer's scale, counted from the window's edge; Z, which is XC, in the base layer; k, which is XC >> 3.
+// 003 has the formula of XC first and then that of XP0, which stands in it.
 struct Centred {
     c: EnhancementSample,
     z: BaseSample,
@@ -98,13 +101,14 @@ fn base_layer_centre(b: BaseSample, s: EnhancementSample, c: EnhancementSample) 
 }
 
 // ---- 2. Both distances (3.1.2)
-// From the centre to the border of the base's 8 by 8 block k before it, and to the one after it: dX1 and dX2, unrounded d1 and d2, rounded D1 and D2.
+// From the centre to where the base's 8 by 8 block k starts, and to where it ends: dX1 and dX2, unrounded d1 and d2, rounded D1 and D2.
 struct FromCentre {
     d1: EnhancementOffset,
     d2: EnhancementOffset,
 }
 
-// dX1 is to where base sample 8 * (XC >> 3) lies, dX2 to where 8 * ((XC >> 3) + 1) does (003 prints 8 * (XC >> 3 + 1)): d1 = p(k) − c and d2 = p(k+1) − c.
+// dX1 = (8 * (XC >> 3) * ScaledBaseWidth + BasePicWidth / 2) / BasePicWidth - (XP0 + 8), and dX2 the same with 8 * ((XC >> 3) + 1). 003 prints
+// 8 * (XC >> 3 + 1), which in C would be XC >> 4. d1 = p(k) − c and d2 = p(k+1) − c.
 fn distances(b: BaseSample, s: EnhancementSample, at: Centred) -> FromCentre
     requires { ⌜ Inside (b .0) (s .0) (at .c .0) × (at .k ≡ kOf (b .0) (s .0) (at .c .0)) ⌝ }
     ensures d1 { λ r. ⌜ r .d1 .0 ≡ d1Of (b .0) (s .0) (at .c .0) ⌝ }
@@ -116,7 +120,7 @@ fn distances(b: BaseSample, s: EnhancementSample, at: Centred) -> FromCentre
     }
 }
 
-// (8 * j * ScaledBaseWidth + BasePicWidth / 2) / BasePicWidth, where base sample 8j lies on the high layer's scale: p(j) = (8·j·S + B/2) / B.
+// The quotient in dX1 and dX2, with j for XC >> 3 or that + 1: where base sample 8j lies on the high layer's scale. p(j) = (8·j·S + B/2) / B.
 fn grid_sample(b: BaseSample, s: EnhancementSample, j: u32) -> EnhancementSample
     requires { ⌜ Sized (b .0) (s .0) × (j ≤ 512) ⌝ }
     ensures { λ r. ⌜ r .0 ≡ pOf (b .0) (s .0) j ⌝ }
@@ -124,7 +128,7 @@ fn grid_sample(b: BaseSample, s: EnhancementSample, j: u32) -> EnhancementSample
     EnhancementSample((8 * j * s.0 + b.0 / 2) / b.0)
 }
 
-// From (XP0 + 8) to a border: p − c.
+// Less (XP0 + 8): p − c.
 fn distance(p: EnhancementSample, c: EnhancementSample) -> EnhancementOffset
     requires { ⌜ (p .0 < 65536) × (c .0 < 65536) ⌝ }
     ensures { λ r. ⌜ r .0 ≡ subℕ (p .0) (c .0) ⌝ }
@@ -133,7 +137,7 @@ fn distance(p: EnhancementSample, c: EnhancementSample) -> EnhancementOffset
 }
 
 // ---- 3. Their rounding to fours (3.1.2)
-// dZi = sign(dZi) * ((| dZi | + 2) / 4) * 4 with i = 1, 2: D1 and D2.
+// dXi = sign(dXi) * ((| dXi | + 2) / 4) * 4 with i = 1, 2: D1 and D2.
 fn rounded(d: FromCentre) -> FromCentre
     requires { ⌜ (natAbs (d .d1 .0) < 65536) × (natAbs (d .d2 .0) < 65536) ⌝ }
     ensures d1 { λ r. ⌜ r .d1 .0 ≡ roundedOf (d .d1 .0) ⌝ }
@@ -154,13 +158,13 @@ fn to_fours(d: EnhancementOffset) -> EnhancementOffset
 }
 
 // ---- 4. The choice of border (3.1.2)
-// MbBorderZ, to the nearest border of a base macroblock, and B8x8BorderZ, to the nearest border inside one: M and N.
+// 3.1.1: MbBorderX is to the nearest base macroblock border, B8x8BorderX to the nearest base 8 by 8 block border, the one in a macroblock's middle: M and N.
 struct Borders {
     border: EnhancementOffset,
     border8: EnhancementOffset,
 }
 
-// If (8 * (ZC >> 3)) % 16 == 0, which is k even, MbBorderZ = dZ1 and B8x8BorderZ = dZ2, otherwise MbBorderZ = dZ2 and B8x8BorderZ = dZ1.
+// If (8 * (XC >> 3)) % 16 == 0, which is k even, MbBorderX = dX1 and B8x8BorderX = dX2, otherwise MbBorderX = dX2 and B8x8BorderX = dX1.
 fn borders_by_parity(k: u32, d: FromCentre) -> Borders
     ensures border { λ r. ⌜ r .border .0 ≡ pick (even k) (d .d1 .0) (d .d2 .0) ⌝ }
     ensures border8 { λ r. ⌜ r .border8 .0 ≡ pick (even k) (d .d2 .0) (d .d1 .0) ⌝ }
@@ -202,7 +206,7 @@ fn columns_read(k: u32, m: EnhancementOffset) -> Columns
     }
 }
 
-// F: k/2 − 1 if k is even and M > −8, else k/2.
+// F, in document 01's words.
 fn first_column(k: u32, m: EnhancementOffset) -> u32
     requires { ⌜ ((even k && ltZ (minus 8) (m .0)) ≡ true → 2 ≤ k) ⌝ }
     ensures { λ r. ⌜ r ≡ pick (even k && ltZ (minus 8) (m .0)) (k / 2 - 1) (k / 2) ⌝ }
@@ -223,7 +227,7 @@ fn reads_two(m: EnhancementOffset) -> bool
     !one
 }
 
-// 3.2.2, MbClass, by whether two columns and two rows are read. If one column (| MbBorderX | >= 8): Corner or, with two rows, Hori; otherwise Vert or Center.
+// 3.2.2, MbClass. One column (| MbBorderX | >= 8): Corner with one row, Hori with two; otherwise Vert with one row, Center with two.
 pub fn class_of(columns: bool, rows: bool) -> Class
     ensures { λ r. ⌜ r ≡ classOf columns rows ⌝ }
 {

@@ -26,25 +26,25 @@ module _ (c : tie.After-centre) where
   s : ℕ
   s = scaledSize (c .before .args .a)
 
-  z : ℕ
-  z = c .centre .result .c .0
+  mid : ℕ
+  mid = c .centre .result .c .0
 
-  inside : Inside b s z
-  unfolding b s z
+  inside : Inside b s mid
+  unfolding b s mid
   inside =
       let e = c .before in
       rw (c .centre .ensures .0) (inside-axis (e .args .a) (e .args .p .0) (e .pre .0 .accepted) (e .pre .1))
 
-  k-is : c .centre .result .k ≡ kOf b s z
-  unfolding b s z
+  k-is : c .centre .result .k ≡ kOf b s mid
+  unfolding b s mid
   k-is = rw (c .centre .ensures .0) (c .centre .ensures .1 .1)
 
 distances-requires : tie.Need-distances-requires
-unfolding b s z
+unfolding b s mid
 distances-requires c κs = (inside c, k-is c)
 
 rounded-requires : tie.Need-rounded-requires
-unfolding b s z
+unfolding b s mid
 rounded-requires c κs =
     let at = c .before in
     let r = room _ _ _ (inside at) in
@@ -58,43 +58,42 @@ module _ (c : tie.After-borders-by-parity) where
   at : tie.After-centre
   at = c .before .before .before
 
-  rounded-at : RoundedAt (b at) (s at) (z at) (at .centre .result .k) (c .before .rounded .result .d1 .0) (c .before .rounded .result .d2 .0)
-  unfolding b s z at
+  rounded-at : RoundedAt (b at) (s at) (mid at) (at .centre .result .k) (c .before .rounded .result .d1 .0) (c .before .rounded .result .d2 .0)
+  unfolding b s mid at
   rounded-at =
       let d = c .before .before .distances .ensures in
       record { k-is = k-is at; d1-is = c .before .rounded .ensures .0 ∙ ap roundedOf (d .0); d2-is = c .before .rounded .ensures .1 ∙ ap roundedOf (d .1) }
 
-  m-is : c .borders-by-parity .result .border .0 ≡ mOf (b at) (s at) (z at)
-  unfolding b s z at
+  m-is : c .borders-by-parity .result .border .0 ≡ mOf (b at) (s at) (mid at)
+  unfolding b s mid at
   m-is = c .borders-by-parity .ensures .1 .1 .0 _ _ _ rounded-at
 
-  n-is : c .borders-by-parity .result .border8 .0 ≡ nOf (b at) (s at) (z at)
-  unfolding b s z at
+  n-is : c .borders-by-parity .result .border8 .0 ≡ nOf (b at) (s at) (mid at)
+  unfolding b s mid at
   n-is = c .borders-by-parity .ensures .1 .1 .1 _ _ _ rounded-at
 
 columns-read-requires : tie.Need-columns-read-requires
-unfolding b s z at
-columns-read-requires c κs =
-    let m = c .before .before in
-    steps.columns-asked _ _ _ (inside (at m)) (k-is (at m)) (m-is m)
+unfolding b s mid at
+columns-read-requires c κs = steps.columns-asked _ _ _ (inside (at c)) (k-is (at c)) (m-is c)
 
 -- and F what the fifth gives
-f-is : (c : tie.After-columns-read) → let g = at (c .before .before .before) in c .columns-read .result .first ≡ fOf (b g) (s g) (z g)
-unfolding b s z at
-f-is c = let m = c .before .before .before in c .columns-read .ensures .1 .1 .0 _ _ _ (k-is (at m)) (m-is m)
+f-is : (c : tie.After-columns-read) → let g = at (c .before) in c .columns-read .result .first ≡ fOf (b g) (s g) (mid g)
+unfolding b s mid at
+f-is c = let m = c .before in c .columns-read .ensures .1 .1 .0 _ _ _ (k-is (at m)) (m-is m)
 
 reads-requires : tie.Need-reads-requires
-unfolding b s z at
+unfolding b s mid at
 reads-requires c κs =
-    let m = c .before .before .before in
+    let f = c .before .before in
+    let m = f .before in
     let g = inside (at m) in
-    (steps.row-there _ _ _ g (k-is (at m)) (m-is m) (n-is m), omega (arith, f-is c, f-below _ _ _ g, g))
+    (steps.row-there _ _ _ g (k-is (at m)) (m-is m) (n-is m), omega (arith, f-is f, f-below _ _ _ g, g))
 
 returns : tie.Need-returns
-unfolding b s z at stepOf
+unfolding b s mid at stepOf
 returns c =
-    let f = c .before in
-    let m = f .before .before .before in
+    let f = c .before .before .before in
+    let m = f .before in
     let k = k-is (at m) in
     rw (← at m .centre .ensures .0)
     (λ i. record {

@@ -15,7 +15,7 @@ returns : tie.Need-returns
 returns c =
     let m = c .before .by-parity .ensures in
     let n = c .by-parity2 .ensures in
-    (m, (n, (λ b s z h. m ∙ steps.border b s z h, λ b s z h. n ∙ steps.border8 b s z h)))
+    (m, (n, (λ b s mid h. m ∙ steps.border b s mid h, λ b s mid h. n ∙ steps.border8 b s mid h)))
 
 pub borders-by-parity-spec : {M : Type 1} → statement M
 borders-by-parity-spec = tie.close (tie.spec by-parity-requires by-parity-requires-2 returns)

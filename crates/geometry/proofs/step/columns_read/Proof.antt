@@ -15,7 +15,7 @@ returns : tie.Need-returns
 returns c =
     let first = c .before .first-column .ensures in
     let two = c .reads-two .ensures in
-    (first, (two, (λ b s z k-is m-is. first ∙ steps.first b s z k-is m-is, λ b s z m-is. two ∙ steps.two b s z m-is)))
+    (first, (two, (λ b s mid k-is m-is. first ∙ steps.first b s mid k-is m-is, λ b s mid m-is. two ∙ steps.two b s mid m-is)))
 
 pub columns-read-spec : {M : Type 1} → statement M
 columns-read-spec = tie.close (tie.spec first-column-requires reads-two-requires returns)
