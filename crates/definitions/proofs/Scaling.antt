@@ -1,64 +1,22 @@
 -- Step 4 keeps motions apart (S ≥ B), so a split before it or after it is the same. Assumes nothing.
-use Prim.Native.Nat.{ℕ, zero, suc, _+_, _*_, _/_, _≤_, _<_}
-use mathlib.Core.Path.{_≡_, refl, sym, _∙_, ap}
-use mathlib.Core.Bool.{Bool, true, false, _&&_}
+use Prim.Native.Nat.{ℕ}
+use mathlib.Core.Path.{_≡_, sym, _∙_, ap}
+use mathlib.Core.Bool.{_&&_}
 use mathlib.Core.List.{List}
-use native.Mathlib.Nat.{le-div-iff-mul-le, div-mul-le-self, mul-le-mul-right, le-antisymm}
-use native.Mathlib.Omega.{arith}
-use lib.Dec.{ltb}
-use lib.IntN.{ℤ, pos, negsuc, natAbs, pos-ne-negsuc}
-use borrow.Author.Tests.{ltb-true, ltb-false}
 use Rattle.definitions.specs.declared.Axes.{Axes}
 use Rattle.definitions.specs.declared.Prediction.{Prediction}
 use Rattle.definitions.specs.declared.Motion.{Motion}
 use Rattle.definitions.specs.declared.Split.the-variants.{S8x8 as Quarters}
-use Rattle.definitions.specs.Basics.{pick, minus, four}
+use Rattle.definitions.specs.Basics.{pick, four}
 use Rattle.definitions.specs.Geometry.{baseSize, scaledSize}
 use Rattle.definitions.specs.Accepted.{Sized}
 use Rattle.definitions.specs.Splits.{sameMotion}
-use Rattle.definitions.specs.Inheriting.{at, scaledWord, scaledPrediction, scaledMotion, chosen}
+use Rattle.definitions.specs.Inheriting.{at, scaledPrediction, scaledMotion, chosen}
 use Rattle.definitions.proofs.Choices.{both-ways}
-use Rattle.definitions.proofs.Rounding.{sizeOf}
+use Rattle.definitions.proofs.Rounding.{word-apart}
 use Rattle.definitions.proofs.Motions.{motion-true, motion-same}
 use Rattle.definitions.proofs.Shapes.{cut, samePairs, shapeOf, quadrantShape, shapesOf, allWhole, joined, splitOf}
 use Rattle.definitions.proofs.Fewest.{chosen-is}
-
--- ---- words
-size-rises : (b s m n : ℕ) → Sized b s → m < n → sizeOf b s m < sizeOf b s n
-size-rises b s m n z h =
-    let hb : 0 < b = omega arith in
-    le-div-iff-mul-le hb .1 (omega (arith, div-mul-le-self (m * s + b / 2) b, mul-le-mul-right s h))
-
-size-below : (b s m n : ℕ) → Sized b s → sizeOf b s m ≡ sizeOf b s n → m ≤ n
-size-below b s m n z e = by (ltb n m) refl
-  where
-    by : (t : Bool) → ltb n m ≡ t → m ≤ n
-    by true l = absurd (omega (arith, size-rises b s n m z (ltb-true n m l)))
-    by false l = ltb-false n m l
-
-size-apart : (b s m n : ℕ) → Sized b s → sizeOf b s m ≡ sizeOf b s n → m ≡ n
-size-apart b s m n z e = le-antisymm (size-below b s m n z e) (size-below b s n m z (sym e))
-
-size-positive : (b s n : ℕ) → Sized b s → 0 < sizeOf b s (suc n)
-size-positive b s n z = omega (arith, size-rises b s 0 (suc n) z (omega arith))
-
--- −n as a number below 0
-minus-size : (n : ℕ) → natAbs (minus n) ≡ n
-minus-size zero = refl
-minus-size (suc n) = refl
-
-minus-below : (m n : ℕ) → 0 < n → pos m ≡ minus n → ⊥
-minus-below m zero h e = omega arith
-minus-below m (suc n) h e = pos-ne-negsuc m n e
-
-pub word-apart : (b s : ℕ) (v w : ℤ) → Sized b s → scaledWord b s v ≡ scaledWord b s w → v ≡ w
-word-apart b s (pos m) (pos n) z e = ap pos (size-apart b s m n z (ap natAbs e))
-word-apart b s (pos m) (negsuc n) z e = absurd (minus-below (sizeOf b s m) (sizeOf b s (suc n)) (size-positive b s n z) e)
-word-apart b s (negsuc m) (pos n) z e = absurd (minus-below (sizeOf b s n) (sizeOf b s (suc m)) (size-positive b s m z) (sym e))
-word-apart b s (negsuc m) (negsuc n) z e =
-    let same : sizeOf b s (suc m) ≡ sizeOf b s (suc n) = sym (minus-size (sizeOf b s (suc m))) ∙ (ap natAbs e ∙ minus-size (sizeOf b s (suc n))) in
-    let k : m ≡ n = omega (arith, size-apart b s (suc m) (suc n) z same) in
-    ap negsuc k
 
 -- ---- motions, by accepted axes
 module _ (g : Axes) (h : Sized (baseSize (g .horizontal)) (scaledSize (g .horizontal))) (v : Sized (baseSize (g .vertical)) (scaledSize (g .vertical))) where

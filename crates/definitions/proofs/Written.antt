@@ -3,7 +3,7 @@ use Prim.Native.Nat.{ℕ, zero, suc, _+_, _-_, _*_, _/_, _≤_, _<_}
 use mathlib.Core.Path.{_≡_, refl, sym, ap, subst, _∙_}
 use mathlib.Core.Bool.{Bool, true, false, not, _&&_, _||_}
 use mathlib.Core.List.{List, []}
-use native.Mathlib.Nat.{le-trans, div-eq-of-lt}
+use native.Mathlib.Nat.{le-trans}
 use native.Mathlib.Omega.{arith}
 use lib.Count.{ones}
 use lib.Dec.{T, leb→le, le→leb}
@@ -34,7 +34,7 @@ use Rattle.definitions.specs.Calls.{Outcome}
 use Rattle.definitions.specs.Demand3.{Case}
 use Rattle.definitions.specs.Written.{vectorsInRange, AsRecord, WrittenEntire, withoutStep1, Step1Unseen}
 use Rattle.definitions.proofs.Choices.{yes, no, and-intro, both-true, or-left, or-right, eqZ-true, four-at, four-same, below-true, below-intro, below-same}
-use Rattle.definitions.proofs.Rounding.{range}
+use Rattle.definitions.proofs.Rounding.{sizeOf, range}
 use Rattle.definitions.proofs.Accepted.{accepted-axes, across-inside, down-inside}
 use Rattle.definitions.proofs.Addresses.{address-named, address-below}
 use Rattle.definitions.proofs.Steps.{Both, usesList, resolved-keeps, resolved-settled, resolved-uses, not-used}
@@ -70,11 +70,8 @@ twice b s limit v z e =
     and-intro low (higher (scaledWord b s v) (2 * (limit - 1)) (2 * limit - 1) (omega arith) (r .1))
 
 -- 0 stays 0
-zero-scaled : (b s : ℕ) → Sized b s → scaledWord b s (pos 0) ≡ pos 0
-zero-scaled b s z =
-    let e : 0 * s + b / 2 ≡ b / 2 = omega arith in
-    let l : b / 2 < b = omega arith in
-    ap pos (ap (λ (x : ℕ). x / b) e ∙ div-eq-of-lt l)
+zero-scaled : (b s : ℕ) → scaledWord b s (pos 0) ≡ pos 0
+zero-scaled b s = let e : sizeOf 32768 b s 0 ≡ 0 = omega arith in ap pos e
 
 two : (P : ℕ → Type 0) → P 0 → P 1 → (l : ℕ) → l < 2 → P l
 two P a b zero h = a
@@ -332,9 +329,9 @@ module _ (limit : ℕ) (g : Axes) (base : List ℤ) (column row : ℕ) (formed :
           let p = at there q k .list0 in
           let o = at there q k .list1 in
           let across : (z : Prediction) → z ≡ unused → scaledWord (baseSize (g .horizontal)) (scaledSize (g .horizontal)) (z .x) ≡ pos 0 =
-          λ z e. ap (λ (y : Prediction). scaledWord (baseSize (g .horizontal)) (scaledSize (g .horizontal)) (y .x)) e ∙ zero-scaled _ _ h in
+          λ z e. ap (λ (y : Prediction). scaledWord (baseSize (g .horizontal)) (scaledSize (g .horizontal)) (y .x)) e ∙ zero-scaled _ _ in
           let down : (z : Prediction) → z ≡ unused → scaledWord (baseSize (g .vertical)) (scaledSize (g .vertical)) (z .y) ≡ pos 0 =
-          λ z e. ap (λ (y : Prediction). scaledWord (baseSize (g .vertical)) (scaledSize (g .vertical)) (y .y)) e ∙ zero-scaled _ _ v in
+          λ z e. ap (λ (y : Prediction). scaledWord (baseSize (g .vertical)) (scaledSize (g .vertical)) (y .y)) e ∙ zero-scaled _ _ in
           two (λ l. ((used (referenceOf written q l) || eqZ (vectorXOf written b l) (pos 0)) ≡ true) × ((used (referenceOf written q l) || eqZ (vectorYOf written b l) (pos 0)) ≡ true)) (
             ap (λ (z : ℤ). used z || eqZ (vectorXOf written b 0) (pos 0)) (r .0) ∙ empty p (t .zero0 k hk) _ (λ e. w .0 ∙ (ap (λ (n : Motion). n .list0 .x) m ∙ across p e)),
             ap (λ (z : ℤ). used z || eqZ (vectorYOf written b 0) (pos 0)) (r .0) ∙ empty p (t .zero0 k hk) _ (λ e. w .1 ∙ (ap (λ (n : Motion). n .list0 .y) m ∙ down p e)),

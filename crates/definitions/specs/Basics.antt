@@ -4,7 +4,7 @@ use mathlib.Core.Bool.{Bool, true, false, _&&_}
 use mathlib.Core.List.{List, [], _∷_, _++_}
 use lib.Dec.{eqb}
 use lib.IntN.{ℤ, pos, negsuc, negℤ}
-use lib.Signed.{leZ}
+use lib.Signed.{leZ, shrZ}
 
 -- the first of two where the test holds, else the second
 unfoldable pub pick : {A : Type 0} → Bool → A → A → A
@@ -25,6 +25,10 @@ eqZ (negsuc m) (negsuc n) = eqb m n
 -- z is in low..high
 abbrev pub between : ℤ → ℤ → ℤ → Bool
 between low high z = leZ low z && leZ z high
+
+-- z / n, rounded down, also below zero: −1 − m gives −1 − m/n
+abbrev pub down : ℤ → ℕ → ℤ
+down z n = shrZ z n
 
 -- sign(z) · n. (Where z is 0, document 01's n is 0 too.)
 abbrev pub signed : ℤ → ℕ → ℤ

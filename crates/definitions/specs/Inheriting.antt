@@ -4,14 +4,14 @@ use mathlib.Core.Bool.{Bool, false, not, _||_}
 use mathlib.Core.List.{List, []}
 use lib.Count.{ones}
 use lib.Dec.{eqb, leb}
-use lib.IntN.{ℤ, pos, natAbs}
+use lib.IntN.{ℤ, pos, _+ℤ_, _*ℤ_}
 use lib.ListN.{getD}
 use lib.Signed.{ltZ}
 use Rattle.definitions.specs.declared.Axes.{Axes}
 use Rattle.definitions.specs.declared.Prediction.{Prediction}
 use Rattle.definitions.specs.declared.Motion.{Motion}
 use Rattle.definitions.specs.declared.Split.{Split}
-use Rattle.definitions.specs.Basics.{pick, minus, eqZ, signed, howMany, four}
+use Rattle.definitions.specs.Basics.{pick, minus, eqZ, down, howMany, four}
 use Rattle.definitions.specs.Geometry.{baseSize, scaledSize}
 use Rattle.definitions.specs.BlockMap.{addressRead, blockRead}
 use Rattle.definitions.specs.Record.{recordAt, isIntra, motionOf, used}
@@ -124,9 +124,13 @@ copied live m = four (λ q. getD m (copiedFrom live q) [])
 unfoldable pub resolved : ℕ → List (List Motion) → List (List Motion)
 resolved set m = copied (liveOf set) (four (λ q. merged (filled (clearOf set q) (getD m q []))))
 
--- Step 4. Each vector word v becomes sign(v) · ((|v|·S + B/2) / B) by its axis.
+-- Step 4, as document 02's E3 has it: the scale of an axis is (S · 65,536 + B/2) / B, and a vector word v becomes (v · scale + 32,768) / 65,536 by its axis, rounded
+-- down, also below zero.
+abbrev pub scaleOf : ℕ → ℕ → ℕ
+scaleOf b s = (s * 65536 + b / 2) / b
+
 abbrev pub scaledWord : ℕ → ℕ → ℤ → ℤ
-scaledWord b s v = signed v ((natAbs v * s + b / 2) / b)
+scaledWord b s v = down (v *ℤ pos (scaleOf b s) +ℤ pos 32768) 65536
 
 unfoldable pub scaledPrediction : Axes → Prediction → Prediction
 scaledPrediction g p = record {

@@ -2,12 +2,13 @@
 -- every digit; and in the window as it is seen the two overlap. WhyEntire gathers these reasons, and proofs/Why shows them. No other definition cites them.
 use Prim.Native.Nat.{ℕ, _+_, _*_, _-_, _/_, _%_, _<_, _≤_}
 use mathlib.Core.Path.{_≡_}
-use lib.IntN.{ℤ, pos, negℤ, natAbs, _*ℤ_, _-ℤ_}
-use lib.Signed.{_≤ℤ_}
-use Rattle.definitions.specs.Basics.{minus}
+use lib.IntN.{ℤ, pos, natAbs, _*ℤ_, _-ℤ_}
+use lib.Signed.{_≤ℤ_, _<ℤ_}
+use Rattle.definitions.specs.Basics.{minus, signed}
 use Rattle.definitions.specs.Accepted.{Sized, Inside}
 use Rattle.definitions.specs.Geometry.{kOf, d1Of, d2Of, roundedOf}
 use Rattle.definitions.specs.BlockMap.{coordinateOf}
+use Rattle.definitions.specs.Record.{narrow}
 use Rattle.definitions.specs.Inheriting.{scaledWord}
 
 -- ---- The table
@@ -43,11 +44,14 @@ pub record Overlaps (b s q x : ℕ) : Type 0 where
 abbrev pub errorOf : ℕ → ℕ → ℤ → ℤ → ℕ
 errorOf b s v v′ = natAbs (pos b *ℤ v′ -ℤ pos s *ℤ v)
 
--- v′ is the whole number nearest to v·S/B: it is at most a half away, and where two are exactly a half away it is the one further from zero, with |v′|
--- above |v|·S/B. The scaled word is, and no other number is.
-pub record Nearest (b s : ℕ) (v v′ : ℤ) : Type 0 where
+-- v′ is the whole number nearest to v·S/B: it is at most a half away, and where two are exactly a half away it is the upper one, above v·S/B.
+pub record NearestUp (b s : ℕ) (v v′ : ℤ) : Type 0 where
   pub near : 2 * errorOf b s v v′ ≤ b
-  pub half : 2 * errorOf b s v v′ ≡ b → natAbs v * s < natAbs v′ * b
+  pub half : 2 * errorOf b s v v′ ≡ b → (pos s *ℤ v) <ℤ (pos b *ℤ v′)
+
+-- The rule that document 01 had first, before document 02's E3: sign(v) · ((|v|·S + B/2) / B), the nearest, halves away from zero.
+abbrev pub firstRule : ℕ → ℕ → ℤ → ℤ
+firstRule b s v = signed v ((natAbs v * s + b / 2) / b)
 
 -- ---- The reasons
 -- For every accepted B and S, every macroblock inside with block i along an axis, and every vector word v
@@ -61,12 +65,16 @@ pub record WhyEntire : Type 0 where
   pub formula : (b s c n : ℕ) → Inside b s c → n < 4 → coordinateOf b s c n ≡ (centreOf (middleOf b s c) n - n % 2) / widthOf b s c
   -- in the window as it is seen, the block overlaps the scaled picture of the base block that it reads;
   pub overlap : (b s c i : ℕ) → Inside b s c → i < 4 → Overlaps b s (coordinateOf b s c i) (centreOf c i)
-  -- the scaled word is the whole number nearest to v·S/B,
-  pub nearest : (b s : ℕ) (v : ℤ) → Sized b s → Nearest b s v (scaledWord b s v)
-  -- and the only one;
-  pub only-nearest : (b s : ℕ) (v v′ : ℤ) → Sized b s → Nearest b s v v′ → v′ ≡ scaledWord b s v
-  -- −v becomes the same but for its sign;
-  pub odd : (b s : ℕ) (v : ℤ) → Sized b s → scaledWord b s (negℤ v) ≡ negℤ (scaledWord b s v)
+  -- a larger word becomes a larger one,
+  pub rising : (b s : ℕ) (v w : ℤ) → Sized b s → v <ℤ w → scaledWord b s v <ℤ scaledWord b s w
+  -- so that two different words never scale to one;
+  pub apart : (b s : ℕ) (v w : ℤ) → Sized b s → scaledWord b s v ≡ scaledWord b s w → v ≡ w
+  -- the scaled word is at most a half and |v|/131,072 from v·S/B: 2 · 65,536 · |B·v′ − S·v| ≤ B · (65,536 + |v|);
+  pub error : (b s : ℕ) (v : ℤ) → Sized b s → 2 * 65536 * errorOf b s v (scaledWord b s v) ≤ b * (65536 + natAbs v)
+  -- where S · 65,536 / B is whole it is the whole number nearest to v·S/B, halves up,
+  pub nearest : (b s : ℕ) (v : ℤ) → Sized b s → s * 65536 % b ≡ 0 → NearestUp b s v (scaledWord b s v)
+  -- and at the narrow limit it differs from the first rule's by at most 1;
+  pub first-rule : (b s : ℕ) (v : ℤ) → Sized b s → natAbs v ≤ narrow → natAbs (scaledWord b s v -ℤ firstRule b s v) ≤ 1
   -- a word of −limit..limit − 1 becomes one of −2·limit..2·(limit − 1), for rule 5's limit and any other.
   pub range : (b s limit : ℕ) (v : ℤ) → Sized b s → minus limit ≤ℤ v → v ≤ℤ pos (limit - 1)
       → (minus (2 * limit) ≤ℤ scaledWord b s v) × (scaledWord b s v ≤ℤ pos (2 * (limit - 1)))
