@@ -129,8 +129,11 @@ resolved set m = copied (liveOf set) (four (λ q. merged (filled (clearOf set q)
 abbrev pub scaleOf : ℕ → ℕ → ℕ
 scaleOf b s = (s * 65536 + b / 2) / b
 
+abbrev pub scaledBy : ℕ → ℤ → ℤ
+scaledBy scale v = down (v *ℤ pos scale +ℤ pos 32768) 65536
+
 abbrev pub scaledWord : ℕ → ℕ → ℤ → ℤ
-scaledWord b s v = down (v *ℤ pos (scaleOf b s) +ℤ pos 32768) 65536
+scaledWord b s v = scaledBy (scaleOf b s) v
 
 unfoldable pub scaledPrediction : Axes → Prediction → Prediction
 scaledPrediction g p = record {

@@ -1,6 +1,4 @@
 -- Laws that the proofs of the functions cite.
-mod Range
-mod Signs
-mod Inverse
-mod ByScales
+mod Words
+pub mod ByScales
 mod Once

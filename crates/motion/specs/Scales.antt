@@ -1,30 +1,26 @@
--- Step 4 of "Inheriting" by an axis's scale: B, S, and a number that is computed once.
-use Prim.Native.Nat.{ℕ, _+_, _/_, _^_}
-use mathlib.Core.Path.{_≡_}
-use Rattle.definitions.specs.declared.Axis.{Axis}
+-- Step 4 of "Inheriting" by the scales of both axes, which are made once.
+use Prim.Native.Nat.{ℕ, _≤_}
+use Rattle.definitions.specs.declared.Axes.{Axes}
 use Rattle.definitions.specs.declared.Motion.{Motion}
 use Rattle.definitions.specs.declared.Prediction.{Prediction}
-use Rattle.definitions.specs.Accepted.{Sized}
 use Rattle.definitions.specs.Geometry.{baseSize, scaledSize}
-use Rattle.definitions.specs.Inheriting.{scaledWord}
-use Rattle.motion.specs.declared.Scale.{Scale}
+use Rattle.definitions.specs.Inheriting.{scaleOf, scaledBy}
+use Rattle.motion.specs.declared.Scales.{Scales}
 
--- A product with it, over 2^40, is a quotient by B (proofs/Inverse).
-abbrev pub inverseOf : ℕ → ℕ
-inverseOf b = 2 ^ 40 / b + 1
+abbrev pub scalesOf : Axes → Scales
+scalesOf g = record {
+  horizontal = scaleOf (baseSize (g .horizontal)) (scaledSize (g .horizontal));
+  vertical = scaleOf (baseSize (g .vertical)) (scaledSize (g .vertical));
+}
 
-abbrev pub scaleOf : Axis → Scale
-scaleOf a = record { base = baseSize a; scaled = scaledSize a; inverse = inverseOf (baseSize a) }
+-- no scale is above that of S = 2B
+pub record AcceptedScales (s : Scales) : Type 0 where
+  pub horizontal : s .horizontal ≤ 131072
+  pub vertical : s .vertical ≤ 131072
 
--- a scale of an accepted geometry
-pub record AcceptedScale (s : Scale) : Type 0 where
-  pub sized : Sized (s .base) (s .scaled)
-  pub inverse : s .inverse ≡ inverseOf (s .base)
+-- scaledPrediction and scaledMotion, by the scales
+abbrev pub predictionScaled : Scales → Prediction → Prediction
+predictionScaled s p = record { reference = p .reference; x = scaledBy (s .horizontal) (p .x); y = scaledBy (s .vertical) (p .y) }
 
--- scaledPrediction and scaledMotion, with B and S from the horizontal and the vertical scale
-abbrev pub predictionScaled : Scale → Scale → Prediction → Prediction
-predictionScaled h v p =
-    record { reference = p .reference; x = scaledWord (h .base) (h .scaled) (p .x); y = scaledWord (v .base) (v .scaled) (p .y) }
-
-abbrev pub motionScaled : Scale → Scale → Motion → Motion
-motionScaled h v m = record { list0 = predictionScaled h v (m .list0); list1 = predictionScaled h v (m .list1) }
+abbrev pub motionScaled : Scales → Motion → Motion
+motionScaled s m = record { list0 = predictionScaled s (m .list0); list1 = predictionScaled s (m .list1) }

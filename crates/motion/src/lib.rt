@@ -1,17 +1,17 @@
 // A block's motion: whether two are the same, and step 4 of "Inheriting", the vectors scaled.
-ghost use Prim.Native.Nat.{_*_, _+_, _/_, _<_, _≤_};
+ghost use Prim.Native.Nat.{_-_, _≤_};
 ghost use Rattle.definitions.proofs.Shapes.{quadrantShape};
 ghost use Rattle.definitions.specs.Accepted.{AcceptedAxis};
-ghost use Rattle.definitions.specs.Inheriting.{at, chosen, scaledMotion, scaledWord, zeroMotion};
+ghost use Rattle.definitions.specs.Geometry.{baseSize, scaledSize};
+ghost use Rattle.definitions.specs.Inheriting.{at, chosen, scaleOf, scaledBy, zeroMotion};
 ghost use Rattle.definitions.specs.Record.{narrow};
 ghost use Rattle.definitions.specs.Splits.{sameMotion, samePrediction};
-ghost use Rattle.definitions.specs.Basics.{eqZ, four, signed};
+ghost use Rattle.definitions.specs.Basics.{between, eqZ, four, minus};
 ghost use Rattle.motion.specs.Range.{AllInRange, BothInRange, InRange, QuadrantInRange};
-ghost use Rattle.motion.specs.Scales.{AcceptedScale, motionScaled, predictionScaled, scaleOf};
-ghost use lib.IntN.{natAbs, pos};
+ghost use Rattle.motion.specs.Scales.{AcceptedScales, motionScaled, predictionScaled, scalesOf};
+ghost use lib.IntN.{pos};
 ghost use lib.ListN.{getD};
-ghost use lib.Signed.{_≤ℤ_};
-ghost use mathlib.Core.Bool.{_&&_};
+ghost use mathlib.Core.Bool.{_&&_, true};
 ghost use mathlib.Core.Path.{_≡_};
 use definitions::Axes;
 use definitions::Axis;
@@ -49,150 +49,118 @@ pub fn same_motion(m: Motion, n: Motion) -> bool
     same_prediction(m0, n0) & same_prediction(m1, n1)
 }
 
-// ---- Step 4. One rule for both axes: |v| is scaled to the nearest, halves up, and the sign put back.
-const POWER: u64 = 1099511627776; // 2^40
-
-// An axis's B and S, and 2^40 / B + 1: a product with it, shifted right by 40, stands for a division by B, which is expensive.
-struct Scale {
-    base: u32,
-    scaled: u32,
-    inverse: u64,
+// ---- Step 4. One rule for both axes.
+// The scale of each axis: made once a picture, or once a call, and handed down.
+pub struct Scales {
+    pub horizontal: u32,
+    pub vertical: u32,
 }
 
-// An axis's scale.
-fn scale_of(a: Axis) -> Scale
+// (S · 65,536 + B/2) / B
+fn scale_of(a: Axis) -> u32
     requires { ⌜ AcceptedAxis a ⌝ }
-    ensures { λ r. ⌜ r ≡ scaleOf a ⌝ }
+    ensures { λ r. ⌜ r ≡ scaleOf (baseSize a) (scaledSize a) ⌝ }
 {
-    let b = a.base.0;
-    Scale {
-        base: b,
-        scaled: a.scaled.0,
-        inverse: POWER / b as u64 + 1,
+    (a.scaled.0 * 65536 + a.base.0 / 2) / a.base.0
+}
+
+// The scales of a geometry.
+pub fn scales_of(g: Axes) -> Scales
+    requires { ⌜ AcceptedAxis (g .horizontal) × AcceptedAxis (g .vertical) ⌝ }
+    ensures { λ r. ⌜ r ≡ scalesOf g ⌝ }
+{
+    Scales {
+        horizontal: scale_of(g.horizontal),
+        vertical: scale_of(g.vertical),
     }
 }
 
-// (|v|·S + B/2) / B
-fn scale_size(s: Scale, n: u32) -> u32
-    requires { ⌜ (n ≤ narrow) × AcceptedScale s ⌝ }
-    ensures { λ r. ⌜ (r ≡ (n * s .scaled + s .base / 2) / s .base) × (r ≤ 2 * n) ⌝ }
+// A vector word: (v · scale + 32,768) / 65,536. The shift rounds down, below zero too.
+fn scale_word(scale: u32, v: i16) -> i16
+    requires { ⌜ (scale ≤ 131072) × (between (minus narrow) (pos (narrow - 1)) v ≡ true) ⌝ }
+    ensures { λ r. ⌜ r ≡ scaledBy scale v ⌝ }
 {
-    let sum = n * s.scaled + s.base / 2;
-    (sum as u64 * s.inverse / POWER) as u32
-}
-
-// The sign is taken off and put back by itself: no branch stands round the product.
-fn magnitude(v: i16) -> u32
-    requires { ⌜ natAbs v ≤ narrow ⌝ }
-    ensures { λ r. ⌜ r ≡ natAbs v ⌝ }
-{
-    if v < 0 { (0 - v) as u32 } else { v as u32 }
-}
-
-// n with the sign of v.
-fn with_sign_of(v: i16, n: i16) -> i16
-    requires { ⌜ pos 0 ≤ℤ n ⌝ }
-    ensures { λ r. ⌜ r ≡ signed v (natAbs n) ⌝ }
-{
-    if v < 0 { 0 - n } else { n }
-}
-
-// A vector word, by its axis.
-fn scale_word(s: Scale, v: i16) -> i16
-    requires { ⌜ (natAbs v ≤ narrow) × AcceptedScale s ⌝ }
-    ensures { λ r. ⌜ r ≡ scaledWord (s .base) (s .scaled) v ⌝ }
-{
-    with_sign_of(v, scale_size(s, magnitude(v)) as i16)
+    ((v as i32 * scale as i32 + 32768) >> 16) as i16
 }
 
 // A list's part: x by the horizontal scale, y by the vertical one.
-fn scale_prediction(h: Scale, v: Scale, p: Prediction) -> Prediction
-    requires { ⌜ AcceptedScale h × AcceptedScale v × InRange p ⌝ }
-    ensures { λ r. ⌜ r ≡ predictionScaled h v p ⌝ }
+fn scale_prediction(s: Scales, p: Prediction) -> Prediction
+    requires { ⌜ AcceptedScales s × InRange p ⌝ }
+    ensures { λ r. ⌜ r ≡ predictionScaled s p ⌝ }
 {
     Prediction {
         reference: p.reference,
-        x: scale_word(h, p.x),
-        y: scale_word(v, p.y),
+        x: scale_word(s.horizontal, p.x),
+        y: scale_word(s.vertical, p.y),
     }
 }
 
-// Both lists.
-fn scale_with(h: Scale, v: Scale, m: Motion) -> Motion
-    requires { ⌜ AcceptedScale h × AcceptedScale v × BothInRange m ⌝ }
-    ensures { λ r. ⌜ r ≡ motionScaled h v m ⌝ }
+// Step 4 of one motion: both lists.
+pub fn scale_motion(s: Scales, m: Motion) -> Motion
+    requires { ⌜ AcceptedScales s × BothInRange m ⌝ }
+    ensures { λ r. ⌜ r ≡ motionScaled s m ⌝ }
 {
     let p = m.list0;
     let q = m.list1;
-    let a = scale_prediction(h, v, p);
-    let b = scale_prediction(h, v, q);
+    let a = scale_prediction(s, p);
+    let b = scale_prediction(s, q);
     Motion { list0: a, list1: b }
 }
 
-// Step 4 of one motion.
-pub fn scale_motion(g: Axes, m: Motion) -> Motion
-    requires { ⌜ AcceptedAxis (g .horizontal) × AcceptedAxis (g .vertical) × BothInRange m ⌝ }
-    ensures { λ r. ⌜ r ≡ scaledMotion g m ⌝ }
-{
-    scale_with(scale_of(g.horizontal), scale_of(g.vertical), m)
-}
-
 // Blocks of one piece have one motion: it is scaled once a piece. A quadrant by its shape:
-fn scale_quadrant(h: Scale, v: Scale, s: SubSplit, m: [Motion; 4]) -> [Motion; 4]
-    requires { ⌜ AcceptedScale h × AcceptedScale v × QuadrantInRange m × (s ≡ quadrantShape m) ⌝ }
-    ensures { λ r. ⌜ r ≡ four (λ k. motionScaled h v (getD m k zeroMotion)) ⌝ }
+fn scale_quadrant(s: Scales, t: SubSplit, m: [Motion; 4]) -> [Motion; 4]
+    requires { ⌜ AcceptedScales s × QuadrantInRange m × (t ≡ quadrantShape m) ⌝ }
+    ensures { λ r. ⌜ r ≡ four (λ k. motionScaled s (getD m k zeroMotion)) ⌝ }
 {
-    let a = scale_with(h, v, m[0]);
-    match s {
+    let a = scale_motion(s, m[0]);
+    match t {
         SubSplit::S8x8 => [a; 4],
         SubSplit::S8x4 => {
-            let c = scale_with(h, v, m[2]);
+            let c = scale_motion(s, m[2]);
             [a, a, c, c]
         }
         SubSplit::S4x8 => {
-            let b = scale_with(h, v, m[1]);
+            let b = scale_motion(s, m[1]);
             [a, b, a, b]
         }
         SubSplit::S4x4 => {
-            let b = scale_with(h, v, m[1]);
-            let c = scale_with(h, v, m[2]);
-            let d = scale_with(h, v, m[3]);
+            let b = scale_motion(s, m[1]);
+            let c = scale_motion(s, m[2]);
+            let d = scale_motion(s, m[3]);
             [a, b, c, d]
         }
     }
 }
 
 // and the sixteen blocks, as four quadrants of four, by the split that is chosen of them.
-pub fn scale_by(g: Axes, s: Split, m: [[Motion; 4]; 4]) -> [[Motion; 4]; 4]
-    requires { ⌜ AcceptedAxis (g .horizontal) × AcceptedAxis (g .vertical) × AllInRange m × (s ≡ chosen m) ⌝ }
-    ensures { λ r. ⌜ r ≡ four (λ q. four (λ k. scaledMotion g (at m q k))) ⌝ }
+pub fn scale_by(s: Scales, t: Split, m: [[Motion; 4]; 4]) -> [[Motion; 4]; 4]
+    requires { ⌜ AcceptedScales s × AllInRange m × (t ≡ chosen m) ⌝ }
+    ensures { λ r. ⌜ r ≡ four (λ q. four (λ k. motionScaled s (at m q k))) ⌝ }
 {
-    let h = scale_of(g.horizontal);
-    let v = scale_of(g.vertical);
-    match s {
+    match t {
         Split::S16x16 => {
-            let a = scale_with(h, v, m[0][0]);
+            let a = scale_motion(s, m[0][0]);
             [[a; 4]; 4]
         }
         Split::S16x8 => {
-            let a = scale_with(h, v, m[0][0]);
-            let c = scale_with(h, v, m[2][0]);
+            let a = scale_motion(s, m[0][0]);
+            let c = scale_motion(s, m[2][0]);
             [[a; 4], [a; 4], [c; 4], [c; 4]]
         }
         Split::S8x16 => {
-            let a = scale_with(h, v, m[0][0]);
-            let b = scale_with(h, v, m[1][0]);
+            let a = scale_motion(s, m[0][0]);
+            let b = scale_motion(s, m[1][0]);
             [[a; 4], [b; 4], [a; 4], [b; 4]]
         }
-        Split::S8x8(t) => {
-            let ta = t.a;
-            let tb = t.b;
-            let tc = t.c;
-            let td = t.d;
-            let a = scale_quadrant(h, v, ta, m[0]);
-            let b = scale_quadrant(h, v, tb, m[1]);
-            let c = scale_quadrant(h, v, tc, m[2]);
-            let d = scale_quadrant(h, v, td, m[3]);
+        Split::S8x8(u) => {
+            let ta = u.a;
+            let tb = u.b;
+            let tc = u.c;
+            let td = u.d;
+            let a = scale_quadrant(s, ta, m[0]);
+            let b = scale_quadrant(s, tb, m[1]);
+            let c = scale_quadrant(s, tc, m[2]);
+            let d = scale_quadrant(s, td, m[3]);
             [a, b, c, d]
         }
     }

@@ -3,9 +3,8 @@ use mathlib.Core.Path.{_≡_}
 use mir.Facts.{toZ-ofZ}
 use mir.Syntax.{w16}
 use mir.Val.{SFits, toZ, ofZ}
-use Rattle.definitions.specs.Inheriting.{scaledWord}
-use Rattle.motion.proofs.Range.{size-of}
-use Rattle.motion.proofs.Signs.{by-words}
+use Rattle.definitions.specs.Inheriting.{scaledBy}
+use Rattle.motion.proofs.Words.{by-words}
 use borrow.Author.Needs.{needs}
 use Rattle.motion.proofs.scale_prediction.Statement.{statement}
 use Rattle.motion.proofs.scale_prediction.Tie as tie
@@ -14,13 +13,13 @@ scale-word-requires : tie.Need-scale-word-requires
 scale-word-requires c κs =
     let s = c .before in
     let f : SFits w16 (s .args .p .x) = search needs in
-    rw (toZ-ofZ f) (size-of (s .args .p .x) (s .pre .2 .x), search needs)
+    rw (toZ-ofZ f) (s .pre .0 .horizontal, s .pre .1 .x)
 
 scale-word-requires-2 : tie.Need-scale-word-requires-2
 scale-word-requires-2 c κs =
     let s = c .before .before .before in
     let f : SFits w16 (s .args .p .y) = search needs in
-    rw (toZ-ofZ f) (size-of (s .args .p .y) (s .pre .2 .y), search needs)
+    rw (toZ-ofZ f) (s .pre .0 .vertical, s .pre .1 .y)
 
 returns : tie.Need-returns
 returns c =
@@ -28,8 +27,8 @@ returns c =
     let first = c .before .before .before .scale-word in
     let last = c .before .scale-word2 in
     let r : toZ w16 (ofZ w16 (a .p .reference)) ≡ a .p .reference = toZ-ofZ (search needs) in
-    let x = by-words (scaledWord (a .h .base) (a .h .scaled)) (a .p .x) (first .result) (search needs) (search needs) (first .ensures) in
-    let y = by-words (scaledWord (a .v .base) (a .v .scaled)) (a .p .y) (last .result) (search needs) (search needs) (last .ensures) in
+    let x = by-words (scaledBy (a .s .horizontal)) (a .p .x) (first .result) (search needs) (search needs) (first .ensures) in
+    let y = by-words (scaledBy (a .s .vertical)) (a .p .y) (last .result) (search needs) (search needs) (last .ensures) in
     λ i. record { reference = r i; x = x i; y = y i }
 
 pub scale-prediction-spec : {M : Type 1} → statement M

@@ -1,54 +1,63 @@
--- `motion::scale_word` meets its contract. Assumes nothing.
-use Prim.Native.Nat.{_<_, _≤_, _^_, _*_, _+_, _/_}
-use lib.Dec.{le→leb}
-use lib.IntN.{natAbs}
-use lib.Signed.{leZ-yes}
-use mathlib.Core.Path.{_≡_, ap, _∙_}
-use mir.Facts.{toZ-pos, toZ-ofZ}
-use mir.Syntax.{w16}
-use mir.Val.{toZ}
+-- `motion::scale_word` meets its contract: no step leaves its width, so what is read back at each is what was written. Assumes nothing.
+use Prim.Native.Nat.{_<_, _^_}
 use native.Mathlib.Omega.{arith}
-use Rattle.definitions.specs.Record.{narrow}
-use Rattle.definitions.specs.Basics.{signed}
-use Rattle.motion.proofs.Signs.{by-words}
+use lib.IntN.{ℤ, pos, _+ℤ_, _*ℤ_}
+use mir.Facts.{toZ-ofZ, toZ-pos}
+use mir.Syntax.{w16, w32}
+use mir.Val.{SFits}
 use borrow.Author.Needs.{needs}
+use Rattle.definitions.specs.Inheriting.{scaledBy}
+use Rattle.motion.proofs.Words.{product-fits, quotient-fits, sum-fits, widened}
 use Rattle.motion.proofs.scale_word.Statement.{statement}
 use Rattle.motion.proofs.scale_word.Tie as tie
 
-size : (c : tie.After-magnitude) → c .magnitude .result ≡ natAbs (c .before .args .v)
-size c = c .magnitude .ensures ∙ ap natAbs (toZ-ofZ (c .before .fits .v))
+module _ (c : tie.Start) where
+  v : ℤ
+  v = c .args .v
 
-top : (c : tie.After-scale-size) → c .scale-size .result < 2 ^ 15
-top c =
-    let h : c .scale-size .result ≤ 2 * c .before .magnitude .result = c .scale-size .ensures .1 in
-    omega (arith, h, size (c .before), c .before .before .pre .0)
+  word : SFits w32 v
+  unfolding v
+  word = widened (c .args .v) (c .fits .v)
 
-magnitude-requires : tie.Need-magnitude-requires
-magnitude-requires c κs = search needs
+  scale : c .args .scale < 2 ^ 31
+  scale = omega arith
 
-scale-size-requires : tie.Need-scale-size-requires
-scale-size-requires c κs = let h : c .magnitude .result ≤ narrow = omega (arith, size c, c .before .pre .0) in (h, c .before .pre .1)
+  product : SFits w32 (v *ℤ pos (c .args .scale))
+  unfolding v
+  product = product-fits (c .args .scale) (c .pre .0) (c .args .v) (c .pre .1)
 
-cast-with-sign-of : tie.Need-cast-with-sign-of
-cast-with-sign-of c = record { sfits = top c }
+  sum : SFits w32 (v *ℤ pos (c .args .scale) +ℤ pos 32768)
+  unfolding v
+  sum = sum-fits (c .args .scale) (c .pre .0) (c .args .v) (c .pre .1)
 
-with-sign-of-requires : tie.Need-with-sign-of-requires
-with-sign-of-requires c κs = rw (toZ-pos w16 (top c)) (leZ-yes (le→leb 0 (c .scale-size .result) (omega arith)))
+  scaled : SFits w16 (scaledBy (c .args .scale) v)
+  scaled = quotient-fits (v *ℤ pos (c .args .scale) +ℤ pos 32768) sum
+
+cast-result : tie.Need-cast-result
+unfolding v
+cast-result c = rw (toZ-ofZ (c .fits .v)) (word c)
+
+cast-result-2 : tie.Need-cast-result-2
+cast-result-2 c = search needs
+
+mul-result : tie.Need-mul-result
+unfolding v
+mul-result c = rw (toZ-ofZ (c .fits .v), toZ-ofZ (word c), toZ-pos w32 (scale c)) (product c)
+
+add-result : tie.Need-add-result
+unfolding v
+add-result c = rw (toZ-ofZ (c .fits .v), toZ-ofZ (word c), toZ-pos w32 (scale c), toZ-ofZ (product c)) (sum c)
+
+cast-result-3 : tie.Need-cast-result-3
+unfolding v
+cast-result-3 c =
+    rw (toZ-ofZ (c .fits .v), toZ-ofZ (word c), toZ-pos w32 (scale c), toZ-ofZ (product c), toZ-ofZ (sum c), toZ-ofZ (widened _ (scaled c))) (scaled c)
 
 returns : tie.Need-returns
+unfolding v
 returns c =
-    let s = c .before .before .before in
-    let n = size (c .before .before) in
-    let scaled = ap natAbs (toZ-pos w16 (top (c .before))) ∙ (c .before .scale-size .ensures .0 ∙ (λ i. (n i * s .args .s .scaled + s .args .s .base / 2) / s .args .s .base)) in
-    by-words (λ z. signed z (natAbs (toZ w16 (c .before .scale-size .result)))) (s .args .v) (c .with-sign-of .result) (s .fits .v) (search needs) (c .with-sign-of .ensures)
-    ∙ ap (signed (s .args .v)) scaled
+    rw (toZ-ofZ (c .fits .v), toZ-ofZ (word c), toZ-pos w32 (scale c), toZ-ofZ (product c), toZ-ofZ (sum c), toZ-ofZ (widened _ (scaled c)), toZ-ofZ (scaled c))
 
 pub scale-word-spec : {M : Type 1} → statement M
 scale-word-spec =
-    tie.close
-    (tie.spec
-    magnitude-requires
-    scale-size-requires
-    cast-with-sign-of
-    with-sign-of-requires
-    returns)
+    tie.close (tie.spec cast-result cast-result-2 mul-result add-result cast-result-3 returns)
