@@ -5,6 +5,7 @@ ghost use Rattle.definitions.specs.Log.{answerPieces, lineOf, logBytes, mbWord,
 ghost use Rattle.log_lines.specs.Put.{Put};
 ghost use Rattle.common.specs.Bases.{BaseFormed};
 ghost use Rattle.definitions.specs.Record.{narrow};
+ghost use Rattle.motion.specs.Scales.{scalesOf};
 ghost use lib.ListN.{length};
 ghost use mathlib.Core.List.{[], _∷_};
 ghost use mathlib.Core.Path.{_≡_};
@@ -20,6 +21,8 @@ use definitions::RECORD_WORDS;
 use log_lines::put_line;
 use macroblock::axis_read;
 use macroblock::make;
+use motion::Scales;
+use motion::scales_of;
 use records::layout::answer_type;
 
 // ---- The numbers of a line
@@ -61,14 +64,14 @@ fn sync_line(out: &mut [u8], at: usize, total: u32, c: Counts) -> usize
 
 // ---- The picture
 // The answer at a column and row of the picture. Its words are not logged.
-fn answer_at(g: Axes, base: &[i16], column: u32, row: u32) -> Answer
-    requires { ⌜ BaseFormed narrow g (now base) × (column < 256) × (row < 256) ⌝ }
+fn answer_at(g: Axes, scales: Scales, base: &[i16], column: u32, row: u32) -> Answer
+    requires { ⌜ BaseFormed narrow g (now base) × (column < 256) × (row < 256) × (scales ≡ scalesOf g) ⌝ }
     ensures { λ r. ⌜ r ≡ madeOf g (now (base .entry)) column row .answer ⌝ }
 {
     let h = axis_read(g.horizontal, column);
     let v = axis_read(g.vertical, row);
     let mut words = [0i16; RECORD_WORDS];
-    make(g, base, h, v, &mut words)
+    make(g, scales, base, h, v, &mut words)
 }
 
 // A line per macroblock, in raster order, then the sync line.
@@ -76,6 +79,7 @@ pub fn picture_lines(g: Axes, base: &[i16], out: &mut [u8]) -> usize
     requires { ⌜ BaseFormed narrow g (now base) × (logBytes ≤ length (now out)) ⌝ }
     ensures { λ r. ⌜ Put (now (out .entry)) 0 (pictureLines g (now (base .entry))) (now (out .exit)) r ⌝ }
 {
+    let scales = scales_of(g);
     let total = full_count(g);
     let mut counts = NO_COUNTS;
     let mut at: usize = 0;
@@ -83,7 +87,7 @@ pub fn picture_lines(g: Axes, base: &[i16], out: &mut [u8]) -> usize
     while a < total {
         let column = column_at(g, a);
         let row = row_at(g, a);
-        let answer = answer_at(g, base, column, row);
+        let answer = answer_at(g, scales, base, column, row);
         counts = count(counts, answer);
         at = macroblock_line(out, at, column, row, answer);
         a += 1;

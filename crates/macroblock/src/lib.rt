@@ -5,6 +5,7 @@ ghost use Rattle.definitions.specs.Inheriting.{chosen, clearOf, filled, merged}
 ghost use Rattle.definitions.specs.Record.{recordWords};
 ghost use Rattle.gather.specs.Reads.{QuadrantReadable, quadrantRead};
 ghost use Rattle.macroblock.specs.Made.{Makeable, Ready, Small, inheritedBy, intraBy, madeInside, motionsBy, originBy, nowhere, onePart, madeBy, readIn, readOf, resolvedBy};
+ghost use Rattle.motion.specs.Scales.{scalesOf};
 ghost use lib.ListN.{length};
 ghost use mathlib.Core.Bool.{_&&_, true};
 ghost use mathlib.Core.Path.{_≡_};
@@ -26,6 +27,7 @@ use geometry::axis_step;
 use geometry::class_of;
 use geometry::is_inside;
 use inherit::mostly_intra;
+use motion::Scales;
 use motion::scale_by;
 use motion::scale_motion;
 use records::layout::INTRA;
@@ -142,19 +144,20 @@ fn motions_made(g: Axes, base: &[i16], h: AxisRead, v: AxisRead, set: u16) -> [[
 // Steps 1 to 5. The split is chosen before the vectors are scaled, which keeps different motions different.
 fn make_inherited(
     g: Axes,
+    scales: Scales,
     base: &[i16],
     h: AxisRead,
     v: AxisRead,
     set: u16,
     out: &mut [i16],
 ) -> Split
-    requires { ⌜ Ready g h v (now base) × (set ≡ intraBy g h v (now base)) × (length (now out) ≡ recordWords) ⌝ }
+    requires { ⌜ Ready g h v (now base) × (set ≡ intraBy g h v (now base)) × (length (now out) ≡ recordWords) × (scales ≡ scalesOf g) ⌝ }
     ensures split { λ r. ⌜ r ≡ chosen (motionsBy g h v (now (base .entry))) ⌝ }
     ensures written { λ r. ⌜ now (out .exit) ≡ inheritedBy g h v (now (base .entry)) ⌝ }
 {
     let m = motions_made(g, base, h, v, set);
     let s = choose(m);
-    write_split(out, s, scale_by(g, s, m));
+    write_split(out, s, scale_by(scales, s, m));
     s
 }
 
@@ -175,8 +178,15 @@ fn is_half(reads: [u16; 4]) -> bool
 }
 
 // Where one macroblock is read: intra, or of one motion (it is 16×16, or one quadrant of it is read that is not divided), it needs no step.
-fn make_of_one(g: Axes, base: &[i16], h: AxisRead, v: AxisRead, out: &mut [i16]) -> Answer
-    requires { ⌜ Ready g h v (now base) × ((onePart 4 (h .reads) && onePart 4 (v .reads)) ≡ true) × (length (now out) ≡ recordWords) ⌝ }
+fn make_of_one(
+    g: Axes,
+    scales: Scales,
+    base: &[i16],
+    h: AxisRead,
+    v: AxisRead,
+    out: &mut [i16],
+) -> Answer
+    requires { ⌜ Ready g h v (now base) × ((onePart 4 (h .reads) && onePart 4 (v .reads)) ≡ true) × (length (now out) ≡ recordWords) × (scales ≡ scalesOf g) ⌝ }
     ensures answer { λ r. ⌜ r ≡ madeInside g h v (now (base .entry)) .answer ⌝ }
     ensures written { λ r. ⌜ now (out .exit) ≡ madeInside g h v (now (base .entry)) .written ⌝ }
 {
@@ -192,17 +202,24 @@ fn make_of_one(g: Axes, base: &[i16], h: AxisRead, v: AxisRead, out: &mut [i16])
     }
     let quarter = is_half(across) & is_half(down);
     if reads_whole(base, width, x, y) | (quarter & reads_single(base, width, x, y)) {
-        let m = scale_motion(g, motion_read(base, width, x, y));
+        let m = scale_motion(scales, motion_read(base, width, x, y));
         write_split(out, Split::S16x16, [[m; 4]; 4]);
         return Answer::Inherited(origin, Split::S16x16);
     }
-    let s = make_inherited(g, base, h, v, 0, out);
+    let s = make_inherited(g, scales, base, h, v, 0, out);
     Answer::Inherited(origin, s)
 }
 
 // Where more macroblocks are read, or one of several motions.
-fn make_of_more(g: Axes, base: &[i16], h: AxisRead, v: AxisRead, out: &mut [i16]) -> Answer
-    requires { ⌜ Ready g h v (now base) × (length (now out) ≡ recordWords) ⌝ }
+fn make_of_more(
+    g: Axes,
+    scales: Scales,
+    base: &[i16],
+    h: AxisRead,
+    v: AxisRead,
+    out: &mut [i16],
+) -> Answer
+    requires { ⌜ Ready g h v (now base) × (length (now out) ≡ recordWords) × (scales ≡ scalesOf g) ⌝ }
     ensures answer { λ r. ⌜ r ≡ madeInside g h v (now (base .entry)) .answer ⌝ }
     ensures written { λ r. ⌜ now (out .exit) ≡ madeInside g h v (now (base .entry)) .written ⌝ }
 {
@@ -215,13 +232,20 @@ fn make_of_more(g: Axes, base: &[i16], h: AxisRead, v: AxisRead, out: &mut [i16]
         write_unused(out, INTRA);
         return Answer::Intra(origin);
     }
-    let s = make_inherited(g, base, h, v, set, out);
+    let s = make_inherited(g, scales, base, h, v, set, out);
     Answer::Inherited(origin, s)
 }
 
 // ---- In or out of the window
-pub fn make(g: Axes, base: &[i16], h: AxisRead, v: AxisRead, out: &mut [i16]) -> Answer
-    requires { ⌜ Makeable g h v (now base) × (length (now out) ≡ recordWords) ⌝ }
+pub fn make(
+    g: Axes,
+    scales: Scales,
+    base: &[i16],
+    h: AxisRead,
+    v: AxisRead,
+    out: &mut [i16],
+) -> Answer
+    requires { ⌜ Makeable g h v (now base) × (length (now out) ≡ recordWords) × (scales ≡ scalesOf g) ⌝ }
     ensures answer { λ r. ⌜ r ≡ madeBy g h v (now (base .entry)) .answer ⌝ }
     ensures written { λ r. ⌜ now (out .exit) ≡ madeBy g h v (now (base .entry)) .written ⌝ }
 {
@@ -229,9 +253,9 @@ pub fn make(g: Axes, base: &[i16], h: AxisRead, v: AxisRead, out: &mut [i16]) ->
         let across = h.reads;
         let down = v.reads;
         if is_one(across) & is_one(down) {
-            return make_of_one(g, base, h, v, out);
+            return make_of_one(g, scales, base, h, v, out);
         }
-        return make_of_more(g, base, h, v, out);
+        return make_of_more(g, scales, base, h, v, out);
     }
     write_unused(out, OUTSIDE);
     Answer::Outside

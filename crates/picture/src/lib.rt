@@ -34,6 +34,7 @@ use macroblock::AxisRead;
 use macroblock::axis_read;
 use macroblock::make;
 use macroblock::read_nowhere;
+use motion::scales_of;
 use records::check::check;
 
 // The horizontal axis at each column of the picture; 256 is the most.
@@ -91,6 +92,7 @@ fn fill(g: Axes, base: &[i16], out: &mut [i16]) -> Counts
     ensures counts { λ r. ⌜ r ≡ countsOf (upTo (fullCount g) (madeAt g (now (base .entry)))) ⌝ }
     ensures words { λ r. ⌜ now (out .exit) ≡ forEach (upTo (fullCount g) (madeAt g (now (base .entry)))) (λ m. m .written) ⌝ }
 {
+    let scales = scales_of(g);
     let columns = column_reads(g.horizontal);
     let width = g.horizontal.full.0 / 16;
     let total = full_count(g);
@@ -104,7 +106,7 @@ fn fill(g: Axes, base: &[i16], out: &mut [i16]) -> Counts
         let x = at.column as usize;
         let h = columns[x];
         v = row_read(g.vertical, at, v);
-        let answer = make(g, base, h, v, &mut out[from..to]);
+        let answer = make(g, scales, base, h, v, &mut out[from..to]);
         counts = count(counts, answer);
         at = next(at, width);
         a += 1;

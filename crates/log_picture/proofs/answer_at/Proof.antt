@@ -21,7 +21,7 @@ make-requires : tie.Need-make-requires
 make-requires c κs =
     let r = c .before in
     let s = r .before .before in
-    (makeable (s .args .g) (s .args .column) (s .args .row) (s .args .base .now) (s .pre .0) _ _ (r .before .axis-read .ensures) (r .axis-read2 .ensures), length-replicate 77 (pos 0))
+    (makeable (s .args .g) (s .args .column) (s .args .row) (s .args .base .now) (s .pre .0) _ _ (r .before .axis-read .ensures) (r .axis-read2 .ensures), length-replicate 77 (pos 0), s .pre .3)
 
 returns : tie.Need-returns
 returns c =

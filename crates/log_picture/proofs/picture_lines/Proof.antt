@@ -15,23 +15,26 @@ use Rattle.log_picture.proofs.picture_lines.Statement.{statement}
 use Rattle.log_picture.proofs.picture_lines.Tie as tie
 
 abbrev Inv-loop : tie.InvT-loop
-Inv-loop g base out₀ total counts₀ at₀ a₀ out counts at a = (a ≤ total) × Put out₀ 0 (firstLines g base a) out at × (counts ≡ countsOf (upTo a (madeAt g base)))
+Inv-loop g base out₀ scales total counts₀ at₀ a₀ out counts at a = (a ≤ total) × Put out₀ 0 (firstLines g base a) out at × (counts ≡ countsOf (upTo a (madeAt g base)))
 
 abbrev μ-loop : tie.MeasureT-loop
-μ-loop g base out₀ total counts₀ at₀ a₀ out counts at a = total - a
+μ-loop g base out₀ scales total counts₀ at₀ a₀ out counts at a = total - a
+
+scales-of-requires : tie.Need-scales-of-requires Inv-loop μ-loop
+scales-of-requires c κs = search needs
 
 full-count-requires : tie.Need-full-count-requires Inv-loop μ-loop
-full-count-requires c κs = c .before .pre .0 .right .axes
+full-count-requires c κs = c .before .before .pre .0 .right .axes
 
 loop-holds : tie.Need-loop-holds Inv-loop μ-loop
 loop-holds c =
-    let s = c .before .before in
+    let s = c .before .before .before in
     (omega arith, none-put (s .args .g) (s .args .base .now) (s .args .out .now), counts-none (madeAt (s .args .g) (s .args .base .now)))
 
 -- in the loop: the start, macroblock a is one of the picture's, and the bytes so far
 module _ (c : tie.In-loop Inv-loop μ-loop) where
   abbrev start : tie.Start Inv-loop μ-loop
-  start = c .before .before .before .before
+  start = c .before .before .before .before .before
 
   below : c .before .loop .a < fullCount (start .args .g)
   below = omega (arith, c .before .before .full-count .ensures .0)
@@ -49,7 +52,7 @@ row-at-requires : tie.Need-row-at-requires Inv-loop μ-loop
 row-at-requires c κs = (start (c .before) .pre .0 .right .axes, below (c .before))
 
 answer-at-requires : tie.Need-answer-at-requires Inv-loop μ-loop
-answer-at-requires c κs = (start (c .before .before) .pre .0, c .before .column-at .ensures .1, c .row-at .ensures .1)
+answer-at-requires c κs = (start (c .before .before) .pre .0, c .before .column-at .ensures .1, c .row-at .ensures .1, c .before .before .before .before .before .scales-of .ensures)
 
 -- its answer is that of address a
 answer : (c : tie.After-answer-at Inv-loop μ-loop)
@@ -97,7 +100,7 @@ cast-sync-line c = search needs
 sync-line-requires : tie.Need-sync-line-requires Inv-loop μ-loop
 sync-line-requires c κs =
     let l = c .before .before .loop in
-    let s = c .before .before .before .before .before in
+    let s = c .before .before .before .before .before .before in
     let t = c .before .before .before .full-count .ensures .0 in
     let few = c .before .before .before .full-count .ensures .1 in
     let k = counts-low (madeAt (s .args .g) (s .args .base .now)) (l .a) (l .counts) (l .inv .2) in
@@ -112,7 +115,7 @@ same-length c = put-length (c .before .before .sync-line .ensures) ∙ put-lengt
 returns : tie.Need-returns Inv-loop μ-loop
 returns c =
     let l = c .before .before .before .before .before .loop in
-    let s = c .before .before .before .before .before .before .before .before in
+    let s = c .before .before .before .before .before .before .before .before .before in
     let t = c .before .before .before .before .before .before .full-count .ensures .0 in
     line-last (s .args .g) (s .args .base .now) (l .a) (l .inv .1) (c .before .before .before .before .before .before .full-count .result) (l .counts) (omega arith) t (l .inv .2) (c .before .before .sync-line .ensures)
 
@@ -122,6 +125,7 @@ picture-lines-spec =
     (tie.spec
     Inv-loop
     μ-loop
+    scales-of-requires
     full-count-requires
     loop-holds
     column-at-requires

@@ -17,7 +17,7 @@ make-of-one-requires c κs =
     let s = c .before .before .before .before .before .before .before .before .before in
     let a = c .before .before .before .is-one .ensures in
     let b = c .before .before .is-one2 .ensures in
-    (s .pre .0 (c .before .before .before .before .before .before .if1 .taken), (λ i. sym a i && sym b i) ∙ c .before .if2 .taken, s .pre .1)
+    (s .pre .0 (c .before .before .before .before .before .before .if1 .taken), (λ i. sym a i && sym b i) ∙ c .before .if2 .taken, s .pre .1, s .pre .2)
 
 same-length : tie.Need-same-length
 same-length c = search needs
@@ -28,7 +28,7 @@ returns c =
     (r .answered, r .written)
 
 make-of-more-requires : tie.Need-make-of-more-requires
-make-of-more-requires c κs = (c .before .before .before .before .before .before .before .before .before .pre .0 (c .before .before .before .before .before .before .if1 .taken), c .before .before .before .before .before .before .before .before .before .pre .1)
+make-of-more-requires c κs = (c .before .before .before .before .before .before .before .before .before .pre .0 (c .before .before .before .before .before .before .if1 .taken), c .before .before .before .before .before .before .before .before .before .pre .1, c .before .before .before .before .before .before .before .before .before .pre .2)
 
 same-length-2 : tie.Need-same-length-2
 same-length-2 c = search needs

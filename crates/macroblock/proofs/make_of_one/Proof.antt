@@ -6,6 +6,7 @@ use Rattle.definitions.specs.declared.Answer.the-variants.{Intra, Inherited}
 use Rattle.definitions.specs.Inheriting.{scaledMotion}
 use Rattle.definitions.proofs.Steps.{Both}
 use Rattle.motion.specs.Range.{InRange}
+use Rattle.motion.proofs.ByScales.{accepted, by-scales}
 use Rattle.macroblock.proofs.Making.{made-intra, made-inherited}
 use Rattle.macroblock.proofs.Motions.{read-range}
 use Rattle.macroblock.proofs.Single.{mostly-all, mostly-none, first-readable, set-all, set-none, one-read, whole-split, whole-written}
@@ -57,7 +58,7 @@ motion-read-requires c κs = (first-readable (c .before .before .before .before 
 scale-motion-requires : tie.Need-scale-motion-requires
 scale-motion-requires c κs =
     let s = c .before .before .before .before .before .before .before .before .before .before .before .before in
-    (s .pre .0 .axes .horizontal, s .pre .0 .axes .vertical, subst (Both InRange) (sym (c .motion-read .ensures)) (read-range _ _ _ _ (first-readable (c .before .before .before .before .before .before .before .before .before .before .before .before .args .g) (c .before .before .before .before .before .before .before .before .before .before .before .before .args .h) (c .before .before .before .before .before .before .before .before .before .before .before .before .args .v) (c .before .before .before .before .before .before .before .before .before .before .before .before .args .base .now) (c .before .before .before .before .before .before .before .before .before .before .before .before .pre .0) (c .before .before .before .before .before .before .before .before .before .before .before .before .pre .1))))
+    (accepted (s .args .g) (s .pre .3) (s .pre .0 .axes), subst (Both InRange) (sym (c .motion-read .ensures)) (read-range _ _ _ _ (first-readable (c .before .before .before .before .before .before .before .before .before .before .before .before .args .g) (c .before .before .before .before .before .before .before .before .before .before .before .before .args .h) (c .before .before .before .before .before .before .before .before .before .before .before .before .args .v) (c .before .before .before .before .before .before .before .before .before .before .before .before .args .base .now) (c .before .before .before .before .before .before .before .before .before .before .before .before .pre .0) (c .before .before .before .before .before .before .before .before .before .before .before .before .pre .1))))
 
 write-split-requires : tie.Need-write-split-requires
 write-split-requires c κs = c .before .before .before .before .before .before .before .before .before .before .before .before .before .before .pre .2
@@ -75,12 +76,12 @@ returns-2 c =
     let all = one-read (c .before .before .before .before .before .before .before .before .before .before .before .before .before .before .before .before .args .g) (c .before .before .before .before .before .before .before .before .before .before .before .before .before .before .before .before .args .h) (c .before .before .before .before .before .before .before .before .before .before .before .before .before .before .before .before .args .v) (c .before .before .before .before .before .before .before .before .before .before .before .before .before .before .before .before .args .base .now) (c .before .before .before .before .before .before .before .before .before .before .before .before .before .before .before .before .pre .0) (c .before .before .before .before .before .before .before .before .before .before .before .before .before .before .before .before .pre .1) not-intra ((λ i. w i || ((a i && b i) && s i)) ∙ c .before .before .before .before .before .if2 .taken) in
     let n = c .before .before .before .before .before .before .before .before .before .before .before .before .origin-of .ensures in
     let k = whole-split (c .before .before .before .before .before .before .before .before .before .before .before .before .before .before .before .before .args .g) (c .before .before .before .before .before .before .before .before .before .before .before .before .before .before .before .before .args .h) (c .before .before .before .before .before .before .before .before .before .before .before .before .before .before .before .before .args .v) (c .before .before .before .before .before .before .before .before .before .before .before .before .before .before .before .before .args .base .now) (c .before .before .before .before .before .before .before .before .before .before .before .before .before .before .before .before .pre .0) (c .before .before .before .before .before .before .before .before .before .before .before .before .before .before .before .before .pre .1) not-intra all in
-    let m = c .before .before .before .scale-motion .ensures ∙ ap (scaledMotion (c .before .before .before .before .before .before .before .before .before .before .before .before .before .before .before .before .args .g)) (c .before .before .before .before .motion-read .ensures) in
+    let m = c .before .before .before .scale-motion .ensures ∙ (by-scales (c .before .before .before .before .before .before .before .before .before .before .before .before .before .before .before .before .args .g) (c .before .before .before .before .before .before .before .before .before .before .before .before .before .before .before .before .pre .3) _ ∙ ap (scaledMotion (c .before .before .before .before .before .before .before .before .before .before .before .before .before .before .before .before .args .g)) (c .before .before .before .before .motion-read .ensures)) in
     let r = made-inherited (c .before .before .before .before .before .before .before .before .before .before .before .before .before .before .before .before .args .g) (c .before .before .before .before .before .before .before .before .before .before .before .before .before .before .before .before .args .h) (c .before .before .before .before .before .before .before .before .before .before .before .before .before .before .before .before .args .v) (c .before .before .before .before .before .before .before .before .before .before .before .before .before .before .before .before .args .base .now) (set-none (c .before .before .before .before .before .before .before .before .before .before .before .before .before .before .before .before .args .g) (c .before .before .before .before .before .before .before .before .before .before .before .before .before .before .before .before .args .h) (c .before .before .before .before .before .before .before .before .before .before .before .before .before .before .before .before .args .v) (c .before .before .before .before .before .before .before .before .before .before .before .before .before .before .before .before .args .base .now) (c .before .before .before .before .before .before .before .before .before .before .before .before .before .before .before .before .pre .0) (c .before .before .before .before .before .before .before .before .before .before .before .before .before .before .before .before .pre .1) not-intra) mostly-none (λ i. Inherited (n i) (k i)) (c .before .write-split .ensures ∙ whole-written (c .before .before .before .before .before .before .before .before .before .before .before .before .before .before .before .before .args .g) (c .before .before .before .before .before .before .before .before .before .before .before .before .before .before .before .before .args .h) (c .before .before .before .before .before .before .before .before .before .before .before .before .before .before .before .before .args .v) (c .before .before .before .before .before .before .before .before .before .before .before .before .before .before .before .before .args .base .now) (c .before .before .before .before .before .before .before .before .before .before .before .before .before .before .before .before .pre .0) (c .before .before .before .before .before .before .before .before .before .before .before .before .before .before .before .before .pre .1) not-intra all m) in
     (r .answered, r .written)
 
 make-inherited-requires : tie.Need-make-inherited-requires
-make-inherited-requires c κs = (c .before .before .before .before .before .before .before .before .before .before .before .before .pre .0, set-none (c .before .before .before .before .before .before .before .before .before .before .before .before .args .g) (c .before .before .before .before .before .before .before .before .before .before .before .before .args .h) (c .before .before .before .before .before .before .before .before .before .before .before .before .args .v) (c .before .before .before .before .before .before .before .before .before .before .before .before .args .base .now) (c .before .before .before .before .before .before .before .before .before .before .before .before .pre .0) (c .before .before .before .before .before .before .before .before .before .before .before .before .pre .1) (sym (c .before .before .before .before .before .before .before .reads-intra .ensures) ∙ c .before .before .before .before .before .before .if1 .left), c .before .before .before .before .before .before .before .before .before .before .before .before .pre .2)
+make-inherited-requires c κs = (c .before .before .before .before .before .before .before .before .before .before .before .before .pre .0, set-none (c .before .before .before .before .before .before .before .before .before .before .before .before .args .g) (c .before .before .before .before .before .before .before .before .before .before .before .before .args .h) (c .before .before .before .before .before .before .before .before .before .before .before .before .args .v) (c .before .before .before .before .before .before .before .before .before .before .before .before .args .base .now) (c .before .before .before .before .before .before .before .before .before .before .before .before .pre .0) (c .before .before .before .before .before .before .before .before .before .before .before .before .pre .1) (sym (c .before .before .before .before .before .before .before .reads-intra .ensures) ∙ c .before .before .before .before .before .before .if1 .left), c .before .before .before .before .before .before .before .before .before .before .before .before .pre .2, c .before .before .before .before .before .before .before .before .before .before .before .before .pre .3)
 
 same-length-3 : tie.Need-same-length-3
 same-length-3 c = search needs

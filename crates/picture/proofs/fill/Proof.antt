@@ -22,35 +22,38 @@ use Rattle.picture.proofs.fill.Statement.{statement}
 use Rattle.picture.proofs.fill.Tie as tie
 
 abbrev Inv-loop : tie.InvT-loop
-Inv-loop g base out₀ columns width total counts₀ at₀ v₀ a₀ out counts at v a =
+Inv-loop g base out₀ scales columns width total counts₀ at₀ v₀ a₀ out counts at v a =
     (a ≤ total) × (length out ≡ recordWords * total) × (out ≡ parts a (λ k. madeAt g base k .written) ++ drop (recordWords * a) out₀) × (counts ≡ countsOf (upTo a (madeAt g base)))
     × (at .row * width + at .column ≡ a) × (at .column < width) × (0 < at .column → v ≡ readOf (g .vertical) (at .row))
 
 abbrev μ-loop : tie.MeasureT-loop
-μ-loop g base out₀ columns width total counts₀ at₀ v₀ a₀ out counts at v a = total - a
+μ-loop g base out₀ scales columns width total counts₀ at₀ v₀ a₀ out counts at v a = total - a
+
+scales-of-requires : tie.Need-scales-of-requires Inv-loop μ-loop
+scales-of-requires c κs = search needs
 
 column-reads-requires : tie.Need-column-reads-requires Inv-loop μ-loop
 column-reads-requires c κs = search needs
 
 full-count-requires : tie.Need-full-count-requires Inv-loop μ-loop
-full-count-requires c κs = c .before .before .pre .0 .right .axes
+full-count-requires c κs = c .before .before .before .pre .0 .right .axes
 
 read-nowhere-requires : tie.Need-read-nowhere-requires Inv-loop μ-loop
 read-nowhere-requires c κs = search needs
 
 loop-holds : tie.Need-loop-holds Inv-loop μ-loop
 loop-holds c =
-    let s = c .before .before .before .before in
+    let s = c .before .before .before .before .before in
     let f = madeAt (s .args .g) (s .args .base .now) in
     (omega arith, s .pre .1 ∙ ap (λ (n : ℕ). recordWords * n) (sym (c .before .full-count .ensures .0)), parts-none (λ k. f k .written) recordWords (s .args .out .now), counts-none f, omega arith, omega (arith, s .pre .0 .right .axes .horizontal .full-low), λ h. absurd (omega arith))
 
 -- the macroblock's row, and the horizontal axis at its column
 row-low : (c : tie.In-loop Inv-loop μ-loop) → c .before .loop .at .row < 256
 row-low c =
-    let s = c .before .before .before .before .before .before in
+    let s = c .before .before .before .before .before .before .before in
     row-below (s .args .g) (c .before .loop .a) (c .before .loop .at .column) (c .before .loop .at .row) (c .before .loop .inv .5) (c .before .loop .inv .4) (s .pre .0 .right .axes) (c .before .before .before .full-count .result) (c .before .before .before .full-count .ensures .0) (omega arith)
 
-column-there : (c : tie.In-loop Inv-loop μ-loop) → getD (c .before .before .before .before .before .column-reads .result) (c .before .loop .at .column) noRead ≡ readOf (c .before .before .before .before .before .before .args .g .horizontal) (c .before .loop .at .column)
+column-there : (c : tie.In-loop Inv-loop μ-loop) → getD (c .before .before .before .before .before .column-reads .result) (c .before .loop .at .column) noRead ≡ readOf (c .before .before .before .before .before .before .before .args .g .horizontal) (c .before .loop .at .column)
 column-there c = c .before .before .before .before .before .column-reads .ensures .each _ (c .before .loop .inv .5)
 
 mul-from : tie.Need-mul-from Inv-loop μ-loop
@@ -68,11 +71,11 @@ mul-h c = search needs
 array-copy-out-h : tie.Need-array-copy-out-h Inv-loop μ-loop
 array-copy-out-h c =
     let l = c .before .before in
-    let s = c .before .before .before .before .before .before .before in
+    let s = c .before .before .before .before .before .before .before .before in
     omega (arith, s .pre .0 .right .axes .horizontal .full-high, l .loop .inv .5)
 
 row-read-requires : tie.Need-row-read-requires Inv-loop μ-loop
-row-read-requires c κs = (c .before .before .before .before .before .before .before .before .pre .0 .right .axes .vertical, row-low (c .before .before), c .before .before .before .loop .inv .6)
+row-read-requires c κs = (c .before .before .before .before .before .before .before .before .before .pre .0 .right .axes .vertical, row-low (c .before .before), c .before .before .before .loop .inv .6)
 
 mul-make : tie.Need-mul-make Inv-loop μ-loop
 mul-make c = search needs
@@ -89,13 +92,13 @@ part-make-end c = search needs
 make-requires : tie.Need-make-requires Inv-loop μ-loop
 make-requires c κs =
     let l = c .before .before .before .before .before in
-    let s = c .before .before .before .before .before .before .before .before .before .before in
-    (makeable (s .args .g) (l .loop .at .column) (l .loop .at .row) (s .args .base .now) (s .pre .0) _ _ (column-there (c .before .before .before .before)) (c .before .row-read .ensures), simp (length-take, length-drop) (omega arith))
+    let s = c .before .before .before .before .before .before .before .before .before .before .before in
+    (makeable (s .args .g) (l .loop .at .column) (l .loop .at .row) (s .args .base .now) (s .pre .0) _ _ (column-there (c .before .before .before .before)) (c .before .row-read .ensures), simp (length-take, length-drop) (omega arith), c .before .before .before .before .before .before .before .before .before .before .scales-of .ensures)
 
 count-requires : tie.Need-count-requires Inv-loop μ-loop
 count-requires c κs =
     let l = c .before .before .before .before .before .before .before in
-    let s = c .before .before .before .before .before .before .before .before .before .before .before .before in
+    let s = c .before .before .before .before .before .before .before .before .before .before .before .before .before in
     omega (arith, counts-low (madeAt (s .args .g) (s .args .base .now)) (l .loop .a) (l .loop .counts) (l .loop .inv .3), c .before .before .before .before .before .before .before .before .before .full-count .ensures .1, c .before .before .before .before .before .before .loop-test)
 
 next-requires : tie.Need-next-requires Inv-loop μ-loop
@@ -110,14 +113,14 @@ loop-less c = search needs
 loop-again : tie.Need-loop-again Inv-loop μ-loop
 loop-again c =
     let l = c .before .before .before .before .before .before .before .before .before in
-    let s = c .before .before .before .before .before .before .before .before .before .before .before .before .before .before in
+    let s = c .before .before .before .before .before .before .before .before .before .before .before .before .before .before .before in
     let f = madeAt (s .args .g) (s .args .base .now) in
     let n = l .loop .a in
     let m = made-there (s .args .g) (l .loop .at .column) (l .loop .at .row) (s .args .base .now) (s .pre .0) _ _ (column-there (c .before .before .before .before .before .before .before .before)) (c .before .before .before .before .before .row-read .ensures) n (l .loop .inv .5) (l .loop .inv .4) in
     let p = c .before .before .before .make in (
       omega (arith, c .before .before .before .before .before .before .before .before .loop-test),
       c .before .before .out .given .1 ∙ l .loop .inv .1,
-      part-back (λ k. f k .written) recordWords (made-length (s .args .g) (s .args .base .now)) (s .args .out .now) (l .loop .out) (p .last .1 .1 .1 .1 .0) n (77 * n + 77 - 77 * n) (omega arith) (l .loop .inv .2) (p .ensures .1 ∙ ap (λ (k : Made). k .written) m),
+      part-back (λ k. f k .written) recordWords (made-length (s .args .g) (s .args .base .now)) (s .args .out .now) (l .loop .out) (p .last .1 .1 .1 .1 .1 .0) n (77 * n + 77 - 77 * n) (omega arith) (l .loop .inv .2) (p .ensures .1 ∙ ap (λ (k : Made). k .written) m),
       counts-next f n (l .loop .counts) (c .before .count .result) (p .result) (l .loop .inv .3) (p .ensures .0 ∙ ap (λ (k : Made). k .answer) m) (c .before .count .ensures),
       c .next .ensures .0 ∙ ap (λ (k : ℕ). k + 1) (l .loop .inv .4),
       c .next .ensures .1 .0,
@@ -130,7 +133,7 @@ same-length c = search needs
 returns : tie.Need-returns Inv-loop μ-loop
 returns c =
     let l = c .before .loop in
-    let s = c .before .before .before .before .before .before in
+    let s = c .before .before .before .before .before .before .before in
     let f = madeAt (s .args .g) (s .args .base .now) in
     let t = c .before .before .before .full-count .ensures .0 in
     let e : l .a ≡ fullCount (s .args .g) = omega (arith, t) in (
@@ -144,6 +147,7 @@ fill-spec =
     (tie.spec
     Inv-loop
     μ-loop
+    scales-of-requires
     column-reads-requires
     full-count-requires
     read-nowhere-requires

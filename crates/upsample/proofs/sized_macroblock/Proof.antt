@@ -12,6 +12,9 @@ use borrow.Author.Needs.{needs}
 use Rattle.upsample.proofs.sized_macroblock.Statement.{statement}
 use Rattle.upsample.proofs.sized_macroblock.Tie as tie
 
+scales-of-requires : tie.Need-scales-of-requires
+scales-of-requires c κs = search needs
+
 axis-read-requires : tie.Need-axis-read-requires
 axis-read-requires c κs = search needs
 
@@ -19,20 +22,20 @@ axis-read-requires-2 : tie.Need-axis-read-requires-2
 axis-read-requires-2 c κs = search needs
 
 -- what is known of the two axes' readings
-known : (a : tie.After-axis-read2) → Known (a .before .before .args .g) (a .before .before .args .base .now) (a .before .before .pre .0) (a .before .before .args .column) (a .before .before .args .row) (a .before .axis-read .result) (a .axis-read2 .result)
+known : (a : tie.After-axis-read2) → Known (a .before .before .before .args .g) (a .before .before .before .args .base .now) (a .before .before .before .pre .0) (a .before .before .before .args .column) (a .before .before .before .args .row) (a .before .axis-read .result) (a .axis-read2 .result)
 known a =
-    let s = a .before .before in
+    let s = a .before .before .before in
     known-of (s .args .g) (s .args .base .now) (s .pre .0) (s .args .column) (s .args .row) (a .before .axis-read .result) (a .axis-read2 .result) (a .before .axis-read .ensures) (a .axis-read2 .ensures)
 
 -- the verdict on the records that are read
-checked-is : (r : tie.After-check-read) → verdictOf (recordTests narrow (r .before .before .before .before .before .before .args .base .now) (addressesRead (r .before .before .before .before .before .before .args .g) (r .before .before .before .before .before .before .args .column) (r .before .before .before .before .before .before .args .row))) ≡ r .check-read .result
+checked-is : (r : tie.After-check-read) → verdictOf (recordTests narrow (r .before .before .before .before .before .before .before .args .base .now) (addressesRead (r .before .before .before .before .before .before .before .args .g) (r .before .before .before .before .before .before .before .args .column) (r .before .before .before .before .before .before .before .args .row))) ≡ r .check-read .result
 checked-is r =
-    let s = r .before .before .before .before .before .before in
+    let s = r .before .before .before .before .before .before .before in
     ap (λ (l : List ℕ). verdictOf (recordTests narrow (s .args .base .now) l)) (known (r .before .before .before .before) .named (r .before .if1 .taken)) ∙ sym (r .check-read .ensures)
 
 check-read-requires : tie.Need-check-read-requires
 check-read-requires c κs =
-    let s = c .before .before .before .before .before in
+    let s = c .before .before .before .before .before .before in
     let t = c .if1 .taken in
     let k = known (c .before .before .before) in
     (s .pre .0 .axes .horizontal .sized .base-high, k .first-row t, k .named-below t)
@@ -42,10 +45,11 @@ enum-told c = search needs
 
 make-requires : tie.Need-make-requires
 make-requires c κs =
-    let s = c .before .before .before .before .before .before .before .before .before in
+    let a = c .before .before .before .before .before .before .before .before .before in
+    let s = a .before in
     let k = known (c .before .before .before .before .before .before .before) in
     let e = checked-is (c .before .before .before) ∙ c .before .enum-told .given .1 in
-    (λ t. k .made-ready t (all-formed narrow (s .args .base .now) (addressesRead (s .args .g) (s .args .column) (s .args .row)) e), s .pre .1)
+    (λ t. k .made-ready t (all-formed narrow (s .args .base .now) (addressesRead (s .args .g) (s .args .column) (s .args .row)) e), s .pre .1, a .scales-of .ensures)
 
 enum-known-r : tie.Need-enum-known-r
 enum-known-r c = search needs
@@ -56,17 +60,17 @@ same-length c = search needs
 returns : tie.Need-returns
 returns c =
     let a = c .before .before .before .before .before .before .before .before .before in
-    let s = a .before .before in
+    let s = a .before .before .before in
     let e = checked-is (c .before .before .before .before .before) ∙ c .before .before .before .enum-told .given .1 in
     sized-answered (s .args .g) (s .args .base .now) (s .args .column) (s .args .row) (s .args .out .now) e (a .before .axis-read .result) (a .axis-read2 .result) (a .before .axis-read .ensures) (a .axis-read2 .ensures) _ _ (c .before .make .ensures .0) (c .before .make .ensures .1)
 
 returns-2 : tie.Need-returns-2
 returns-2 c =
-    let s = c .before .before .before .before .before .before .before .before .before in
+    let s = c .before .before .before .before .before .before .before .before .before .before in
     sized-refused (s .args .g) (s .args .base .now) (s .args .column) (s .args .row) (s .args .out .now) (c .before .r .given .0 .0) (checked-is (c .before .before .before) ∙ c .before .r .given .1)
 
 make-requires-2 : tie.Need-make-requires-2
-make-requires-2 c κs = (λ t. absurd (true≢false (sym t ∙ c .before .if1 .left)), c .before .before .before .before .before .before .pre .1)
+make-requires-2 c κs = (λ t. absurd (true≢false (sym t ∙ c .before .if1 .left)), c .before .before .before .before .before .before .before .pre .1, c .before .before .before .before .before .before .scales-of .ensures)
 
 same-length-2 : tie.Need-same-length-2
 same-length-2 c = search needs
@@ -74,7 +78,7 @@ same-length-2 c = search needs
 returns-3 : tie.Need-returns-3
 returns-3 c =
     let a = c .before .before .before .before .before .before in
-    let s = a .before .before in
+    let s = a .before .before .before in
     let e = ap (λ (l : List ℕ). verdictOf (recordTests narrow (s .args .base .now) l)) (known a .unnamed (c .before .before .before .if1 .left)) in
     sized-answered (s .args .g) (s .args .base .now) (s .args .column) (s .args .row) (s .args .out .now) (none-read (s .args .base .now) e) (a .before .axis-read .result) (a .axis-read2 .result) (a .before .axis-read .ensures) (a .axis-read2 .ensures) _ _ (c .before .make2 .ensures .0) (c .before .make2 .ensures .1)
 
@@ -82,6 +86,7 @@ pub sized-macroblock-spec : {M : Type 1} → statement M
 sized-macroblock-spec =
     tie.close
     (tie.spec
+    scales-of-requires
     axis-read-requires
     axis-read-requires-2
     check-read-requires
