@@ -1,7 +1,8 @@
 -- Why the table (the block map) and the rounding of step 4 are right. The table: on its own grid each block reads the base block under its centre, which singles out
--- every digit; and in the window as it is seen the two overlap. WhyEntire gathers these reasons, and proofs/Why shows them. No other definition cites them.
+-- every digit; and in the window as it is seen the two overlap. The rounding: how near it is to v·S/B, and how near to the rule that document 01 had first. WhyEntire gathers these reasons, and proofs/Why shows them. No other definition cites them.
 use Prim.Native.Nat.{ℕ, _+_, _*_, _-_, _/_, _%_, _<_, _≤_}
-use mathlib.Core.Path.{_≡_}
+use mathlib.Core.Path.{_≡_, refl}
+use mathlib.Core.List.{List, [], _∷_, map}
 use lib.IntN.{ℤ, pos, natAbs, _*ℤ_, _-ℤ_}
 use lib.Signed.{_≤ℤ_, _<ℤ_}
 use Rattle.definitions.specs.Basics.{minus, signed}
@@ -78,3 +79,26 @@ pub record WhyEntire : Type 0 where
   -- a word of −limit..limit − 1 becomes one of −2·limit..2·(limit − 1), for rule 5's limit and any other.
   pub range : (b s limit : ℕ) (v : ℤ) → Sized b s → minus limit ≤ℤ v → v ≤ℤ pos (limit - 1)
       → (minus (2 * limit) ≤ℤ scaledWord b s v) × (scaledWord b s v ≤ℤ pos (2 * (limit - 1)))
+
+-- ---- Examples of the rounding, in one table: B, S, a word v, what the first rule made of it, and what it becomes
+pub record Rounding : Type 0 where
+  pub base : ℕ
+  pub scaled : ℕ
+  pub word : ℤ
+  pub before : ℤ
+  pub now : ℤ
+
+abbrev rounding : ℕ → ℕ → ℤ → ℤ → ℤ → Rounding
+rounding b s v before now = record { base = b; scaled = s; word = v; before = before; now = now }
+
+abbrev pub roundings : List Rounding
+roundings =
+    rounding 32 48 (pos 3) (pos 5) (pos 5)  -- 4.5: a half
+    ∷ rounding 32 48 (minus 3) (minus 5) (minus 4)  -- −4.5: a half below zero, so it is not odd
+    ∷ rounding 80 156 (pos 10) (pos 20) (pos 19)  -- 19.5, and S · 65,536 / B is 127,795.2
+    ∷ rounding 112 130 (minus 8179) (minus 9493) (minus 9494)  -- −9,493.48..: not the nearest
+    ∷ []
+
+pub roundings-hold : (map (λ r. firstRule (r .base) (r .scaled) (r .word)) roundings ≡ map (λ r. r .before) roundings)
+    × (map (λ r. scaledWord (r .base) (r .scaled) (r .word)) roundings ≡ map (λ r. r .now) roundings)
+roundings-hold = (refl, refl)
