@@ -1,5 +1,6 @@
 -- Why the table (the block map) and the rounding of step 4 are right. The table: on its own grid each block reads the base block under its centre, which singles out
--- every digit; and in the window as it is seen the two overlap. The rounding: how near it is to v·S/B, and how near to the rule that document 01 had first. WhyEntire gathers these reasons, and proofs/Why shows them. No other definition cites them.
+-- every digit; and in the window as it is seen the two overlap. The rounding: different words stay different, and how near it is to v·S/B and to the rule that document
+-- 01 had first. WhyEntire gathers these reasons, and proofs/Why shows them. No other definition cites them.
 use Prim.Native.Nat.{ℕ, _+_, _*_, _-_, _/_, _%_, _<_, _≤_}
 use mathlib.Core.Path.{_≡_, refl}
 use mathlib.Core.List.{List, [], _∷_, map}
