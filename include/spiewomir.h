@@ -36,7 +36,7 @@ extern "C" {
 
 /* The version that this header is of: major times 10,000, plus minor times 100, plus
  * patch. CHANGELOG.md says what is new. */
-#define SPIEWOMIR_VERSION 10000
+#define SPIEWOMIR_VERSION 20000
 
 /* The version of the library that is linked: SPIEWOMIR_VERSION, unless the header is
  * another version's. */

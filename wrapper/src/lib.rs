@@ -41,7 +41,7 @@ use std::fmt;
 
 /// The version that this crate is of: major times 10,000, plus minor times 100,
 /// plus patch. [`version`] gives that of the library.
-pub const VERSION: u32 = 10_000;
+pub const VERSION: u32 = 20_000;
 
 /// Words of a motion record. Quadrants, blocks, and the macroblocks of a picture
 /// go in raster order; `l` is the list, 0 or 1.
