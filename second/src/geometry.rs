@@ -1,6 +1,8 @@
 //! The geometry's eight numbers, their refusals 1 to 4, and the borders that
-//! an axis gives to a macroblock inside the window.
+//! an axis gives to a macroblock inside the window. An accepted geometry also
+//! holds its axes' vector scales, made once for a picture, a call or a session.
 
+use crate::inherit::{Scale, Scales};
 use crate::refusal::Refusal;
 
 /// The eight numbers as they are lent, not yet judged.
@@ -41,11 +43,12 @@ pub struct Axis {
     pub full: i32,
 }
 
-/// An accepted geometry.
+/// An accepted geometry, with what vector words are scaled by.
 #[derive(Clone, Copy, Debug, PartialEq, Eq)]
 pub struct Geometry {
     pub x: Axis,
     pub y: Axis,
+    pub scales: Scales,
 }
 
 /// The borders around a macroblock's centre on one axis, and its first base
@@ -123,6 +126,10 @@ impl Geometry {
         Ok(Geometry {
             x: Axis { base: n.base_width, scaled: n.scaled_width, offset: n.offset_x, full: n.full_width },
             y: Axis { base: n.base_height, scaled: n.scaled_height, offset: n.offset_y, full: n.full_height },
+            scales: Scales {
+                x: Scale::new(n.base_width, n.scaled_width),
+                y: Scale::new(n.base_height, n.scaled_height),
+            },
         })
     }
 

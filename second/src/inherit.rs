@@ -1,7 +1,7 @@
-//! Inheriting: steps 1 to 4 on the sixteen blocks' motions. They are held by
-//! quadrant: four quadrants in raster order, of four blocks in raster order.
-//! In both fours the horizontal neighbour of i is i ^ 1, the vertical one
-//! i ^ 2 and the diagonal one i ^ 3.
+//! Inheriting: steps 1 to 4 on the sixteen blocks' motions, step 4 as document
+//! 02's request E3 has it. The motions are held by quadrant: four quadrants in
+//! raster order, of four blocks in raster order. In both fours the horizontal
+//! neighbour of i is i ^ 1, the vertical one i ^ 2 and the diagonal one i ^ 3.
 
 use crate::record::Motion;
 
@@ -72,37 +72,44 @@ fn fill_intra_quadrants(quadrants: &mut Quadrants, intra: IntraSet) {
     }
 }
 
-/// B and S of one axis, to scale a vector word by.
-#[derive(Clone, Copy, Debug)]
-pub struct Scale {
-    pub base: i32,
-    pub scaled: i32,
-}
+/// Bits of a scale's fraction: it counts in parts of 65,536.
+const FRACTION_BITS: u32 = 16;
+
+/// What the vector words of one axis are scaled by (E3). It is made when a
+/// geometry is accepted, so that no word is divided by B.
+#[derive(Clone, Copy, Debug, PartialEq, Eq)]
+pub struct Scale(i64);
 
 impl Scale {
-    /// sign(v) * ((|v| * S + B/2) / B)
-    pub fn word(&self, v: i16) -> i16 {
-        let (b, s) = (self.base as u32, self.scaled as u32);
-        let size = (v.unsigned_abs() as u32 * s + b / 2) / b;
-        if v < 0 {
-            -(size as i16)
-        } else {
-            size as i16
-        }
+    /// (S * 65,536 + B/2) / B, rounded down, for B and S of an accepted
+    /// geometry. With B <= S <= 2B it lies in 65,536..=131,072: different
+    /// words stay different, and a word grows to at most its double.
+    pub fn new(base: i32, scaled: i32) -> Scale {
+        let (b, s) = (base as u32, scaled as u32);
+        Scale((((s << FRACTION_BITS) + b / 2) / b).into())
+    }
+
+    /// (v * scale + 32,768) / 65,536, rounded down below zero too, as the
+    /// shift of a signed number does. The product has 64 bits, so that words
+    /// of -131,072..=131,071 fit as well.
+    pub fn word(self, v: i32) -> i32 {
+        const HALF: i64 = 1 << (FRACTION_BITS - 1);
+        ((i64::from(v) * self.0 + HALF) >> FRACTION_BITS) as i32
     }
 }
 
 /// Both axes' scales.
-#[derive(Clone, Copy, Debug)]
+#[derive(Clone, Copy, Debug, PartialEq, Eq)]
 pub struct Scales {
     pub x: Scale,
     pub y: Scale,
 }
 
 impl Scales {
-    /// Step 4 for a motion's vector words.
+    /// Step 4 for a motion's vector words; doubled, they still have 16 bits.
     pub fn vector(&self, [h0, v0, h1, v1]: [i16; 4]) -> [i16; 4] {
-        [self.x.word(h0), self.y.word(v0), self.x.word(h1), self.y.word(v1)]
+        let word = |scale: Scale, v: i16| scale.word(v.into()) as i16;
+        [word(self.x, h0), word(self.y, v0), word(self.x, h1), word(self.y, v1)]
     }
 }
 
@@ -186,9 +193,21 @@ pub mod tests {
         })
     }
 
+    /// The greatest n with n * d <= a, for d > 0.
+    fn divided(a: i128, d: i128) -> i128 {
+        a / d - (a % d < 0) as i128
+    }
+
+    /// E3's rule as it is written, for one word and B and S of its axis.
+    fn slow_word(v: i32, (base, scaled): (i32, i32)) -> i32 {
+        let (b, s) = (base as i128, scaled as i128);
+        let scale = divided(s * 65_536 + b / 2, b);
+        divided(v as i128 * scale + 32_768, 65_536) as i32
+    }
+
     /// Steps 1 to 4 once more on raster coordinates, one whole step after
-    /// the other and each from a copy.
-    fn slow(blocks: &[Motion; 16], intra: &[bool; 16], x: &Scale, y: &Scale) -> [Motion; 16] {
+    /// the other and each from a copy. `x` and `y` are B and S of the axes.
+    fn slow(blocks: &[Motion; 16], intra: &[bool; 16], x: (i32, i32), y: (i32, i32)) -> [Motion; 16] {
         let at = |column: usize, row: usize| row * 4 + column;
         let flip = |c: usize| c / 2 * 2 + 1 - c % 2;
         let around = |b: usize| {
@@ -227,10 +246,8 @@ pub mod tests {
             }
         }
         three.map(|mut motion| {
-            for (word, scale) in motion.vector.iter_mut().zip([x, y, x, y]) {
-                let v = *word as i64;
-                let (b, s) = (scale.base as i64, scale.scaled as i64);
-                *word = (v.signum() * ((v.abs() * s + b / 2) / b)) as i16;
+            for (word, sizes) in motion.vector.iter_mut().zip([x, y, x, y]) {
+                *word = slow_word((*word).into(), sizes) as i16;
             }
             motion
         })
@@ -262,14 +279,13 @@ pub mod tests {
                 }
             }
             let base = random.within(1, 256) * 16;
-            let x = Scale { base, scaled: base + 2 * random.within(0, base / 2) };
-            let y = Scale { base, scaled: 2 * base };
+            let (x, y) = ((base, base + 2 * random.within(0, base / 2)), (base, 2 * base));
             let mut quick = to_quadrants(&blocks);
             inherit(&mut quick, set);
             let unscaled = fewest_pieces(&quick);
-            let scales = Scales { x, y };
+            let scales = Scales { x: Scale::new(x.0, x.1), y: Scale::new(y.0, y.1) };
             quick.as_flattened_mut().iter_mut().for_each(|block| block.vector = scales.vector(block.vector));
-            assert_eq!(to_blocks(&quick), slow(&blocks, &intra, &x, &y));
+            assert_eq!(to_blocks(&quick), slow(&blocks, &intra, x, y));
             // The split is the same before and after step 4.
             assert_eq!(unscaled, fewest_pieces(&quick));
             tried += 1;
@@ -298,14 +314,83 @@ pub mod tests {
         assert_eq!(quadrant, [motion(3, -1), motion(4, -1), motion(3, -3), motion(4, -3)]);
     }
 
-    /// Bench example: scaled vector words.
+    /// Bench example, after E3: scaled vector words.
     #[test]
     fn bench_scaling() {
-        let scale = Scale { base: 32, scaled: 48 };
-        assert_eq!((scale.word(3), scale.word(-3)), (5, -5));
+        let scale = Scale::new(32, 48);
+        assert_eq!((scale.word(3), scale.word(-3)), (5, -4));
         for base in (16..=4096).step_by(16) {
-            let twice = Scale { base, scaled: 2 * base };
+            let twice = Scale::new(base, 2 * base);
             assert_eq!((twice.word(8191), twice.word(-8192)), (16382, -16384));
         }
+    }
+
+    /// The scales themselves, and words where they tell: 19.5 falls just short
+    /// of 20 by a scale rounded down, -9493.48 goes past the half by one
+    /// rounded up.
+    #[test]
+    fn scales_round_to_nearest() {
+        assert_eq!(Scale::new(32, 48), Scale(98_304));
+        assert_eq!(Scale::new(80, 156), Scale(127_795));
+        assert_eq!(Scale::new(112, 130), Scale(76_069));
+        assert_eq!(Scale::new(80, 156).word(10), 19);
+        assert_eq!(Scale::new(80, 156).word(-10), -19);
+        assert_eq!(Scale::new(112, 130).word(-8179), -9494);
+        assert_eq!(Scale::new(112, 130).word(8179), 9494);
+        // A half goes up on both sides of zero.
+        let half = Scale::new(32, 48);
+        assert_eq!([-5, -3, -1, 0, 1, 3, 5].map(|v| half.word(v)), [-7, -4, -1, 0, 2, 5, 8]);
+    }
+
+    /// Some dozens of B and S: B from the least to the most, S from B to 2B.
+    fn some_sizes() -> impl Iterator<Item = (i32, i32)> {
+        [16, 32, 48, 80, 112, 176, 352, 720, 1280, 1936, 4080, 4096].into_iter().flat_map(|base| {
+            let part = |n: i32, d: i32| base + base * n / d / 2 * 2;
+            [base, base + 2, part(1, 7), part(1, 2), part(5, 6), 2 * base - 2, 2 * base].map(|scaled| (base, scaled))
+        })
+    }
+
+    /// Every word of the limit by the rule as it is written. They rise
+    /// strictly, so two different words never scale to one, and 0 stays 0.
+    #[test]
+    fn words_rise() {
+        for sizes in some_sizes() {
+            let scale = Scale::new(sizes.0, sizes.1);
+            let mut before = i32::MIN;
+            for v in -8192..=8191 {
+                let word = scale.word(v);
+                assert_eq!(word, slow_word(v, sizes), "{v} by {sizes:?}");
+                assert!(before < word, "{v} by {sizes:?}");
+                before = word;
+            }
+            assert_eq!(scale.word(0), 0);
+        }
+    }
+
+    /// The same for words that need more than 16 bits, and more than 32 in the
+    /// product.
+    #[test]
+    fn long_words_rise() {
+        for sizes in some_sizes() {
+            let scale = Scale::new(sizes.0, sizes.1);
+            let mut before = i32::MIN;
+            for v in -131_072..=131_071 {
+                let word = scale.word(v);
+                assert_eq!(word, slow_word(v, sizes), "{v} by {sizes:?}");
+                assert!(before < word, "{v} by {sizes:?}");
+                before = word;
+            }
+        }
+        let twice = Scale::new(4096, 8192);
+        assert_eq!((twice.word(131_071), twice.word(-131_072)), (262_142, -262_144));
+    }
+
+    /// Both axes' scales, each on its own words, at the ends of the limit.
+    #[test]
+    fn vectors_by_axis() {
+        let scales = Scales { x: Scale::new(80, 156), y: Scale::new(112, 130) };
+        assert_eq!(scales.vector([10, -8179, -10, 8179]), [19, -9494, -19, 9494]);
+        let scales = Scales { x: Scale::new(16, 32), y: Scale::new(16, 16) };
+        assert_eq!(scales.vector([8191, 8191, -8192, -8192]), [16_382, 8191, -16_384, -8192]);
     }
 }

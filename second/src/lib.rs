@@ -1,6 +1,7 @@
 //! A second implementation of document 01, motion upsampling between two
-//! layers of a track clip. Written from the papers alone, in plain Rust and
-//! without other crates, to be compared with the proved library.
+//! layers of a track clip, with the rounding of document 02's request E3.
+//! Written from the papers alone, in plain Rust and without other crates, to
+//! be compared with the proved library.
 
 pub mod geometry;
 pub mod grammar;

@@ -1,7 +1,7 @@
 //! The calls on records: one macroblock, and a picture.
 
 use crate::geometry::{Geometry, Numbers};
-use crate::inherit::{inherit, IntraSet, Quadrants, Scale, Scales, INTRA_FROM};
+use crate::inherit::{inherit, IntraSet, Quadrants, Scales, INTRA_FROM};
 use crate::map::{reading, Reading};
 use crate::record::{
     block_in, broken_rule, motion, record_at, write_without_motion, Motion, Record, NO_MOTION, REFERENCES, TYPE_INTRA,
@@ -169,14 +169,10 @@ fn answer(geometry: &Geometry, base: &[i16], readings: Both, out: &mut Record) -
         Kind::Intra
     } else {
         inherit(&mut quadrants, intra);
-        // S is not below B, so scaling keeps different words different: the
-        // split may be found before step 4.
+        // A scale is at least 65,536, so scaling keeps different words
+        // different: the split may be found before step 4.
         let split = fewest_pieces(&quadrants);
-        let scales = Scales {
-            x: Scale { base: geometry.x.base, scaled: geometry.x.scaled },
-            y: Scale { base: geometry.y.base, scaled: geometry.y.scaled },
-        };
-        write_inherited(out, &quadrants, split, &scales);
+        write_inherited(out, &quadrants, split, &geometry.scales);
         Kind::Inherited(split)
     };
     Answer { kind, class: class(x, y), first_column: x.first as i32, first_row: y.first as i32 }

@@ -61,13 +61,58 @@ fn bench_axes_in_answers() {
     assert_eq!(ask(32, 64, 6, 2), (Class::Vert, 0, true));
 }
 
-/// Bench example: scaled words, seen in a written record.
+/// Bench example, after E3: scaled words, seen in a written record.
 #[test]
 fn bench_scaling_in_records() {
     let numbers = Numbers::from_array([32, 32, 48, 64, 0, 0, 16, 16]);
     let base = whole([0, 1], [3, 8191, -3, -8192]).repeat(4);
     let (_, out) = one(numbers, &base, 0, 0, WORDS);
-    assert_eq!(out, whole([0, 1], [5, 16382, -5, -16384]));
+    assert_eq!(out, whole([0, 1], [5, 16382, -4, -16384]));
+}
+
+/// E3's rule in all calls: a base of one motion gives that motion, scaled by
+/// each word's axis, wherever the window is.
+#[test]
+fn one_motion_scaled() {
+    // The remainder is not negative, so this rounds down.
+    let scaled = |v: i16, b: i32, s: i32| {
+        let scale = (i64::from(s) * 65_536 + i64::from(b / 2)).div_euclid(b.into());
+        (i64::from(v) * scale + 32_768).div_euclid(65_536) as i16
+    };
+    let try_one = |numbers: Numbers, vector: [i16; 4]| {
+        let x = |v: i16| scaled(v, numbers.base_width, numbers.scaled_width);
+        let y = |v: i16| scaled(v, numbers.base_height, numbers.scaled_height);
+        let expected = [x(vector[0]), y(vector[1]), x(vector[2]), y(vector[3])];
+        let base = whole([0, 1], vector).repeat(base_records(numbers));
+        let mut out = vec![UNTOUCHED; full_records(numbers) * WORDS];
+        let counts = picture(numbers, &base, &mut out).unwrap();
+        let mut session = Session::fresh().begin(numbers).0;
+        for (address, record) in out.chunks(WORDS).enumerate() {
+            if record[0] != 5 {
+                assert_eq!(record, whole([0, 1], expected));
+            }
+            let width = numbers.full_width as usize / 16;
+            let (_, single) = one(numbers, &base, (address % width) as i32, (address / width) as i32, WORDS);
+            let mut next = [UNTOUCHED; WORDS];
+            session = session.next(&base, &mut next).0;
+            assert_eq!((&single[..], &next[..]), (record, record));
+        }
+        (counts.inherited, expected)
+    };
+
+    let numbers = Numbers::from_array([80, 112, 156, 130, 0, 0, 160, 144]);
+    assert_eq!(try_one(numbers, [10, -8179, -10, 8179]), (9 * 8, [19, -9494, -19, 9494]));
+    let numbers = Numbers::from_array([112, 80, 130, 156, 0, 0, 144, 160]);
+    assert_eq!(try_one(numbers, [-8179, 10, 8179, -10]), (8 * 9, [-9494, 19, 9494, -19]));
+
+    let mut random = Random(3);
+    let mut inherited = 0;
+    for round in 0..300 {
+        let span = if round % 2 == 0 { 9 } else { 8191 };
+        let vector = [0; 4].map(|_| random.within(-span - 1, span) as i16);
+        inherited += try_one(geometry(&mut random), vector).0;
+    }
+    assert!(inherited > 1000, "{inherited}");
 }
 
 #[test]
