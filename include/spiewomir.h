@@ -53,6 +53,9 @@ uint32_t spiewomir_version(void);
  * 3 references -1..31; 4 type 0 has only -1, any other type a used list in each
  * quadrant; 5 vector words -8192..8191, and 0 where the reference is -1; 6 all blocks
  * of a partition or sub-partition have the same references and vectors.
+ * A written vector word is (v * scale + 32768) / 65536, rounded down, also below zero,
+ * of a base's word v, with scale = (S * 65536 + B / 2) / B of its axis, rounded down (B
+ * and S are the base's and the scaled base's size along it), as Annex G of H.264 has it.
  * A picture of W by H samples has W/16 times H/16 macroblocks; columns, rows and
  * addresses (raster order) count from 0. A written record is not well formed as a
  * base's if it is of type 5 or has a vector word outside -8192..8191; these reach

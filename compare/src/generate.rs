@@ -265,6 +265,15 @@ pub fn distinct(kind: i16, subs: [i16; 4], first: i16) -> Record {
     })
 }
 
+/// A 16x16 record with one word in list 0 and another in list 1, both across and
+/// down.
+pub fn whole(first: i16, second: i16) -> Record {
+    record(1, [0; 4], || Motion {
+        references: [0, 0],
+        vectors: [first, first, second, second],
+    })
+}
+
 /// Breaks a record, by the rule named where its type allows, and now and then
 /// by another one too.
 pub fn break_record(random: &mut Random, record: &mut [i16], rule: usize) {

@@ -48,6 +48,13 @@ impl<T: Guard> Lent<T> {
         &mut self.words[GUARDS..end]
     }
 
+    /// Lends other words, from the first on.
+    pub fn lend_first(&mut self, words: &[T]) {
+        let lent = GUARDS..GUARDS + words.len();
+        self.words[lent.clone()].copy_from_slice(words);
+        self.before[lent].copy_from_slice(words);
+    }
+
     /// Every word, lent or guard, is as it was.
     pub fn untouched(&self) -> bool {
         self.untouched_but(0)

@@ -33,7 +33,7 @@ const TEXTS: u64 = 4_000;
 
 /// Every test, a line each: its name, and what makes its calls.
 #[rustfmt::skip]
-const TESTS: [(&str, fn(&mut Calls)); 24] = [
+const TESTS: [(&str, fn(&mut Calls)); 25] = [
     ("bench example: S 2B passes, 2B + 2 is refused", sweeps::bench_scaled),
     ("bench example: offset -8,192 passes, -8,194 is refused", sweeps::bench_offset),
     ("each of the 259 splits", sweeps::splits),
@@ -41,6 +41,7 @@ const TESTS: [(&str, fn(&mut Calls)); 24] = [
     ("windows of bases to 4096", sweeps::long_windows),
     ("every two rows of the block map with every intra pattern", sweeps::intra_patterns),
     ("each word of a record at every limit", sweeps::words),
+    ("every vector word, scaled by more than 200 pairs of B and S", sweeps::scaled_words),
     ("each number of a geometry at every limit", sweeps::numbers),
     ("every set of faults in the order of their refusals", sweeps::faults),
     ("large pictures", pictures::large),

@@ -4,7 +4,9 @@ use crate::calls::Calls;
 use crate::coverage::map_row;
 use crate::lent::Lent;
 use crate::pictures::{positions, whole_and_single};
-use compare::generate::{base_macroblocks, distinct, full_macroblocks, intra, Eight, Mood, Record};
+use compare::generate::{
+    base_macroblocks, distinct, full_macroblocks, intra, whole, Eight, Mood, Record,
+};
 use compare::random::Random;
 use second::geometry::{Axis, Geometry};
 use second::{Numbers, WORDS};
@@ -262,6 +264,39 @@ pub fn words(calls: &mut Calls) {
             }
         }
     }
+}
+
+/// Every vector word is scaled, for more than 200 pairs B, S along either axis: the
+/// smallest and the largest of both, ratios whose scale is exact and such whose is
+/// not. The macroblock at 0,0 reads base macroblock 0 alone, which moves as a whole.
+pub fn scaled_words(calls: &mut Calls) {
+    let random = &mut Random::new(5);
+    let mut pairs: Vec<(i32, i32)> = vec![(32, 48), (80, 156), (112, 130)];
+    for base in [
+        16, 32, 48, 80, 112, 144, 240, 256, 528, 1008, 1024, 2032, 3056, 4080, 4096,
+    ] {
+        pairs.extend([0, 2, base / 2, base - 2, base].map(|more| (base, base + more)));
+        for _ in 0..20 {
+            pairs.push((base, base + 2 * random.within(0, base / 2)));
+        }
+    }
+    pairs.sort();
+    pairs.dedup();
+    assert!(pairs.len() >= 200, "{} pairs", pairs.len());
+    for &(base, scaled) in &pairs {
+        let other = 16 + 2 * random.within(0, 8);
+        let mut lent = Lent::of(&vec![0; base as usize / 16 * WORDS]);
+        for eight in [
+            [base, 16, scaled, other, 0, 0, 16, 16],
+            [16, base, other, scaled, 0, 0, 16, 16],
+        ] {
+            for word in -8192..0 {
+                lent.lend_first(&whole(word, word + 8192));
+                let _ = calls.single(&eight, &lent, (0, 0), WORDS, &[]);
+            }
+        }
+    }
+    println!("{} pairs of B and S with every word", pairs.len());
 }
 
 /// Every two of a geometry's numbers are set to every two limits. The calls are
