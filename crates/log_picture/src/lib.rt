@@ -70,8 +70,11 @@ fn answer_at(g: Axes, scales: Scales, base: &[i16], column: u32, row: u32) -> An
 {
     let h = axis_read(g.horizontal, column);
     let v = axis_read(g.vertical, row);
-    let mut words = [0i16; RECORD_WORDS];
-    make(g, scales, base, h, v, &mut words)
+    if h.inside & v.inside {
+        let mut words = [0i16; RECORD_WORDS];
+        return make(g, scales, base, h, v, &mut words);
+    }
+    Answer::Outside
 }
 
 // A line per macroblock, in raster order, then the sync line.
