@@ -267,7 +267,7 @@ pub fn words(calls: &mut Calls) {
 }
 
 /// Every vector word is scaled, for more than 200 pairs B, S along either axis: the
-/// smallest and the largest of both, ratios whose scale is exact and such whose is
+/// smallest and the largest of both, ratios whose scale is exact and some whose is
 /// not. The macroblock at 0,0 reads base macroblock 0 alone, which moves as a whole.
 pub fn scaled_words(calls: &mut Calls) {
     let random = &mut Random::new(5);

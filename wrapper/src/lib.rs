@@ -2,7 +2,7 @@
 //! session over one picture, a sync text and its log.
 //!
 //! Records, refusals and answers are those of document 01, the project's scope
-//! paper. No call asks anything of its caller: it judges what it is lent, and a
+//! paper, with vectors rounded as document 02's E3 says. No call asks anything of its caller: it judges what it is lent, and a
 //! refused call leaves every lent word and byte as it was. `numbers` has the
 //! same calls with plain numbers.
 //!
@@ -52,8 +52,10 @@ pub const VERSION: u32 = 20_000;
 /// - 13 + 4b + 2l, and the next: the horizontal and vertical vector of 4x4 block
 ///   `b`, 0 to 15, in quarter samples; 0 where the reference is -1.
 ///
-/// [`refused::RECORD`] has the rules for a base's. A written vector word can be up to
-/// twice as long, -16384 to 16382.
+/// [`refused::RECORD`] has the rules for a base's. A written vector word is (v * scale +
+/// 32768) / 65536, rounded down, also below zero, of a base's word v, with scale = (S *
+/// 65536 + B / 2) / B of its axis, rounded down (B is the base's size, S the scaled one):
+/// -16384 to 16382.
 pub const WORDS: usize = 77;
 
 /// The words of the records of a picture, [`WORDS`] for each macroblock; 0 for a

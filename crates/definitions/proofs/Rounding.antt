@@ -2,7 +2,7 @@
 use Prim.Native.Nat.{ℕ, zero, suc, _+_, _*_, _/_, _%_, _-_, _≤_, _<_}
 use mathlib.Core.Bool.{Bool, true, false}
 use mathlib.Core.Path.{_≡_, refl, sym, ap, subst, _∙_}
-use native.Mathlib.Nat.{div-eq-of-lt-le, div-mul-le-self, lt-div-mul-add, div-lt-iff-lt-mul, le-div-iff-mul-le, mul-le-mul-left, mul-le-mul-right, mod-add-div, le-antisymm}
+use native.Mathlib.Nat.{div-eq-of-lt-le, div-mul-le-self, lt-div-mul-add, div-lt-iff-lt-mul, le-div-iff-mul-le, mul-le-mul-left, mul-le-mul-right, mod-add-div, mul-mod-left, le-antisymm}
 use native.Mathlib.Omega.{arith}
 use lib.Dec.{leb→le, le→leb, lt→ltb, ltb→lt, ltb}
 use borrow.Author.Tests.{ltb-true, ltb-false}
@@ -14,6 +14,32 @@ use Rattle.definitions.specs.Record.{narrow}
 use Rattle.definitions.specs.Inheriting.{scaleOf, scaledWord}
 use Rattle.definitions.specs.Why.{errorOf, NearestUp, firstRule}
 use Rattle.definitions.proofs.Differences.{sub-cases, sub-neg, pos-minus}
+
+-- ---- rounding down
+minus-over : (k a : ℕ) → a < k → minus k ≤ℤ negsuc a
+minus-over zero a h = absurd (omega arith)
+minus-over (suc k) a h = leZ-yes (le→leb a k (omega arith))
+
+over-minus : (k a : ℕ) → k ≤ a → negsuc a <ℤ minus k
+over-minus zero a h = ltZ-yes tt
+over-minus (suc k) a h = ltZ-yes (lt→ltb k a (omega arith))
+
+floor-below : (a n q : ℕ) → n * q ≤ a → a < n * suc q → ((pos n *ℤ negsuc q) ≤ℤ negsuc a) × (negsuc a <ℤ (pos n *ℤ (negsuc q +ℤ pos 1)))
+floor-below a n zero l h = (minus-over _ _ h, ltZ-yes tt)
+floor-below a n (suc q) l h =
+    let one : suc (suc q) - 2 ≡ q = omega arith in
+    let e : negsuc (suc q) +ℤ pos 1 ≡ negsuc q = sub-neg 1 (suc (suc q)) (omega arith) ∙ ap negsuc one in
+    (minus-over _ _ h, subst (λ (x : ℤ). negsuc a <ℤ (pos n *ℤ x)) (sym e) (over-minus (n * suc q) a l))
+
+pub floor : (z : ℤ) (n : ℕ) → 0 < n → ((pos n *ℤ down z n) ≤ℤ z) × (z <ℤ (pos n *ℤ (down z n +ℤ pos 1)))
+floor (pos a) n h =
+    let under = div-mul-le-self a n in
+    let over = lt-div-mul-add {a = a} h in
+    (leZ-yes (le→leb (n * (a / n)) a (omega (arith, under))), ltZ-yes (lt→ltb a (n * (a / n + 1)) (omega (arith, over))))
+floor (negsuc a) n h =
+    let under = div-mul-le-self a n in
+    let over = lt-div-mul-add {a = a} h in
+    floor-below a n (a / n) (omega (arith, under)) (omega (arith, over))
 
 -- ---- the scale
 module _ (b s : ℕ) (z : Sized b s) where
@@ -36,9 +62,6 @@ module _ (b s : ℕ) (z : Sized b s) where
 -- ---- the size of a scaled word. Below 0 the half is 1 less, so that a half goes up there too.
 abbrev pub sizeOf : ℕ → ℕ → ℕ → ℕ → ℕ
 sizeOf half b s n = (n * scaleOf b s + half) / 65536
-
-pub above : (b s n : ℕ) → scaledWord b s (pos n) ≡ pos (sizeOf 32768 b s n)
-above b s n = refl
 
 neg-plus : (k h : ℕ) → h < k → negℤ (pos k) +ℤ pos h ≡ negsuc (k - suc h)
 neg-plus zero h l = absurd (omega arith)
@@ -147,7 +170,12 @@ error b s (negsuc n) z =
     rw (below b s n z, error-neg b s (pos (suc n)) (pos (sizeOf 32767 b s (suc n)))) (size-error 32767 b s (suc n) z (omega arith) (omega arith))
 
 -- ---- where S·65,536/B is whole, it is the scale
-module _ (b s : ℕ) (z : Sized b s) (whole : s * 65536 % b ≡ 0) where
+pub whole : (b s n : ℕ) → Sized b s → 2 * s ≡ n * b → s * 65536 % b ≡ 0
+whole b s n z e =
+    let q : s * 65536 ≡ 32768 * n * b = omega (arith, e) in
+    ap (λ (x : ℕ). x % b) q ∙ mul-mod-left (32768 * n) b
+
+module _ (b s : ℕ) (z : Sized b s) (exact : s * 65536 % b ≡ 0) where
   scale-whole : scaleOf b s * b ≡ s * 65536
   scale-whole =
       let q = s * 65536 / b in

@@ -26,7 +26,7 @@ eqZ (negsuc m) (negsuc n) = eqb m n
 abbrev pub between : ℤ → ℤ → ℤ → Bool
 between low high z = leZ low z && leZ z high
 
--- z / n, rounded down, also below zero: −1 − m gives −1 − m/n
+-- z divided by n, rounded down, also below zero: −1 − m gives −1 − m/n. (What the library has for z shifted to the right.)
 abbrev pub down : ℤ → ℕ → ℤ
 down z n = shrZ z n
 

@@ -107,7 +107,7 @@ starred =
     ∷ axis 32 64 (pos 6) 16 (gives (pos 16) (minus 4) 0 false)
     ∷ axis 32 64 (pos 6) 32 (gives (minus 4) (pos 16) 0 true)
     ∷ word 32 48 (pos 3) (pos 5)
-    ∷ word 32 48 (minus 3) (minus 4)
+    ∷ word 32 48 (minus 3) (minus 4)  -- document 01 prints −5, the rule before document 02's E3
     ∷ word 32 64 (pos 8191) (pos 16382)
     ∷ word 32 64 (minus 8192) (minus 16384)
     ∷ macroblock onlyLast 7 1

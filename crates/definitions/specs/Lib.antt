@@ -1,4 +1,4 @@
--- Document 01 as definitions, in its order: read these files from the top with the paper beside them.
+-- Document 01 as definitions, in its order, with step 4 of "Inheriting" as document 02's E3 has it: read these files from the top with the paper beside them.
 pub mod Basics
 pub mod Geometry
 pub mod Raster

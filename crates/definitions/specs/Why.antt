@@ -4,9 +4,9 @@
 use Prim.Native.Nat.{ℕ, _+_, _*_, _-_, _/_, _%_, _<_, _≤_}
 use mathlib.Core.Path.{_≡_, refl}
 use mathlib.Core.List.{List, [], _∷_, map}
-use lib.IntN.{ℤ, pos, natAbs, _*ℤ_, _-ℤ_}
+use lib.IntN.{ℤ, pos, natAbs, _+ℤ_, _*ℤ_, _-ℤ_}
 use lib.Signed.{_≤ℤ_, _<ℤ_}
-use Rattle.definitions.specs.Basics.{minus, signed}
+use Rattle.definitions.specs.Basics.{down, minus, signed}
 use Rattle.definitions.specs.Accepted.{Sized, Inside}
 use Rattle.definitions.specs.Geometry.{kOf, d1Of, d2Of, roundedOf}
 use Rattle.definitions.specs.BlockMap.{coordinateOf}
@@ -51,7 +51,7 @@ pub record NearestUp (b s : ℕ) (v v′ : ℤ) : Type 0 where
   pub near : 2 * errorOf b s v v′ ≤ b
   pub half : 2 * errorOf b s v v′ ≡ b → (pos s *ℤ v) <ℤ (pos b *ℤ v′)
 
--- The rule that document 01 had first, before document 02's E3: sign(v) · ((|v|·S + B/2) / B), the nearest, halves away from zero.
+-- The rule that document 01 had first, before document 02's E3: sign(v) · ((|v|·S + B/2) / B).
 abbrev pub firstRule : ℕ → ℕ → ℤ → ℤ
 firstRule b s v = signed v ((natAbs v * s + b / 2) / b)
 
@@ -67,6 +67,8 @@ pub record WhyEntire : Type 0 where
   pub formula : (b s c n : ℕ) → Inside b s c → n < 4 → coordinateOf b s c n ≡ (centreOf (middleOf b s c) n - n % 2) / widthOf b s c
   -- in the window as it is seen, the block overlaps the scaled picture of the base block that it reads;
   pub overlap : (b s c i : ℕ) → Inside b s c → i < 4 → Overlaps b s (coordinateOf b s c i) (centreOf c i)
+  -- a quotient q = z / n is rounded down, also below zero: n·q ≤ z < n·(q + 1);
+  pub floor : (z : ℤ) (n : ℕ) → 0 < n → ((pos n *ℤ down z n) ≤ℤ z) × (z <ℤ (pos n *ℤ (down z n +ℤ pos 1)))
   -- a larger word becomes a larger one,
   pub rising : (b s : ℕ) (v w : ℤ) → Sized b s → v <ℤ w → scaledWord b s v <ℤ scaledWord b s w
   -- so that two different words never scale to one;
@@ -75,31 +77,36 @@ pub record WhyEntire : Type 0 where
   pub error : (b s : ℕ) (v : ℤ) → Sized b s → 2 * 65536 * errorOf b s v (scaledWord b s v) ≤ b * (65536 + natAbs v)
   -- where S · 65,536 / B is whole it is the whole number nearest to v·S/B, halves up,
   pub nearest : (b s : ℕ) (v : ℤ) → Sized b s → s * 65536 % b ≡ 0 → NearestUp b s v (scaledWord b s v)
-  -- and at the narrow limit it differs from the first rule's by at most 1;
+  -- and it is whole at the ratios n/2, which are 1, 3/2 and 2;
+  pub whole : (b s n : ℕ) → Sized b s → 2 * s ≡ n * b → s * 65536 % b ≡ 0
+  -- at the narrow limit it differs from the first rule's by at most 1;
   pub first-rule : (b s : ℕ) (v : ℤ) → Sized b s → natAbs v ≤ narrow → natAbs (scaledWord b s v -ℤ firstRule b s v) ≤ 1
   -- a word of −limit..limit − 1 becomes one of −2·limit..2·(limit − 1), for rule 5's limit and any other.
   pub range : (b s limit : ℕ) (v : ℤ) → Sized b s → minus limit ≤ℤ v → v ≤ℤ pos (limit - 1)
       → (minus (2 * limit) ≤ℤ scaledWord b s v) × (scaledWord b s v ≤ℤ pos (2 * (limit - 1)))
 
--- ---- Examples of the rounding, in one table: B, S, a word v, what the first rule made of it, and what it becomes
+-- ---- Examples of the rounding, in one table: B, S, a word v, what the first rule made of it, what it becomes (v′), and 2·|B·v′ − S·v|, which is B for a half and
+-- above B where v′ is not the nearest
 pub record Rounding : Type 0 where
   pub base : ℕ
   pub scaled : ℕ
   pub word : ℤ
   pub before : ℤ
   pub now : ℤ
+  pub twice : ℕ
 
-abbrev rounding : ℕ → ℕ → ℤ → ℤ → ℤ → Rounding
-rounding b s v before now = record { base = b; scaled = s; word = v; before = before; now = now }
+abbrev rounding : ℕ → ℕ → ℤ → ℤ → ℤ → ℕ → Rounding
+rounding b s v before now twice = record { base = b; scaled = s; word = v; before = before; now = now; twice = twice }
 
 abbrev pub roundings : List Rounding
 roundings =
-    rounding 32 48 (pos 3) (pos 5) (pos 5)  -- 4.5: a half
-    ∷ rounding 32 48 (minus 3) (minus 5) (minus 4)  -- −4.5: a half below zero, so it is not odd
-    ∷ rounding 80 156 (pos 10) (pos 20) (pos 19)  -- 19.5, and S · 65,536 / B is 127,795.2
-    ∷ rounding 112 130 (minus 8179) (minus 9493) (minus 9494)  -- −9,493.48..: not the nearest
+    rounding 32 48 (pos 3) (pos 5) (pos 5) 32  -- 4.5: a half
+    ∷ rounding 32 48 (minus 3) (minus 5) (minus 4) 32  -- −4.5: a half below zero goes up too, so it is not odd
+    ∷ rounding 80 156 (pos 10) (pos 20) (pos 19) 80  -- 19.5: a half that goes down, since S · 65,536 / B is 127,795.2 and the scale below it
+    ∷ rounding 112 130 (minus 8179) (minus 9493) (minus 9494) 116  -- −9,493.48..: not the nearest
     ∷ []
 
 pub roundings-hold : (map (λ r. firstRule (r .base) (r .scaled) (r .word)) roundings ≡ map (λ r. r .before) roundings)
     × (map (λ r. scaledWord (r .base) (r .scaled) (r .word)) roundings ≡ map (λ r. r .now) roundings)
-roundings-hold = (refl, refl)
+    × (map (λ r. 2 * errorOf (r .base) (r .scaled) (r .word) (r .now)) roundings ≡ map (λ r. r .twice) roundings)
+roundings-hold = (refl, refl, refl)
