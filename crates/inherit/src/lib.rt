@@ -1,9 +1,9 @@
-// Steps 1 to 3 of "Inheriting": 1 and 2 on a quadrant of four motions, 3 on four such quadrants; and the count of the intra set.
+// The intra set: its count, which of its blocks lie in a quadrant, and step 3 of "Inheriting", on four quadrants of four motions.
 ghost use Prim.Native.Nat.{_<_};
-ghost use Rattle.definitions.specs.Inheriting.{clearOf, copied, copiedFrom, filled, liveOf, marked, merged, mostlyIntra, someOf};
-ghost use Rattle.quadrant.specs.Merging.{AllEmpty};
+ghost use Rattle.definitions.specs.Inheriting.{clearOf, copied, copiedFrom, liveOf, marked, mostlyIntra, someOf};
+ghost use Rattle.motion.specs.ByValue.{quadrantsIn};
 ghost use mathlib.Core.Path.{_≡_};
-use definitions::Motion;
+use motion::BlockMotion;
 
 // ---- The intra set: bit i stands for block i in raster order.
 // From this count on the answer is intra.
@@ -28,7 +28,7 @@ fn is_marked(set: u16, i: u32) -> bool
 const FIRST_BLOCK: [u32; 4] = [0, 2, 8, 10];
 
 // The blocks of quadrant q that read no intra macroblock.
-fn clear_of(set: u16, q: usize) -> [bool; 4]
+pub fn clear_of(set: u16, q: usize) -> [bool; 4]
     requires { ⌜ q < 4 ⌝ }
     ensures { λ r. ⌜ r ≡ clearOf set q ⌝ }
 {
@@ -86,30 +86,16 @@ fn copied_from(live: [bool; 4], q: usize) -> usize
 }
 
 // Each quadrant as it is copied.
-fn copy_some(live: [bool; 4], m: [[Motion; 4]; 4]) -> [[Motion; 4]; 4]
-    ensures { λ r. ⌜ r ≡ copied live m ⌝ }
+pub fn copy(set: u16, m: [[BlockMotion; 4]; 4]) -> [[BlockMotion; 4]; 4]
+    ensures { λ r. ⌜ quadrantsIn r ≡ copied (liveOf set) (quadrantsIn m) ⌝ }
 {
+    let live = live_of(set);
+    if live[0] & live[1] & live[2] & live[3] {
+        return m;
+    }
     let a = m[copied_from(live, 0)];
     let b = m[copied_from(live, 1)];
     let c = m[copied_from(live, 2)];
     let d = m[copied_from(live, 3)];
     [a, b, c, d]
-}
-
-// With an empty set nothing is to copy.
-pub fn copy(set: u16, m: [[Motion; 4]; 4]) -> [[Motion; 4]; 4]
-    ensures { λ r. ⌜ r ≡ copied (liveOf set) m ⌝ }
-{
-    if set == 0 {
-        return m;
-    }
-    copy_some(live_of(set), m)
-}
-
-// ---- Steps 1 and 2 of quadrant q.
-pub fn resolve(set: u16, m: [Motion; 4], q: usize) -> [Motion; 4]
-    requires { ⌜ (q < 4) × AllEmpty m ⌝ }
-    ensures { λ r. ⌜ r ≡ merged (filled (clearOf set q) m) ⌝ }
-{
-    quadrant::merge(quadrant::fill(clear_of(set, q), m))
 }

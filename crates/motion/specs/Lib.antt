@@ -1,3 +1,4 @@
--- What the functions that scale a motion ask of it, and what they scale it by.
+-- Motions by value, what the functions that scale one ask of it, and what they scale it by.
+pub mod ByValue
 pub mod Range
 pub mod Scales

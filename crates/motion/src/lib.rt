@@ -20,6 +20,17 @@ use definitions::Prediction;
 use definitions::Split;
 use definitions::SubSplit;
 
+// ---- A block's motion by value
+// The references of both lists, -1 unused, and the vectors side by side, so that they are compared and scaled at once. In 32 bits, so that records of any width share it.
+pub struct BlockMotion {
+    pub r0: i32,
+    pub r1: i32,
+    pub x0: i32,
+    pub y0: i32,
+    pub x1: i32,
+    pub y1: i32,
+}
+
 // ---- The same motion: both references and both vectors.
 pub fn same_reference(p: Prediction, q: Prediction) -> bool
     ensures { λ r. ⌜ r ≡ eqZ (p .reference) (q .reference) ⌝ }

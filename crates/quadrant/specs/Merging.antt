@@ -1,37 +1,31 @@
--- Step 2 on one list of four blocks, and on a quadrant: which block's vector is taken, and where nothing is to merge.
+-- Step 2 on one list of four blocks: the lowest reference, and which block's vector is taken with it.
 use Prim.Native.Nat.{ℕ, _<_}
 use mathlib.Core.Path.{_≡_}
-use mathlib.Core.Bool.{Bool, false, _&&_}
-use mathlib.Core.List.{List}
+use mathlib.Core.Bool.{Bool, false}
+use mathlib.Core.List.{List, [], _∷_}
+use lib.IntN.{ℤ, natAbs}
 use lib.ListN.{getD}
-use lib.Signed.{ltZ}
 use Rattle.definitions.specs.declared.Prediction.{Prediction}
 use Rattle.definitions.specs.declared.Motion.{Motion}
-use Rattle.quadrant.specs.declared.Had.{Had}
-use Rattle.quadrant.specs.declared.Parts.{Parts}
+use Rattle.motion.specs.declared.BlockMotion.{BlockMotion}
 use Rattle.definitions.specs.Basics.{pick, eqZ}
 use Rattle.definitions.specs.Record.{used}
-use Rattle.definitions.specs.Inheriting.{zeroMotion, unused}
+use Rattle.definitions.specs.Inheriting.{lower, zeroMotion, unused}
 
--- the one of the two with the lower used reference: the first of equal ones, the second of two unused
-abbrev pub lowerOf : Prediction → Prediction → Prediction
-lowerOf p q = pick (used (p .reference)) (pick (used (q .reference)) (pick (ltZ (q .reference) (p .reference)) q p) p) q
+-- the rank of a reference: an unused one comes last
+abbrev pub rankOf : ℤ → ℕ
+rankOf r = pick (used r) (natAbs r) 4294967295
 
--- the first that is good: a block's own, its horizontal, its vertical, its diagonal neighbour's; its own where none is
-unfoldable pub firstOf : {A : Type 0} → Bool → Bool → Bool → Bool → A → A → A → A → A
-firstOf own h v d a ah av ad = pick own a (pick h ah (pick v av (pick d ad a)))
+unfoldable pub lowestOf : ℤ → ℤ → ℤ → ℤ → ℤ
+lowestOf p q s t = lower (lower p q) (lower s t)
 
-abbrev pub firstHaving : Had → Parts → Prediction
-firstHaving had p = firstOf (had .own) (had .h) (had .v) (had .d) (p .own) (p .h) (p .v) (p .d)
+-- which of four references are the lowest
+unfoldable pub having4 : ℤ → ℤ → ℤ → ℤ → List Bool
+having4 p q s t = eqZ p (lowestOf p q s t) ∷ eqZ q (lowestOf p q s t) ∷ eqZ s (lowestOf p q s t) ∷ eqZ t (lowestOf p q s t) ∷ []
 
--- the four have one reference; in both lists
-abbrev pub oneReferenceOf : Prediction → Prediction → Prediction → Prediction → Bool
-oneReferenceOf p q s t = (eqZ (q .reference) (p .reference) && eqZ (s .reference) (p .reference)) && eqZ (t .reference) (p .reference)
-
-unfoldable pub oneReference : List Motion → Bool
-oneReference m =
-    oneReferenceOf (getD m 0 zeroMotion .list0) (getD m 1 zeroMotion .list0) (getD m 2 zeroMotion .list0) (getD m 3 zeroMotion .list0)
-    && oneReferenceOf (getD m 0 zeroMotion .list1) (getD m 1 zeroMotion .list1) (getD m 2 zeroMotion .list1) (getD m 3 zeroMotion .list1)
+-- references with the vector of list 0 from one block and that of list 1 from another
+abbrev pub joinedOf : ℤ → ℤ → BlockMotion → BlockMotion → BlockMotion
+joinedOf r0 r1 one other = record { r0 = r0; r1 = r1; x0 = one .x0; y0 = one .y0; x1 = other .x1; y1 = other .y1 }
 
 -- an unused list of a block has no vector, as rule 5 asks of a record
 abbrev pub Empty : Prediction → Type 0

@@ -1,0 +1,34 @@
+-- Motions as the code hands them on: each is one of the definitions', laid out flat.
+use Prim.Native.Nat.{ℕ, _<_}
+use mathlib.Core.Path.{_≡_}
+use mathlib.Core.Bool.{true}
+use mathlib.Core.List.{List, []}
+use lib.IntN.{ℤ, pos}
+use lib.ListN.{getD}
+use Rattle.definitions.specs.declared.Motion.{Motion}
+use Rattle.definitions.specs.Basics.{between, four, minus}
+use Rattle.motion.specs.declared.BlockMotion.{BlockMotion}
+
+abbrev pub motionIn : BlockMotion → Motion
+motionIn m = record { list0 = record { reference = m .r0; x = m .x0; y = m .y0 }; list1 = record { reference = m .r1; x = m .x1; y = m .y1 } }
+
+-- what stands beyond the four is read by no step
+abbrev pub zeroBlock : BlockMotion
+zeroBlock = record { r0 = pos 0; r1 = pos 0; x0 = pos 0; y0 = pos 0; x1 = pos 0; y1 = pos 0 }
+
+-- a quadrant of four blocks, and four such quadrants
+abbrev pub motionsIn : List BlockMotion → List Motion
+motionsIn m = four (λ k. motionIn (getD m k zeroBlock))
+
+abbrev pub quadrantsIn : List (List BlockMotion) → List (List Motion)
+quadrantsIn m = four (λ q. motionsIn (getD m q []))
+
+-- a reference as rule 3 asks it of a record; of a motion's both lists, and of the four blocks of a quadrant
+abbrev pub Reference : ℤ → Type 0
+Reference r = between (minus 1) (pos 31) r ≡ true
+
+abbrev pub Referring : BlockMotion → Type 0
+Referring m = Reference (m .r0) × Reference (m .r1)
+
+abbrev pub AllReferring : List BlockMotion → Type 0
+AllReferring m = (k : ℕ) → k < 4 → Referring (getD m k zeroBlock)
