@@ -140,9 +140,17 @@ pub fn merge(m: [BlockMotion; 4]) -> [BlockMotion; 4]
     let t = m[3];
     let f = sources_of(p.r0, q.r0, s.r0, t.r0);
     let g = sources_of(p.r1, q.r1, s.r1, t.r1);
-    let a = joined(f.reference, g.reference, m[f.a], m[g.a]);
-    let b = joined(f.reference, g.reference, m[f.b], m[g.b]);
-    let c = joined(f.reference, g.reference, m[f.c], m[g.c]);
-    let d = joined(f.reference, g.reference, m[f.d], m[g.d]);
+    let a0 = f.a;
+    let a1 = g.a;
+    let b0 = f.b;
+    let b1 = g.b;
+    let c0 = f.c;
+    let c1 = g.c;
+    let d0 = f.d;
+    let d1 = g.d;
+    let a = joined(f.reference, g.reference, m[a0], m[a1]);
+    let b = joined(f.reference, g.reference, m[b0], m[b1]);
+    let c = joined(f.reference, g.reference, m[c0], m[c1]);
+    let d = joined(f.reference, g.reference, m[d0], m[d1]);
     [a, b, c, d]
 }
