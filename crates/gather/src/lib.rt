@@ -1,18 +1,21 @@
-// Gathering by the block map: the motions that the blocks of a macroblock read, and the set of those that read intra macroblocks.
-ghost use Prim.Native.Nat.{_*_, _+_, _≤_};
-ghost use Rattle.definitions.specs.Record.{isIntra, subTypeOf, typeOf};
-ghost use Rattle.gather.specs.Reads.{QuadrantReadable, Readable, ReadableAt, RowReadable, addressAt, bitOf, blockAt, motionRead, quadrantRead, recordRead, rowSet, setBy};
+// Reading by the block map: the motions that the blocks of a macroblock read, and which of the macroblocks that are read are intra.
+ghost use Prim.Native.Nat.{_+_, _≤_};
 ghost use Rattle.definitions.specs.Basics.{eqZ};
 ghost use Rattle.definitions.specs.Blocks.{quadrantOf};
+ghost use Rattle.definitions.specs.Record.{isIntra, subTypeOf, typeOf};
+ghost use Rattle.gather.specs.Reads.{QuadrantReadable, ReadableAt, Rising, acrossOf, addressAt, blockAt, blockFrom, downOf, intraAt, motionRead, quadrantRead, recordRead, setAmong};
+ghost use Rattle.motion.specs.ByValue.{motionIn, motionsIn};
 ghost use lib.IntN.{pos};
-ghost use lib.ListN.{getD};
+ghost use lib.ListN.{length};
 ghost use mathlib.Core.Path.{_≡_};
 use common::raster;
-use definitions::Motion;
+use definitions::RECORD_WORDS;
+use motion::BlockMotion;
+use records::layout::REFERENCES;
+use records::layout::VECTORS;
 use records::read::is_intra;
 use records::read::is_single;
 use records::read::is_whole;
-use records::read::motion_of;
 
 // The base macroblock of the 4 by 4 block at coordinates x and y.
 fn address_of(width: usize, x: u16, y: u16) -> usize
@@ -22,28 +25,76 @@ fn address_of(width: usize, x: u16, y: u16) -> usize
     raster::address_of(width, (x / 4) as usize, (y / 4) as usize)
 }
 
-// The motion that the block with coordinates x and y reads.
-pub fn motion_read(base: &[i16], width: usize, x: u16, y: u16) -> Motion
-    requires { ⌜ ReadableAt width (now base) x y × (width ≤ 256) ⌝ }
-    ensures { λ r. ⌜ r ≡ motionRead width (now (base .entry)) x y ⌝ }
+// ---- Motions
+// What a coordinate adds to the places of a block's vectors and references in the base.
+pub struct Spot {
+    pub vectors: usize,
+    pub references: usize,
+}
+
+// A column's.
+pub fn across(x: u16) -> Spot
+    ensures { λ r. ⌜ r ≡ acrossOf x ⌝ }
 {
-    let a = address_of(width, x, y);
-    let b = (4 * (y % 4) + x % 4) as usize;
-    motion_of(base, a, b)
+    let from = RECORD_WORDS * (x / 4) as usize;
+    Spot {
+        vectors: from + VECTORS + 4 * (x % 4) as usize,
+        references: from + REFERENCES + 2 * (x % 4 / 2) as usize,
+    }
+}
+
+// A row's.
+pub fn down(width: usize, y: u16) -> Spot
+    requires { ⌜ width ≤ 256 ⌝ }
+    ensures { λ r. ⌜ r ≡ downOf width y ⌝ }
+{
+    let from = RECORD_WORDS * (width * (y / 4) as usize);
+    Spot {
+        vectors: from + 16 * (y % 4) as usize,
+        references: from + 4 * (y % 4 / 2) as usize,
+    }
+}
+
+// The motion at a column and a row.
+fn block_from(base: &[i16], x: Spot, y: Spot) -> BlockMotion
+    requires { ⌜ (x .vectors + y .vectors + 4 ≤ length (now base)) × (x .references + y .references + 2 ≤ length (now base)) ⌝ }
+    ensures { λ r. ⌜ r ≡ blockFrom (now (base .entry)) (x .vectors + y .vectors) (x .references + y .references) ⌝ }
+{
+    let v = x.vectors + y.vectors;
+    let r = x.references + y.references;
+    BlockMotion {
+        r0: base[r] as i32,
+        r1: base[r + 1] as i32,
+        x0: base[v] as i32,
+        y0: base[v + 1] as i32,
+        x1: base[v + 2] as i32,
+        y1: base[v + 3] as i32,
+    }
+}
+
+// The motion that the block with coordinates x and y reads.
+pub fn block_read(base: &[i16], width: usize, x: u16, y: u16) -> BlockMotion
+    requires { ⌜ ReadableAt width (now base) x y × (width ≤ 256) ⌝ }
+    ensures { λ r. ⌜ motionIn r ≡ motionRead width (now (base .entry)) x y ⌝ }
+{
+    block_from(base, across(x), down(width, y))
 }
 
 // The blocks of a quadrant: its columns read x0 and x1, its rows y0 and y1.
-pub fn quadrant_read(base: &[i16], width: usize, x0: u16, x1: u16, y0: u16, y1: u16) -> [Motion; 4]
-    requires { ⌜ QuadrantReadable width (now base) x0 x1 y0 y1 × (width ≤ 256) ⌝ }
-    ensures { λ r. ⌜ r ≡ quadrantRead width (now (base .entry)) x0 x1 y0 y1 ⌝ }
-{
-    let a = motion_read(base, width, x0, y0);
-    let b = motion_read(base, width, x1, y0);
-    let c = motion_read(base, width, x0, y1);
-    let d = motion_read(base, width, x1, y1);
+pub fn quadrant_read(
+    base: &[i16],
+    left: Spot,
+    right: Spot,
+    upper: Spot,
+    lower: Spot,
+) -> [BlockMotion; 4] {
+    let a = block_from(base, left, upper);
+    let b = block_from(base, right, upper);
+    let c = block_from(base, left, lower);
+    let d = block_from(base, right, lower);
     [a, b, c, d]
 }
-
+// ---- Macroblocks
 // The macroblock that a block with coordinates x and y reads is intra; is of type 1, 16×16.
 pub fn reads_intra(base: &[i16], width: usize, x: u16, y: u16) -> bool
     requires { ⌜ ReadableAt width (now base) x y × (width ≤ 256) ⌝ }
@@ -68,34 +119,52 @@ pub fn reads_single(base: &[i16], width: usize, x: u16, y: u16) -> bool
     is_single(base, address_of(width, x, y), q)
 }
 
-// 1 if it reads an intra macroblock.
-fn intra_bit(base: &[i16], width: usize, x: u16, y: u16) -> u16
-    requires { ⌜ ReadableAt width (now base) x y × (width ≤ 256) ⌝ }
-    ensures { λ r. ⌜ (r ≡ bitOf (isIntra (recordRead width (now (base .entry)) x y))) × (r ≤ 1) ⌝ }
-{
-    if reads_intra(base, width, x, y) { 1 } else { 0 }
+// ---- The intra set
+// Which of the macroblocks that are read are intra. What is read lies in the columns of the first and the last block, and in their rows: these are all.
+pub struct Corners {
+    pub first: bool,
+    pub right: bool,
+    pub below: bool,
+    pub diagonal: bool,
 }
 
-// The set of a row of four blocks, which all read row y.
-fn row_set(base: &[i16], width: usize, across: [u16; 4], y: u16) -> u16
-    requires { ⌜ RowReadable width (now base) across y × (width ≤ 256) ⌝ }
-    ensures { λ r. ⌜ (r ≡ rowSet (λ i. isIntra (recordRead width (now (base .entry)) (getD across i 0) y))) × (r ≤ 15) ⌝ }
+pub fn corners_of(base: &[i16], width: usize, across: [u16; 4], down: [u16; 4]) -> Corners
+    requires { ⌜ CornersReadable width across down (now base) × (width ≤ 256) ⌝ }
+    ensures { λ r. ⌜ r ≡ cornersBy width across down (now (base .entry)) ⌝ }
 {
-    let a = intra_bit(base, width, across[0], y);
-    let b = intra_bit(base, width, across[1], y);
-    let c = intra_bit(base, width, across[2], y);
-    let d = intra_bit(base, width, across[3], y);
-    a + 2 * b + 4 * c + 8 * d
+    let left = across[0];
+    let right = across[3];
+    let upper = down[0];
+    let lower = down[3];
+    Corners {
+        first: reads_intra(base, width, left, upper),
+        right: reads_intra(base, width, right, upper),
+        below: reads_intra(base, width, left, lower),
+        diagonal: reads_intra(base, width, right, lower),
+    }
+}
+
+// The bits of a row of four blocks: near in the column of the first block, far in that of the last.
+fn row_set(across: [u16; 4], near: bool, far: bool) -> u16
+    ensures { λ r. ⌜ (r ≡ rowAmong across near far) × (r ≤ 15) ⌝ }
+{
+    let first = across[0] / 4;
+    let n = near as u16;
+    let f = far as u16;
+    let b = if across[1] / 4 == first { n } else { f };
+    let c = if across[2] / 4 == first { n } else { f };
+    n + 2 * b + 4 * c + 8 * (if across[3] / 4 == first { n } else { f })
 }
 
 // The blocks that read intra macroblocks.
-pub fn intra_set(base: &[i16], width: usize, across: [u16; 4], down: [u16; 4]) -> u16
-    requires { ⌜ Readable width across down (now base) × (width ≤ 256) ⌝ }
-    ensures { λ r. ⌜ r ≡ setBy width across down (now (base .entry)) ⌝ }
+pub fn set_of(c: Corners, across: [u16; 4], down: [u16; 4]) -> u16
+    ensures { λ r. ⌜ r ≡ setAmong c across down ⌝ }
 {
-    let a = row_set(base, width, across, down[0]);
-    let b = row_set(base, width, across, down[1]);
-    let c = row_set(base, width, across, down[2]);
-    let d = row_set(base, width, across, down[3]);
-    a + 16 * b + 256 * c + 4096 * d
+    let upper = row_set(across, c.first, c.right);
+    let lower = row_set(across, c.below, c.diagonal);
+    let first = down[0] / 4;
+    let i = if down[1] / 4 == first { upper } else { lower };
+    let j = if down[2] / 4 == first { upper } else { lower };
+    let k = if down[3] / 4 == first { upper } else { lower };
+    upper + 16 * i + 256 * j + 4096 * k
 }

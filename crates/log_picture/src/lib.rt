@@ -19,10 +19,10 @@ use definitions::Axes;
 use definitions::Counts;
 use definitions::RECORD_WORDS;
 use log_lines::put_line;
+use macroblock::Fixed;
+use macroblock::answer;
 use macroblock::axis_read;
-use macroblock::make;
-use motion::Scales;
-use motion::scales_of;
+use macroblock::fixed_of;
 use records::layout::answer_type;
 
 // ---- The numbers of a line
@@ -64,7 +64,7 @@ fn sync_line(out: &mut [u8], at: usize, total: u32, c: Counts) -> usize
 
 // ---- The picture
 // The answer at a column and row of the picture. Its words are not logged.
-fn answer_at(g: Axes, scales: Scales, base: &[i16], column: u32, row: u32) -> Answer
+fn answer_at(g: Axes, fixed: Fixed, base: &[i16], column: u32, row: u32) -> Answer
     requires { ⌜ BaseFormed narrow g (now base) × (column < 256) × (row < 256) × (scales ≡ scalesOf g) ⌝ }
     ensures { λ r. ⌜ r ≡ madeOf g (now (base .entry)) column row .answer ⌝ }
 {
@@ -72,7 +72,7 @@ fn answer_at(g: Axes, scales: Scales, base: &[i16], column: u32, row: u32) -> An
     let v = axis_read(g.vertical, row);
     if h.inside & v.inside {
         let mut words = [0i16; RECORD_WORDS];
-        return make(g, scales, base, h, v, &mut words);
+        return answer(base, fixed, h, v, &mut words);
     }
     Answer::Outside
 }
@@ -82,7 +82,7 @@ pub fn picture_lines(g: Axes, base: &[i16], out: &mut [u8]) -> usize
     requires { ⌜ BaseFormed narrow g (now base) × (logBytes ≤ length (now out)) ⌝ }
     ensures { λ r. ⌜ Put (now (out .entry)) 0 (pictureLines g (now (base .entry))) (now (out .exit)) r ⌝ }
 {
-    let scales = scales_of(g);
+    let fixed = fixed_of(g);
     let total = full_count(g);
     let mut counts = NO_COUNTS;
     let mut at: usize = 0;
@@ -90,9 +90,9 @@ pub fn picture_lines(g: Axes, base: &[i16], out: &mut [u8]) -> usize
     while a < total {
         let column = column_at(g, a);
         let row = row_at(g, a);
-        let answer = answer_at(g, scales, base, column, row);
-        counts = count(counts, answer);
-        at = macroblock_line(out, at, column, row, answer);
+        let given = answer_at(g, fixed, base, column, row);
+        counts = count(counts, given);
+        at = macroblock_line(out, at, column, row, given);
         a += 1;
     }
     sync_line(out, at, total as u32, counts)

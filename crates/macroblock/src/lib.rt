@@ -14,27 +14,33 @@ use definitions::Axes;
 use definitions::Axis;
 use definitions::AxisStep;
 use definitions::EnhancementSample;
-use definitions::Motion;
 use definitions::Origin;
 use definitions::Split;
-use gather::intra_set;
-use gather::motion_read;
+use definitions::SubSplit;
+use definitions::SubSplits;
+use gather::block_read;
+use gather::corners_of;
 use gather::quadrant_read;
 use gather::reads_intra;
 use gather::reads_single;
 use gather::reads_whole;
+use gather::set_of;
 use geometry::axis_step;
 use geometry::class_of;
 use geometry::is_inside;
+use inherit::clear_of;
+use inherit::copy;
 use inherit::mostly_intra;
+use motion::BlockMotion;
 use motion::Scales;
-use motion::scale_by;
-use motion::scale_motion;
+use quadrant::fill;
+use quadrant::merge;
 use records::layout::INTRA;
 use records::layout::OUTSIDE;
-use records::write::write_split;
+use records::write::write_one;
 use records::write::write_unused;
-use split::choose;
+use writing::scaled;
+use writing::write_made;
 
 // An axis at a macroblock: whether it is inside there, and then what of its step the making asks for (outside, zeros).
 // Twelve bytes, since a picture keeps one for each column.
@@ -98,6 +104,56 @@ fn origin_of(h: AxisRead, v: AxisRead) -> Origin
     }
 }
 
+// The four blocks of a quadrant read one quadrant of a base macroblock: they have one reference in each list, and all of them or none read an intra macroblock.
+fn is_plain(x0: gather::Spot, x1: gather::Spot, y0: gather::Spot, y1: gather::Spot) -> bool
+    ensures { λ r. ⌜ r ≡ oneQuadrant x0 x1 y0 y1 ⌝ }
+{
+    (x0.references == x1.references) & (y0.references == y1.references)
+}
+
+// ---- Steps 1 to 3, where no macroblock that is read is intra: nothing is to fill and nothing to copy (`filled-leaves`, `copied-none`). A quadrant that is plain has nothing
+// to merge either (`settled-merged`), and is read as it stands.
+fn motions_merged(
+    base: &[i16],
+    width: usize,
+    across: [u16; 4],
+    down: [u16; 4],
+) -> [[BlockMotion; 4]; 4]
+    requires { ⌜ Readable width across down (now base) × (width ≤ 256) ⌝ }
+    ensures { λ r. ⌜ quadrantsIn r ≡ resolved 0 (gatheredBy width across down (now (base .entry))) ⌝ }
+{
+    let x0 = gather::across(across[0]);
+    let x1 = gather::across(across[1]);
+    let x2 = gather::across(across[2]);
+    let x3 = gather::across(across[3]);
+    let y0 = gather::down(width, down[0]);
+    let y1 = gather::down(width, down[1]);
+    let y2 = gather::down(width, down[2]);
+    let y3 = gather::down(width, down[3]);
+    let a = if is_plain(x0, x1, y0, y1) {
+        quadrant_read(base, x0, x1, y0, y1)
+    } else {
+        merge(quadrant_read(base, x0, x1, y0, y1))
+    };
+    let b = if is_plain(x2, x3, y0, y1) {
+        quadrant_read(base, x2, x3, y0, y1)
+    } else {
+        merge(quadrant_read(base, x2, x3, y0, y1))
+    };
+    let c = if is_plain(x0, x1, y2, y3) {
+        quadrant_read(base, x0, x1, y2, y3)
+    } else {
+        merge(quadrant_read(base, x0, x1, y2, y3))
+    };
+    let d = if is_plain(x2, x3, y2, y3) {
+        quadrant_read(base, x2, x3, y2, y3)
+    } else {
+        merge(quadrant_read(base, x2, x3, y2, y3))
+    };
+    [a, b, c, d]
+}
+
+// ---- Steps 1 to 3
 // A quadrant of the macroblock, and the set of the blocks that read intra macroblocks.
 struct Quadrant {
     set: u16,
@@ -108,155 +164,199 @@ struct Quadrant {
 fn quadrant_made(
     base: &[i16],
     width: usize,
-    x0: u16,
-    x1: u16,
-    y0: u16,
-    y1: u16,
+    x0: gather::Spot,
+    x1: gather::Spot,
+    y0: gather::Spot,
+    y1: gather::Spot,
     of: Quadrant,
-) -> [Motion; 4]
-    requires { ⌜ QuadrantReadable width (now base) x0 x1 y0 y1 × (width ≤ 256) × (of .q < 4) ⌝ }
-    ensures { λ r. ⌜ r ≡ merged (filled (clearOf (of .set) (of .q)) (quadrantRead width (now (base .entry)) x0 x1 y0 y1)) ⌝ }
+) -> [BlockMotion; 4]
+    requires { ⌜ QuadrantReadable width (now base) x0 x1 y0 y1 × (width ≤ 256) × (of .q < 4) × ClearBy width (now base) x0 x1 y0 y1 (clearOf (of .set) (of .q)) ⌝ }
+    ensures { λ r. ⌜ motionsIn r ≡ merged (filled (clearOf (of .set) (of .q)) (quadrantRead width (now (base .entry)) x0 x1 y0 y1)) ⌝ }
 {
-    inherit::resolve(of.set, quadrant_read(base, width, x0, x1, y0, y1), of.q)
+    let m = quadrant_read(base, x0, x1, y0, y1);
+    if is_plain(x0, x1, y0, y1) {
+        return m;
+    }
+    let clear = clear_of(of.set, of.q);
+    if clear[0] & clear[1] & clear[2] & clear[3] {
+        return merge(m);
+    }
+    merge(fill(clear, m))
 }
 
-// Steps 1 to 3: the motions of the blocks.
-fn motions_made(g: Axes, base: &[i16], h: AxisRead, v: AxisRead, set: u16) -> [[Motion; 4]; 4]
-    requires { ⌜ Ready g h v (now base) × (set ≡ intraBy g h v (now base)) ⌝ }
-    ensures { λ r. ⌜ r ≡ resolvedBy g h v (now (base .entry)) ⌝ }
+// Where some macroblock that is read is intra.
+fn motions_filled(
+    base: &[i16],
+    width: usize,
+    across: [u16; 4],
+    down: [u16; 4],
+    set: u16,
+) -> [[BlockMotion; 4]; 4]
+    requires { ⌜ Readable width across down (now base) × (width ≤ 256) × (set ≡ setBy width across down (now base)) ⌝ }
+    ensures { λ r. ⌜ quadrantsIn r ≡ resolved set (gatheredBy width across down (now (base .entry))) ⌝ }
 {
-    let width = (g.horizontal.base.0 / 16) as usize;
-    let x0 = h.reads[0];
-    let x1 = h.reads[1];
-    let x2 = h.reads[2];
-    let x3 = h.reads[3];
-    let y0 = v.reads[0];
-    let y1 = v.reads[1];
-    let y2 = v.reads[2];
-    let y3 = v.reads[3];
+    let x0 = gather::across(across[0]);
+    let x1 = gather::across(across[1]);
+    let x2 = gather::across(across[2]);
+    let x3 = gather::across(across[3]);
+    let y0 = gather::down(width, down[0]);
+    let y1 = gather::down(width, down[1]);
+    let y2 = gather::down(width, down[2]);
+    let y3 = gather::down(width, down[3]);
     let a = quadrant_made(base, width, x0, x1, y0, y1, Quadrant { set, q: 0 });
     let b = quadrant_made(base, width, x2, x3, y0, y1, Quadrant { set, q: 1 });
     let c = quadrant_made(base, width, x0, x1, y2, y3, Quadrant { set, q: 2 });
     let d = quadrant_made(base, width, x2, x3, y2, y3, Quadrant { set, q: 3 });
-    inherit::copy(set, [a, b, c, d])
+    copy(set, [a, b, c, d])
 }
 
-// Steps 1 to 5. The split is chosen before the vectors are scaled, which keeps different motions different.
-fn make_inherited(
-    g: Axes,
-    scales: Scales,
+fn motions_made(
     base: &[i16],
-    h: AxisRead,
-    v: AxisRead,
+    width: usize,
+    across: [u16; 4],
+    down: [u16; 4],
+    set: u16,
+) -> [[BlockMotion; 4]; 4]
+    requires { ⌜ Readable width across down (now base) × (width ≤ 256) × (set ≡ setBy width across down (now base)) ⌝ }
+    ensures { λ r. ⌜ quadrantsIn r ≡ resolved set (gatheredBy width across down (now (base .entry))) ⌝ }
+{
+    if set == 0 {
+        return motions_merged(base, width, across, down);
+    }
+    motions_filled(base, width, across, down, set)
+}
+
+// ---- Inside
+// What is fixed for a picture.
+pub struct Fixed {
+    pub width: usize,
+    pub scales: Scales,
+}
+
+// Steps 1 to 5: read and made by value, and scaled and split as it is written.
+fn make_inherited(
+    base: &[i16],
+    f: Fixed,
+    across: [u16; 4],
+    down: [u16; 4],
     set: u16,
     out: &mut [i16],
-) -> Split
-    requires { ⌜ Ready g h v (now base) × (set ≡ intraBy g h v (now base)) × (length (now out) ≡ recordWords) × (scales ≡ scalesOf g) ⌝ }
-    ensures split { λ r. ⌜ r ≡ chosen (motionsBy g h v (now (base .entry))) ⌝ }
-    ensures written { λ r. ⌜ now (out .exit) ≡ inheritedBy g h v (now (base .entry)) ⌝ }
-{
-    let m = motions_made(g, base, h, v, set);
-    let s = choose(m);
-    write_split(out, s, scale_by(scales, s, m));
-    s
+) {
+    write_made(
+        out,
+        f.scales,
+        motions_made(base, f.width, across, down, set),
+    );
 }
 
-// All four coordinates lie in one column (row).
-fn is_one(reads: [u16; 4]) -> bool
-    ensures { λ r. ⌜ r ≡ onePart 4 reads ⌝ }
-{
-    let first = reads[0] / 4;
-    (reads[1] / 4 == first) & (reads[2] / 4 == first) & (reads[3] / 4 == first)
+// All four coordinates lie in one column (row): the first and the last do.
+fn is_one(reads: [u16; 4]) -> bool {
+    reads[3] / 4 == reads[0] / 4
 }
 
 // All four coordinates lie in one half of a column (row).
-fn is_half(reads: [u16; 4]) -> bool
-    ensures { λ r. ⌜ r ≡ onePart 2 reads ⌝ }
-{
-    let first = reads[0] / 2;
-    (reads[1] / 2 == first) & (reads[2] / 2 == first) & (reads[3] / 2 == first)
+fn is_half(reads: [u16; 4]) -> bool {
+    reads[3] / 2 == reads[0] / 2
+}
+
+// Which answer it is.
+pub enum Sort {
+    Inherited,
+    Intra,
+    Outside,
 }
 
 // Where one macroblock is read: intra, or of one motion (it is 16×16, or one quadrant of it is read that is not divided), it needs no step.
-fn make_of_one(
-    g: Axes,
-    scales: Scales,
-    base: &[i16],
-    h: AxisRead,
-    v: AxisRead,
-    out: &mut [i16],
-) -> Answer
-    requires { ⌜ Ready g h v (now base) × ((onePart 4 (h .reads) && onePart 4 (v .reads)) ≡ true) × (length (now out) ≡ recordWords) × (scales ≡ scalesOf g) ⌝ }
-    ensures answer { λ r. ⌜ r ≡ madeInside g h v (now (base .entry)) .answer ⌝ }
-    ensures written { λ r. ⌜ now (out .exit) ≡ madeInside g h v (now (base .entry)) .written ⌝ }
-{
-    let width = (g.horizontal.base.0 / 16) as usize;
-    let across = h.reads;
-    let down = v.reads;
+fn make_of_one(base: &[i16], f: Fixed, across: [u16; 4], down: [u16; 4], out: &mut [i16]) -> Sort {
+    let width = f.width;
     let x = across[0];
     let y = down[0];
-    let origin = origin_of(h, v);
     if reads_intra(base, width, x, y) {
         write_unused(out, INTRA);
-        return Answer::Intra(origin);
+        return Sort::Intra;
     }
     let quarter = is_half(across) & is_half(down);
     if reads_whole(base, width, x, y) | (quarter & reads_single(base, width, x, y)) {
-        let m = scale_motion(scales, motion_read(base, width, x, y));
-        write_split(out, Split::S16x16, [[m; 4]; 4]);
-        return Answer::Inherited(origin, Split::S16x16);
+        write_one(out, 1, scaled(f.scales, block_read(base, width, x, y)));
+        return Sort::Inherited;
     }
-    let s = make_inherited(g, scales, base, h, v, 0, out);
-    Answer::Inherited(origin, s)
+    make_inherited(base, f, across, down, 0, out);
+    Sort::Inherited
 }
 
-// Where more macroblocks are read, or one of several motions.
-fn make_of_more(
-    g: Axes,
-    scales: Scales,
-    base: &[i16],
-    h: AxisRead,
-    v: AxisRead,
-    out: &mut [i16],
-) -> Answer
-    requires { ⌜ Ready g h v (now base) × (length (now out) ≡ recordWords) × (scales ≡ scalesOf g) ⌝ }
-    ensures answer { λ r. ⌜ r ≡ madeInside g h v (now (base .entry)) .answer ⌝ }
-    ensures written { λ r. ⌜ now (out .exit) ≡ madeInside g h v (now (base .entry)) .written ⌝ }
-{
-    let width = (g.horizontal.base.0 / 16) as usize;
-    let across = h.reads;
-    let down = v.reads;
-    let origin = origin_of(h, v);
-    let set = intra_set(base, width, across, down);
-    if mostly_intra(set) {
-        write_unused(out, INTRA);
-        return Answer::Intra(origin);
+// Where more macroblocks are read.
+fn make_of_more(base: &[i16], f: Fixed, across: [u16; 4], down: [u16; 4], out: &mut [i16]) -> Sort {
+    let c = corners_of(base, f.width, across, down);
+    if c.first | c.right | c.below | c.diagonal {
+        let set = set_of(c, across, down);
+        if mostly_intra(set) {
+            write_unused(out, INTRA);
+            return Sort::Intra;
+        }
+        make_inherited(base, f, across, down, set, out);
+        return Sort::Inherited;
     }
-    let s = make_inherited(g, scales, base, h, v, set, out);
-    Answer::Inherited(origin, s)
+    make_inherited(base, f, across, down, 0, out);
+    Sort::Inherited
 }
 
 // ---- In or out of the window
-pub fn make(
-    g: Axes,
-    scales: Scales,
-    base: &[i16],
-    h: AxisRead,
-    v: AxisRead,
-    out: &mut [i16],
-) -> Answer
-    requires { ⌜ Makeable g h v (now base) × (length (now out) ≡ recordWords) × (scales ≡ scalesOf g) ⌝ }
-    ensures answer { λ r. ⌜ r ≡ madeBy g h v (now (base .entry)) .answer ⌝ }
-    ensures written { λ r. ⌜ now (out .exit) ≡ madeBy g h v (now (base .entry)) .written ⌝ }
-{
+pub fn make(base: &[i16], f: Fixed, h: AxisRead, v: AxisRead, out: &mut [i16]) -> Sort {
     if h.inside & v.inside {
-        let across = h.reads;
-        let down = v.reads;
-        if is_one(across) & is_one(down) {
-            return make_of_one(g, scales, base, h, v, out);
+        if is_one(h.reads) & is_one(v.reads) {
+            return make_of_one(base, f, h.reads, v.reads, out);
         }
-        return make_of_more(g, scales, base, h, v, out);
+        return make_of_more(base, f, h.reads, v.reads, out);
     }
     write_unused(out, OUTSIDE);
-    Answer::Outside
+    Sort::Outside
+}
+
+// ---- The answer
+fn sub_split_of(word: i16) -> SubSplit {
+    match word {
+        0 => SubSplit::S8x8,
+        1 => SubSplit::S8x4,
+        2 => SubSplit::S4x8,
+        _ => SubSplit::S4x4,
+    }
+}
+
+// The split that a written record says.
+fn split_said(out: &[i16]) -> Split {
+    match out[0] {
+        1 => Split::S16x16,
+        2 => Split::S16x8,
+        3 => Split::S8x16,
+        _ => {
+            let a = sub_split_of(out[1]);
+            let b = sub_split_of(out[2]);
+            let c = sub_split_of(out[3]);
+            let d = sub_split_of(out[4]);
+            Split::S8x8(SubSplits { a, b, c, d })
+        }
+    }
+}
+
+pub fn answer(base: &[i16], f: Fixed, h: AxisRead, v: AxisRead, out: &mut [i16]) -> Answer {
+    match make(base, f, h, v, out) {
+        Sort::Outside => Answer::Outside,
+        Sort::Intra => {
+            let origin = origin_of(h, v);
+            Answer::Intra(origin)
+        }
+        Sort::Inherited => {
+            let origin = origin_of(h, v);
+            let split = split_said(out);
+            Answer::Inherited(origin, split)
+        }
+    }
+}
+
+pub fn fixed_of(g: Axes) -> Fixed {
+    let scales = motion::scales_of(g);
+    Fixed {
+        width: common::raster::base_width(g),
+        scales,
+    }
 }

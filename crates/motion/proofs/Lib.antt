@@ -1,4 +1,3 @@
 -- Laws that the proofs of the functions cite.
 mod Words
 pub mod ByScales
-mod Once

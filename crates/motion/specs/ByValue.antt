@@ -5,9 +5,12 @@ use mathlib.Core.Bool.{true}
 use mathlib.Core.List.{List, []}
 use lib.IntN.{ℤ, pos}
 use lib.ListN.{getD}
+use mir.Syntax.{w16}
+use mir.Val.{SFits}
 use Rattle.definitions.specs.declared.Motion.{Motion}
 use Rattle.definitions.specs.Basics.{between, four, minus}
 use Rattle.motion.specs.declared.BlockMotion.{BlockMotion}
+use Rattle.motion.specs.Range.{BothInRange}
 
 abbrev pub motionIn : BlockMotion → Motion
 motionIn m = record { list0 = record { reference = m .r0; x = m .x0; y = m .y0 }; list1 = record { reference = m .r1; x = m .x1; y = m .y1 } }
@@ -32,3 +35,28 @@ Referring m = Reference (m .r0) × Reference (m .r1)
 
 abbrev pub AllReferring : List BlockMotion → Type 0
 AllReferring m = (k : ℕ) → k < 4 → Referring (getD m k zeroBlock)
+
+-- the four blocks of a quadrant have one reference in each list, as after step 2
+abbrev pub OneReference : List BlockMotion → Type 0
+OneReference m = (k : ℕ) → k < 4 → (getD m k zeroBlock .r0 ≡ getD m 0 zeroBlock .r0) × (getD m k zeroBlock .r1 ≡ getD m 0 zeroBlock .r1)
+
+-- its numbers fit sixteen bits
+pub record InWords (m : BlockMotion) : Type 0 where
+  pub r0 : SFits w16 (m .r0)
+  pub r1 : SFits w16 (m .r1)
+  pub x0 : SFits w16 (m .x0)
+  pub y0 : SFits w16 (m .y0)
+  pub x1 : SFits w16 (m .x1)
+  pub y1 : SFits w16 (m .y1)
+
+-- a motion, and a quadrant, that can be written into a record of narrow words
+pub record Writable (m : BlockMotion) : Type 0 where
+  pub referring : Referring m
+  pub vectors : BothInRange (motionIn m)
+
+pub record QuadrantWritable (m : List BlockMotion) : Type 0 where
+  pub blocks : (k : ℕ) → k < 4 → Writable (getD m k zeroBlock)
+  pub one : OneReference m
+
+abbrev pub AllWritable : List (List BlockMotion) → Type 0
+AllWritable m = (q : ℕ) → q < 4 → QuadrantWritable (getD m q [])

@@ -1,4 +1,4 @@
--- Motions by value, what the functions that scale one ask of it, and what they scale it by.
-pub mod ByValue
+-- Motions by value, what is asked of one that is scaled and written, and what it is scaled by.
 pub mod Range
 pub mod Scales
+pub mod ByValue

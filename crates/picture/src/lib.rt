@@ -31,10 +31,11 @@ use definitions::Verdict;
 use geometry::Checked;
 use geometry::Geometry;
 use macroblock::AxisRead;
+use macroblock::Sort;
 use macroblock::axis_read;
+use macroblock::fixed_of;
 use macroblock::make;
 use macroblock::read_nowhere;
-use motion::scales_of;
 use records::check::check;
 
 // The horizontal axis at each column of the picture; 256 is the most.
@@ -86,13 +87,34 @@ fn row_read(a: Axis, p: Position, kept: AxisRead) -> AxisRead
     kept
 }
 
+// One more of a sort.
+fn count_sort(c: Counts, s: Sort) -> Counts {
+    match s {
+        Sort::Inherited => Counts {
+            inherited: c.inherited + 1,
+            intra: c.intra,
+            outside: c.outside,
+        },
+        Sort::Intra => Counts {
+            inherited: c.inherited,
+            intra: c.intra + 1,
+            outside: c.outside,
+        },
+        Sort::Outside => Counts {
+            inherited: c.inherited,
+            intra: c.intra,
+            outside: c.outside + 1,
+        },
+    }
+}
+
 // Every macroblock, in raster order.
 fn fill(g: Axes, base: &[i16], out: &mut [i16]) -> Counts
     requires { ⌜ BaseFormed narrow g (now base) × (length (now out) ≡ recordWords * fullCount g) ⌝ }
     ensures counts { λ r. ⌜ r ≡ countsOf (upTo (fullCount g) (madeAt g (now (base .entry)))) ⌝ }
     ensures words { λ r. ⌜ now (out .exit) ≡ forEach (upTo (fullCount g) (madeAt g (now (base .entry)))) (λ m. m .written) ⌝ }
 {
-    let scales = scales_of(g);
+    let fixed = fixed_of(g);
     let columns = column_reads(g.horizontal);
     let width = g.horizontal.full.0 / 16;
     let total = full_count(g);
@@ -106,8 +128,8 @@ fn fill(g: Axes, base: &[i16], out: &mut [i16]) -> Counts
         let x = at.column as usize;
         let h = columns[x];
         v = row_read(g.vertical, at, v);
-        let answer = make(g, scales, base, h, v, &mut out[from..to]);
-        counts = count(counts, answer);
+        let sort = make(base, fixed, h, v, &mut out[from..to]);
+        counts = count_sort(counts, sort);
         at = next(at, width);
         a += 1;
     }

@@ -3,10 +3,9 @@ ghost use Rattle.definitions.specs.Answer.{answerType, subTypes};
 ghost use Rattle.definitions.specs.Record.{subTypeNumber, typeNumber};
 ghost use mathlib.Core.Path.{_≡_};
 use definitions::Answer;
-use definitions::Motion;
-use definitions::Prediction;
 use definitions::Split;
 use definitions::SubSplit;
+use motion::BlockMotion;
 
 // ---- Words
 pub const TYPE: usize = 0;
@@ -85,13 +84,11 @@ pub fn answer_type(a: Answer) -> u8
 // ---- A list that is not used, and a block without motion
 pub const UNUSED: i16 = -1;
 
-pub const UNUSED_LIST: Prediction = Prediction {
-    reference: UNUSED,
-    x: 0,
-    y: 0,
-};
-
-pub const NO_MOTION: Motion = Motion {
-    list0: UNUSED_LIST,
-    list1: UNUSED_LIST,
+pub const NO_MOTION: BlockMotion = BlockMotion {
+    r0: -1,
+    r1: -1,
+    x0: 0,
+    y0: 0,
+    x1: 0,
+    y1: 0,
 };

@@ -8,11 +8,10 @@ ghost use mathlib.Core.Path.{_≡_};
 ghost use Rattle.definitions.specs.Record.{allOne, recordWords, laidOut};
 ghost use Rattle.definitions.specs.Text.{intra, whole, mb, spaced, Form, wordsFor, wordsOf};
 ghost use Rattle.grammar.specs.Readers.{asRead, EntryTail, Fields, InText, NumbersAfter, StoresAt, TailOf, WordAfter};
-use definitions::Motion;
-use definitions::Prediction;
 use definitions::RECORD_WORDS;
 use grammar::Got;
 use grammar::Num;
+use motion::BlockMotion;
 use records::layout;
 use records::layout::NO_MOTION;
 use records::write::write_one;
@@ -110,7 +109,7 @@ fn then_field(s: &[u8], r: Got, out: &mut [i16], from: usize) -> Got
 }
 
 // A record of one motion in all blocks.
-fn put_record(out: &mut [i16], from: usize, kind: u8, m: Motion)
+fn put_record(out: &mut [i16], from: usize, kind: u8, m: BlockMotion)
     requires { ⌜ from + recordWords ≤ length (now out) ⌝ }
     ensures { λ _. ⌜ now (out .exit) ≡ sets (now (out .entry)) from (laidOut (allOne kind m)) ⌝ }
 {
@@ -123,31 +122,15 @@ fn put_whole(out: &mut [i16], from: usize, six: [i16; 6])
     requires { ⌜ from + recordWords ≤ length (now out) ⌝ }
     ensures { λ _. ⌜ now (out .exit) ≡ sets (now (out .entry)) from (wordsFor whole six) ⌝ }
 {
-    let r0 = six[0];
-    let r1 = six[1];
-    let x0 = six[2];
-    let y0 = six[3];
-    let x1 = six[4];
-    let y1 = six[5];
-    let list0 = Prediction {
-        reference: r0,
-        x: x0,
-        y: y0,
+    let m = BlockMotion {
+        r0: six[0] as i32,
+        r1: six[1] as i32,
+        x0: six[2] as i32,
+        y0: six[3] as i32,
+        x1: six[4] as i32,
+        y1: six[5] as i32,
     };
-    let list1 = Prediction {
-        reference: r1,
-        x: x1,
-        y: y1,
-    };
-    put_record(
-        out,
-        from,
-        1,
-        Motion {
-            list0: list0,
-            list1: list1,
-        },
-    );
+    put_record(out, from, 1, m);
 }
 
 // What comes after the letter of a line (intra). The record is stored once all of it is read.

@@ -26,9 +26,9 @@ use definitions::Verdict;
 use geometry::Checked;
 use geometry::Geometry;
 use macroblock::AxisRead;
+use macroblock::answer;
 use macroblock::axis_read;
-use macroblock::make;
-use motion::scales_of;
+use macroblock::fixed_of;
 use records::check::check;
 
 // ---- The records that a macroblock reads
@@ -74,16 +74,16 @@ fn sized_macroblock(
     ensures reply { λ r. ⌜ r ≡ sizedCall g (now (base .entry)) column row (now (out .entry)) .reply ⌝ }
     ensures words { λ r. ⌜ now (out .exit) ≡ sizedCall g (now (base .entry)) column row (now (out .entry)) .words ⌝ }
 {
-    let scales = scales_of(g);
+    let fixed = fixed_of(g);
     let h = axis_read(g.horizontal, column);
     let v = axis_read(g.vertical, row);
     if h.inside & v.inside {
         return match check_read(g, base, h, v) {
-            Verdict::Accepted => MacroblockReply::Answered(make(g, scales, base, h, v, out)),
+            Verdict::Accepted => MacroblockReply::Answered(answer(base, fixed, h, v, out)),
             Verdict::Refused(r) => MacroblockReply::Refused(r),
         };
     }
-    MacroblockReply::Answered(make(g, scales, base, h, v, out))
+    MacroblockReply::Answered(answer(base, fixed, h, v, out))
 }
 
 // The geometry is accepted: refusals 5 to 8, or the answer.
