@@ -1,3 +1,8 @@
+-- `quadrant::fill` meets its contract. Assumes nothing.
+use Rattle.definitions.specs.Inheriting.{zeroMotion, filled}
+use Rattle.definitions.proofs.Choices.{four-same}
+use Rattle.motion.specs.ByValue.{zeroBlock, motionIn}
+use Rattle.quadrant.proofs.Taking.{taken}
 use borrow.Author.Needs.{needs}
 use Rattle.quadrant.proofs.fill.Statement.{statement}
 use Rattle.quadrant.proofs.fill.Tie as tie
@@ -55,7 +60,11 @@ array-copy-out-d c = search needs
 
 -- src/lib.rt:42:1
 returns : tie.Need-returns
-returns c = ?
+unfolding filled
+returns c =
+    let m = c .before .before .before .before .before .before .before .before .args .t2 in
+    four-same (taken motionIn m zeroBlock zeroMotion (c .before .before .before .before .before .before .before .source-of .ensures)) (taken motionIn m zeroBlock zeroMotion (c .before .before .before .before .before .source-of2 .ensures))
+    (taken motionIn m zeroBlock zeroMotion (c .before .before .before .source-of3 .ensures)) (taken motionIn m zeroBlock zeroMotion (c .before .source-of4 .ensures))
 
 pub fill-spec : {M : Type 1} → statement M
 fill-spec =

@@ -1,3 +1,7 @@
+-- `quadrant::sources_of` meets its contract. Assumes nothing.
+use mathlib.Core.Path.{_∙_}
+use mir.Facts.{toZ-ofZ}
+use Rattle.quadrant.proofs.Choosing.{sources}
 use borrow.Author.Needs.{needs}
 use Rattle.quadrant.proofs.sources_of.Statement.{statement}
 use Rattle.quadrant.proofs.sources_of.Tie as tie
@@ -44,7 +48,14 @@ either-requires-8 c κs = search needs
 
 -- src/lib.rt:94:1
 returns : tie.Need-returns
-returns c = let e8 = c .either8 .ensures in let e1 = c .before .before .before .before .before .before .before .either .ensures in let e0 = c .before .before .before .before .before .before .before .before .lowest-of .ensures in let f = c .before .before .before .before .before .before .before .before .before .fits in ?
+returns c =
+    let b = c .before .before .before .before in
+    let l = b .before .before .before .before in
+    let s = l .before in
+    sources (s .args .p) (s .args .q) (s .args .s) (s .args .t) (s .pre)
+    (l .lowest-of .ensures ∙ rw (toZ-ofZ (s .fits .p), toZ-ofZ (s .fits .q), toZ-ofZ (s .fits .s), toZ-ofZ (s .fits .t)))
+    (b .before .before .before .either .ensures) (b .before .before .either2 .ensures) (b .before .either3 .ensures) (b .either4 .ensures)
+    (c .before .before .before .either5 .ensures) (c .before .before .either6 .ensures) (c .before .either7 .ensures) (c .either8 .ensures)
 
 pub sources-of-spec : {M : Type 1} → statement M
 sources-of-spec =
