@@ -14,6 +14,7 @@ use Rattle.definitions.specs.Basics.{pick, eqZ}
 use Rattle.definitions.specs.Inheriting.{source, lowest, having, someOf}
 use Rattle.definitions.proofs.Steps.{source-below, having-some}
 use Rattle.motion.specs.ByValue.{Reference}
+use Rattle.quadrant.specs.declared.Sources.{Sources}
 use Rattle.quadrant.specs.Merging.{lowestOf, having4}
 use Rattle.quadrant.proofs.Ranks.{reference-fits, lowest-reference, same-bits}
 
@@ -48,16 +49,22 @@ module _ (p q s t : ℤ) where
   unfolding having lowest someOf lowestOf
   none a b c d = true≢false (sym (having-some (bare p ∷ bare q ∷ bare s ∷ bare t ∷ [])) ∙ rw (a, b, c, d))
 
-  placed : (k : ℕ) → k < 4 → {e : ℕ} → e ≡ source (having4 p q s t) k → (e ≡ source (having4 p q s t) k) × (e < 4)
+  -- the block whose vector block k takes
+  abbrev At : ℕ → ℕ → Type 0
+  At k j = (j ≡ source (having4 p q s t) k) × (j < 4)
+
+  abbrev pub Chosen : Sources → Type 0
+  Chosen r = (r .reference ≡ low) × (At 0 (r .a) × (At 1 (r .b) × (At 2 (r .c) × At 3 (r .d))))
+
+  placed : (k : ℕ) → k < 4 → {j : ℕ} → j ≡ source (having4 p q s t) k → At k j
   placed k h e = (e, subst (λ (n : ℕ). n < 4) (sym e) (source-below (having4 p q s t) k h))
 
-  pub sources : Reference p × Reference q × Reference s × Reference t → {r : ℤ} → r ≡ low → {a b c d e f g h : ℕ}
+  pub chosen : Reference p × Reference q × Reference s × Reference t → {r : ℤ} → r ≡ low → {a b c d e f g h : ℕ}
       → a ≡ pick (has r p) 0 1 → b ≡ pick (has r q) 1 0 → c ≡ pick (has r s) 2 3 → d ≡ pick (has r t) 3 2
       → e ≡ pick (has r p || has r q) a c → f ≡ pick (has r p || has r q) b d → g ≡ pick (has r s || has r t) c a → h ≡ pick (has r s || has r t) d b
-      → (toZ w32 (ofZ w32 r) ≡ low) × (((e ≡ source (having4 p q s t) 0) × (e < 4)) × (((f ≡ source (having4 p q s t) 1) × (f < 4))
-      × (((g ≡ source (having4 p q s t) 2) × (g < 4)) × ((h ≡ source (having4 p q s t) 3) × (h < 4)))))
+      → Chosen (record { reference = toZ w32 (ofZ w32 r); a = e; b = f; c = g; d = h })
   unfolding source having4
-  sources refer {r} is ea eb ec ed ee ef eg eh =
+  chosen refer {r} is ea eb ec ed ee ef eg eh =
       let refers = lowest-reference p q s t refer in
       let test : (z : ℤ) → Reference z → has r z ≡ eqZ z low = λ z y. ap (λ (x : ℤ). has x z) is ∙ same-bits z low y refers in
       let tp = test p (refer .0) in

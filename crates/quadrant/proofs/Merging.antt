@@ -45,3 +45,23 @@ module _ (f : ℕ → Prediction) where
           let is = not-used low u in
           (λ i. withReference (is i) (none i))
           ∙ sym (ap (λ (l : List Prediction). getD l k zeroPrediction) (no _ _ u) ∙ four-at (λ j. unused) zeroPrediction k h)
+
+-- ---- both lists
+module _ (m : List BlockMotion) (empty : AllEmpty (motionsIn m)) where
+  abbrev first : ℕ → Prediction
+  first k = motionIn (getD m k zeroBlock) .list0
+
+  abbrev second : ℕ → Prediction
+  second k = motionIn (getD m k zeroBlock) .list1
+
+  empty-block : (k : ℕ) → k < 4 → Empty (first k) × Empty (second k)
+  empty-block k h = subst (λ (x : Motion). Empty (x .list0) × Empty (x .list1)) (four-at (λ j. motionIn (getD m j zeroBlock)) zeroMotion k h) (empty k h)
+
+  pub merged-block : (k : ℕ) → k < 4 → {r0 r1 : ℤ} {a b : ℕ} {x : BlockMotion} → r0 ≡ low first → r1 ≡ low second → a ≡ from first k → b ≡ from second k
+      → x ≡ joinedOf r0 r1 (getD m a zeroBlock) (getD m b zeroBlock)
+      → motionIn x ≡ record { list0 = getD (mergedList (four first)) k zeroPrediction; list1 = getD (mergedList (four second)) k zeroPrediction }
+  merged-block k h e0 e1 ea eb ex =
+      let one = merged-at first (λ j l. empty-block j l .0) k h in
+      let other = merged-at second (λ j l. empty-block j l .1) k h in
+      ap motionIn (ex ∙ (λ i. joinedOf (e0 i) (e1 i) (getD m (ea i) zeroBlock) (getD m (eb i) zeroBlock)))
+      ∙ (λ i. record { list0 = one i; list1 = other i })

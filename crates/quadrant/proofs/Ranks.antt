@@ -1,6 +1,6 @@
 -- A reference's rank: the number that is computed is it, the lower reference has the lower rank, and the rank gives the reference back. Assumes nothing.
 use Prim.Native.Nat.{ℕ, zero, suc, _+_, _%_, _≤_, _<_, _^_}
-use mathlib.Core.Path.{_≡_, refl, sym, ap, _∙_}
+use mathlib.Core.Path.{_≡_, refl, ap, subst, _∙_}
 use mathlib.Core.Bool.{Bool, true, false}
 use native.Mathlib.Omega.{arith}
 use lib.Dec.{T, eqb, ltb}
@@ -74,6 +74,33 @@ module _ (p q s t : ℤ) (refer : Reference p × Reference q × Reference s × R
       z
       ∙ ((λ i. lowerRank (h i) (v i))
       ∙ lower-rank-is (lower p q) (lower s t) (lower-reference p q (refer .0) (refer .1)) (lower-reference s t (refer .2) (refer .3)))
+
+-- ---- as they are read of their bits
+abbrev read : ℤ → ℤ
+read r = toZ w32 (ofZ w32 r)
+
+module _ (f : ℕ → ℤ) (refers : (k : ℕ) → k < 4 → Reference (f k)) where
+  read-is : (k : ℕ) → k < 4 → read (f k) ≡ f k
+  read-is k h = toZ-ofZ (reference-fits (f k) (refers k h))
+
+  read-refers : (k : ℕ) → k < 4 → Reference (read (f k))
+  read-refers k h = rw (read-is k h) (refers k h)
+
+  pub four-refer : Reference (read (f 0)) × Reference (read (f 1)) × Reference (read (f 2)) × Reference (read (f 3))
+  four-refer = (read-refers 0 (omega arith), read-refers 1 (omega arith), read-refers 2 (omega arith), read-refers 3 (omega arith))
+
+  pub four-read : (P : ℤ → ℤ → ℤ → ℤ → Type 0) → P (read (f 0)) (read (f 1)) (read (f 2)) (read (f 3)) → P (f 0) (f 1) (f 2) (f 3)
+  four-read P x =
+      let a = read-is 0 (omega arith) in
+      let b = read-is 1 (omega arith) in
+      let c = read-is 2 (omega arith) in
+      let d = read-is 3 (omega arith) in
+      subst (λ (t : Type 0). t) (λ i. P (a i) (b i) (c i) (d i)) x
+
+  pub lowest-read : {r : ℤ} → r ≡ lowestOf (f 0) (f 1) (f 2) (f 3) → read r ≡ lowestOf (f 0) (f 1) (f 2) (f 3)
+  lowest-read e =
+      ap read e
+      ∙ toZ-ofZ (reference-fits _ (lowest-reference (f 0) (f 1) (f 2) (f 3) (refers 0 (omega arith), refers 1 (omega arith), refers 2 (omega arith), refers 3 (omega arith))))
 
 -- ---- back from a rank
 module _ (r : ℤ) (refers : Reference r) (k w : ℕ) (ranked : k ≡ rankOf r) (next : w ≡ (k + 1) % 2 ^ 32) where

