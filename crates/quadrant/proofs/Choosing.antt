@@ -78,11 +78,16 @@ module _ (p q s t : ℤ) where
       let P = eqZ p low in
       let Q = eqZ q low in
       let S = eqZ s low in
-      let T = eqZ t low in
-      (
+      let T = eqZ t low in (
         ap (λ (x : ℤ). toZ w32 (ofZ w32 x)) is ∙ toZ-ofZ (reference-fits low refers),
-        (placed 0 (omega arith) (ee ∙ ((λ i. pick (tp i || tq i) (a i) (c i)) ∙ first-good P Q S T (P || Q) 0 1 2 3 refl (λ w x y z. none w x y z))),
-        (placed 1 (omega arith) (ef ∙ ((λ i. pick (tp i || tq i) (b i) (d i)) ∙ first-good Q P T S (P || Q) 1 0 3 2 (or-comm P Q) (λ x w z y. none w x y z))),
-        (placed 2 (omega arith) (eg ∙ ((λ i. pick (ts i || tt i) (c i) (a i)) ∙ first-good S T P Q (S || T) 2 3 0 1 refl (λ y z w x. none w x y z))),
-        placed 3 (omega arith) (eh ∙ ((λ i. pick (ts i || tt i) (d i) (b i)) ∙ first-good T S Q P (S || T) 3 2 1 0 (or-comm S T) (λ z y x w. none w x y z)))))),
+        (
+          placed 0 (omega arith) (ee ∙ ((λ i. pick (tp i || tq i) (a i) (c i)) ∙ first-good P Q S T (P || Q) 0 1 2 3 refl (λ w x y z. none w x y z))),
+          (
+            placed 1 (omega arith) (ef ∙ ((λ i. pick (tp i || tq i) (b i) (d i)) ∙ first-good Q P T S (P || Q) 1 0 3 2 (or-comm P Q) (λ x w z y. none w x y z))),
+            (
+              placed 2 (omega arith) (eg ∙ ((λ i. pick (ts i || tt i) (c i) (a i)) ∙ first-good S T P Q (S || T) 2 3 0 1 refl (λ y z w x. none w x y z))),
+              placed 3 (omega arith) (eh ∙ ((λ i. pick (ts i || tt i) (d i) (b i)) ∙ first-good T S Q P (S || T) 3 2 1 0 (or-comm S T) (λ z y x w. none w x y z))),
+            ),
+          ),
+        ),
       )
