@@ -2,7 +2,7 @@
 use Prim.Native.Nat.{ℕ, _<_}
 use mathlib.Core.Path.{_≡_, refl, sym, ap, subst, _∙_}
 use mathlib.Core.Bool.{Bool, true, false, true≢false, _||_}
-use mathlib.Core.List.{List, [], _∷_}
+use mathlib.Core.List.{[], _∷_}
 use native.Mathlib.Omega.{arith}
 use lib.Dec.{eqb}
 use lib.IntN.{ℤ, pos}
@@ -67,27 +67,21 @@ module _ (p q s t : ℤ) where
   chosen refer {r} is ea eb ec ed ee ef eg eh =
       let refers = lowest-reference p q s t refer in
       let test : (z : ℤ) → Reference z → has r z ≡ eqZ z low = λ z y. ap (λ (x : ℤ). has x z) is ∙ same-bits z low y refers in
-      let tp = test p (refer .0) in
-      let tq = test q (refer .1) in
-      let ts = test s (refer .2) in
-      let tt = test t (refer .3) in
-      let a = ea ∙ (λ i. pick (tp i) 0 1) in
-      let b = eb ∙ (λ i. pick (tq i) 1 0) in
-      let c = ec ∙ (λ i. pick (ts i) 2 3) in
-      let d = ed ∙ (λ i. pick (tt i) 3 2) in
+      let hp = test p (refer .0) in
+      let hq = test q (refer .1) in
+      let hs = test s (refer .2) in
+      let ht = test t (refer .3) in
+      let a = ea ∙ (λ i. pick (hp i) 0 1) in
+      let b = eb ∙ (λ i. pick (hq i) 1 0) in
+      let c = ec ∙ (λ i. pick (hs i) 2 3) in
+      let d = ed ∙ (λ i. pick (ht i) 3 2) in
       let P = eqZ p low in
       let Q = eqZ q low in
       let S = eqZ s low in
-      let T = eqZ t low in (
-        ap (λ (x : ℤ). toZ w32 (ofZ w32 x)) is ∙ toZ-ofZ (reference-fits low refers),
-        (
-          placed 0 (omega arith) (ee ∙ ((λ i. pick (tp i || tq i) (a i) (c i)) ∙ first-good P Q S T (P || Q) 0 1 2 3 refl (λ w x y z. none w x y z))),
-          (
-            placed 1 (omega arith) (ef ∙ ((λ i. pick (tp i || tq i) (b i) (d i)) ∙ first-good Q P T S (P || Q) 1 0 3 2 (or-comm P Q) (λ x w z y. none w x y z))),
-            (
-              placed 2 (omega arith) (eg ∙ ((λ i. pick (ts i || tt i) (c i) (a i)) ∙ first-good S T P Q (S || T) 2 3 0 1 refl (λ y z w x. none w x y z))),
-              placed 3 (omega arith) (eh ∙ ((λ i. pick (ts i || tt i) (d i) (b i)) ∙ first-good T S Q P (S || T) 3 2 1 0 (or-comm S T) (λ z y x w. none w x y z))),
-            ),
-          ),
-        ),
-      )
+      let T = eqZ t low in
+      let e = ee ∙ ((λ i. pick (hp i || hq i) (a i) (c i)) ∙ first-good P Q S T (P || Q) 0 1 2 3 refl (λ w x y z. none w x y z)) in
+      let f = ef ∙ ((λ i. pick (hp i || hq i) (b i) (d i)) ∙ first-good Q P T S (P || Q) 1 0 3 2 (or-comm P Q) (λ x w z y. none w x y z)) in
+      let g = eg ∙ ((λ i. pick (hs i || ht i) (c i) (a i)) ∙ first-good S T P Q (S || T) 2 3 0 1 refl (λ y z w x. none w x y z)) in
+      let h = eh ∙ ((λ i. pick (hs i || ht i) (d i) (b i)) ∙ first-good T S Q P (S || T) 3 2 1 0 (or-comm S T) (λ z y x w. none w x y z)) in
+      let same = ap (λ (x : ℤ). toZ w32 (ofZ w32 x)) is ∙ toZ-ofZ (reference-fits low refers) in
+      (same, (placed 0 (omega arith) e, (placed 1 (omega arith) f, (placed 2 (omega arith) g, placed 3 (omega arith) h))))

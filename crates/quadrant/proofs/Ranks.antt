@@ -10,7 +10,7 @@ use borrow.Author.Tests.{leb-true, lt-ltb, le-ltb, ne-eqb}
 use mir.Syntax.{w32}
 use mir.Val.{Fits, SFits, ofZ, toZ}
 use mir.Facts.{toZ-ofZ, toZ-pos}
-use Rattle.definitions.specs.Basics.{pick, minus, eqZ, between}
+use Rattle.definitions.specs.Basics.{pick, minus, eqZ}
 use Rattle.definitions.specs.Inheriting.{lower}
 use Rattle.definitions.proofs.Choices.{yes, no, pick-cases, both-true}
 use Rattle.motion.specs.ByValue.{Reference}
