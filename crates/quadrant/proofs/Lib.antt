@@ -1,3 +1,5 @@
 -- Laws that the proofs of the functions cite.
-mod Filling
+mod Choosing
 mod Merging
+mod Ranks
+pub mod Taking
