@@ -2,10 +2,14 @@
 use Prim.Native.Nat.{ℕ, _+_, _*_, _/_, _%_, _≤_, _<_}
 use mathlib.Core.Path.{_≡_}
 use mathlib.Core.Bool.{Bool, true}
+use lib.Dec.{eqb}
 use mathlib.Core.List.{List, [], _∷_}
-use lib.IntN.{ℤ}
+use lib.IntN.{ℤ, pos}
 use lib.ListN.{length, getD}
 use Rattle.definitions.specs.declared.Motion.{Motion}
+use Rattle.motion.specs.declared.BlockMotion.{BlockMotion}
+use Rattle.gather.specs.declared.Corners.{Corners}
+use Rattle.gather.specs.declared.Spot.{Spot}
 use Rattle.definitions.specs.Basics.{four, pick}
 use Rattle.definitions.specs.BlockMap.{columnOf, blockIn}
 use Rattle.definitions.specs.Record.{recordWords, recordAt, isIntra, motionOf, wellFormed, narrow}
@@ -44,12 +48,68 @@ motionBy width across down base i = motionRead width base (getD across (i % 4) 0
 unfoldable pub gatheredBy : ℕ → List ℕ → List ℕ → List ℤ → List (List Motion)
 gatheredBy width across down base = four (λ q. four (λ k. motionBy width across down base (rasterOf q k)))
 
--- the set of a row of four blocks, whose bits are 1, 2, 4 and 8
+-- The coordinates that the four blocks along an axis read: none is below the one before it, and the last lies at most one macroblock after the first.
+pub record Rising (x : List ℕ) : Type 0 where
+  pub first : getD x 0 0 ≤ getD x 1 0
+  pub second : getD x 1 0 ≤ getD x 2 0
+  pub third : getD x 2 0 ≤ getD x 3 0
+  pub near : columnOf (getD x 3 0) ≤ columnOf (getD x 0 0) + 1
+
+-- Whether the macroblocks are intra that are read at the first and the last coordinate of each axis, and the set by these four: the bits of a row of four blocks are 1, 2, 4
+-- and 8, and a block stands in the column of the first block, or else of the last
+abbrev pub cornersBy : ℕ → List ℕ → List ℕ → List ℤ → Corners
+cornersBy width across down base = record {
+  first = isIntra (recordRead width base (getD across 0 0) (getD down 0 0));
+  right = isIntra (recordRead width base (getD across 3 0) (getD down 0 0));
+  below = isIntra (recordRead width base (getD across 0 0) (getD down 3 0));
+  diagonal = isIntra (recordRead width base (getD across 3 0) (getD down 3 0));
+}
+
 abbrev pub bitOf : Bool → ℕ
 bitOf on = pick on 1 0
 
-unfoldable pub rowSet : (ℕ → Bool) → ℕ
-rowSet on = bitOf (on 0) + 2 * bitOf (on 1) + 4 * bitOf (on 2) + 8 * bitOf (on 3)
+abbrev pub beside : {A : Type 0} → List ℕ → ℕ → A → A → A
+beside x i near far = pick (eqb (columnOf (getD x i 0)) (columnOf (getD x 0 0))) near far
+
+unfoldable pub rowAmong : List ℕ → Bool → Bool → ℕ
+rowAmong across near far =
+    bitOf near + 2 * beside across 1 (bitOf near) (bitOf far) + 4 * beside across 2 (bitOf near) (bitOf far) + 8 * beside across 3 (bitOf near) (bitOf far)
+
+unfoldable pub setAmong : Corners → List ℕ → List ℕ → ℕ
+setAmong c across down =
+    let upper = rowAmong across (c .first) (c .right) in
+    let lower = rowAmong across (c .below) (c .diagonal) in
+    upper + 16 * beside down 1 upper lower + 256 * beside down 2 upper lower + 4096 * beside down 3 upper lower
+
+-- Places in the base. What a coordinate adds to those of a block's vectors and references, along an axis and the other
+abbrev pub acrossOf : ℕ → Spot
+acrossOf x = record { vectors = recordWords * (x / 4) + 13 + 4 * (x % 4); references = recordWords * (x / 4) + 5 + 2 * (x % 4 / 2) }
+
+abbrev pub downOf : ℕ → ℕ → Spot
+downOf width y = record { vectors = recordWords * (width * (y / 4)) + 16 * (y % 4); references = recordWords * (width * (y / 4)) + 4 * (y % 4 / 2) }
+
+-- the block whose vectors and references stand there, and the blocks of a quadrant
+abbrev pub blockFrom : List ℤ → Spot → Spot → BlockMotion
+blockFrom base x y = record {
+  r0 = getD base (x .references + y .references) (pos 0);
+  r1 = getD base (x .references + y .references + 1) (pos 0);
+  x0 = getD base (x .vectors + y .vectors) (pos 0);
+  y0 = getD base (x .vectors + y .vectors + 1) (pos 0);
+  x1 = getD base (x .vectors + y .vectors + 2) (pos 0);
+  y1 = getD base (x .vectors + y .vectors + 3) (pos 0);
+}
+
+abbrev pub quadrantFrom : List ℤ → Spot → Spot → Spot → Spot → List BlockMotion
+quadrantFrom base left right upper lower =
+    blockFrom base left upper ∷ blockFrom base right upper ∷ blockFrom base left lower ∷ blockFrom base right lower ∷ []
+
+-- they lie in the base
+pub record PlaceIn (base : List ℤ) (x y : Spot) : Type 0 where
+  pub vectors : x .vectors + y .vectors + 4 ≤ length base
+  pub references : x .references + y .references + 2 ≤ length base
+
+abbrev pub PlacesIn : List ℤ → Spot → Spot → Spot → Spot → Type 0
+PlacesIn base left right upper lower = PlaceIn base left upper × PlaceIn base right upper × PlaceIn base left lower × PlaceIn base right lower
 
 -- the records that the blocks read lie in the base and are well formed
 abbrev pub Readable : ℕ → List ℕ → List ℕ → List ℤ → Type 0
@@ -61,8 +121,3 @@ QuadrantReadable width base x0 x1 y0 y1 = ReadableAt width base x0 y0 × Readabl
 
 abbrev pub quadrantRead : ℕ → List ℤ → ℕ → ℕ → ℕ → ℕ → List Motion
 quadrantRead width base x0 x1 y0 y1 = motionRead width base x0 y0 ∷ motionRead width base x1 y0 ∷ motionRead width base x0 y1 ∷ motionRead width base x1 y1 ∷ []
-
--- those of a row of four blocks
-abbrev pub RowReadable : ℕ → List ℤ → List ℕ → ℕ → Type 0
-RowReadable width base across y =
-    ReadableAt width base (getD across 0 0) y × ReadableAt width base (getD across 1 0) y × ReadableAt width base (getD across 2 0) y × ReadableAt width base (getD across 3 0) y

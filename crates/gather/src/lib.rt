@@ -1,12 +1,11 @@
 // Reading by the block map: the motions that the blocks of a macroblock read, and which of the macroblocks that are read are intra.
-ghost use Prim.Native.Nat.{_+_, _≤_};
+ghost use Prim.Native.Nat.{_≤_};
 ghost use Rattle.definitions.specs.Basics.{eqZ};
 ghost use Rattle.definitions.specs.Blocks.{quadrantOf};
 ghost use Rattle.definitions.specs.Record.{isIntra, subTypeOf, typeOf};
-ghost use Rattle.gather.specs.Reads.{QuadrantReadable, ReadableAt, Rising, acrossOf, addressAt, blockAt, blockFrom, downOf, intraAt, motionRead, quadrantRead, recordRead, setAmong};
-ghost use Rattle.motion.specs.ByValue.{motionIn, motionsIn};
+ghost use Rattle.gather.specs.Reads.{PlaceIn, PlacesIn, Readable, ReadableAt, acrossOf, addressAt, blockAt, blockFrom, cornersBy, downOf, motionRead, quadrantFrom, recordRead, rowAmong, setAmong};
+ghost use Rattle.motion.specs.ByValue.{motionIn};
 ghost use lib.IntN.{pos};
-ghost use lib.ListN.{length};
 ghost use mathlib.Core.Path.{_≡_};
 use common::raster;
 use definitions::RECORD_WORDS;
@@ -33,7 +32,7 @@ pub struct Spot {
 }
 
 // A column's.
-pub fn across(x: u16) -> Spot
+pub fn across_of(x: u16) -> Spot
     ensures { λ r. ⌜ r ≡ acrossOf x ⌝ }
 {
     let from = RECORD_WORDS * (x / 4) as usize;
@@ -44,7 +43,7 @@ pub fn across(x: u16) -> Spot
 }
 
 // A row's.
-pub fn down(width: usize, y: u16) -> Spot
+pub fn down_of(width: usize, y: u16) -> Spot
     requires { ⌜ width ≤ 256 ⌝ }
     ensures { λ r. ⌜ r ≡ downOf width y ⌝ }
 {
@@ -57,8 +56,8 @@ pub fn down(width: usize, y: u16) -> Spot
 
 // The motion at a column and a row.
 fn block_from(base: &[i16], x: Spot, y: Spot) -> BlockMotion
-    requires { ⌜ (x .vectors + y .vectors + 4 ≤ length (now base)) × (x .references + y .references + 2 ≤ length (now base)) ⌝ }
-    ensures { λ r. ⌜ r ≡ blockFrom (now (base .entry)) (x .vectors + y .vectors) (x .references + y .references) ⌝ }
+    requires { ⌜ PlaceIn (now base) x y ⌝ }
+    ensures { λ r. ⌜ r ≡ blockFrom (now (base .entry)) x y ⌝ }
 {
     let v = x.vectors + y.vectors;
     let r = x.references + y.references;
@@ -77,17 +76,20 @@ pub fn block_read(base: &[i16], width: usize, x: u16, y: u16) -> BlockMotion
     requires { ⌜ ReadableAt width (now base) x y × (width ≤ 256) ⌝ }
     ensures { λ r. ⌜ motionIn r ≡ motionRead width (now (base .entry)) x y ⌝ }
 {
-    block_from(base, across(x), down(width, y))
+    block_from(base, across_of(x), down_of(width, y))
 }
 
-// The blocks of a quadrant: its columns read x0 and x1, its rows y0 and y1.
+// The blocks of a quadrant: at two columns and two rows.
 pub fn quadrant_read(
     base: &[i16],
     left: Spot,
     right: Spot,
     upper: Spot,
     lower: Spot,
-) -> [BlockMotion; 4] {
+) -> [BlockMotion; 4]
+    requires { ⌜ PlacesIn (now base) left right upper lower ⌝ }
+    ensures { λ r. ⌜ r ≡ quadrantFrom (now (base .entry)) left right upper lower ⌝ }
+{
     let a = block_from(base, left, upper);
     let b = block_from(base, right, upper);
     let c = block_from(base, left, lower);
@@ -129,7 +131,7 @@ pub struct Corners {
 }
 
 pub fn corners_of(base: &[i16], width: usize, across: [u16; 4], down: [u16; 4]) -> Corners
-    requires { ⌜ CornersReadable width across down (now base) × (width ≤ 256) ⌝ }
+    requires { ⌜ Readable width across down (now base) × (width ≤ 256) ⌝ }
     ensures { λ r. ⌜ r ≡ cornersBy width across down (now (base .entry)) ⌝ }
 {
     let left = across[0];

@@ -1,5 +1,6 @@
--- What is made of a macroblock inside, as a function of what its axes give and of the base: document 01's, with the axes' part worked out once.
-use Prim.Native.Nat.{ℕ, _/_, _<_}
+-- What is made of a macroblock, as a function of what is fixed for a picture, of what the macroblock's axes give, and of the base: document 01's, with the axes' part worked
+-- out once.
+use Prim.Native.Nat.{ℕ, _/_, _<_, _≤_}
 use mathlib.Core.Bool.{Bool, true, false, _&&_}
 use mathlib.Core.Path.{_≡_}
 use mathlib.Core.List.{List, [], _∷_}
@@ -14,14 +15,21 @@ use Rattle.definitions.specs.declared.Origin.{Origin}
 use Rattle.definitions.specs.declared.Answer.{Answer}
 use Rattle.definitions.specs.declared.Answer.the-variants.{Outside, Intra, Inherited}
 use Rattle.macroblock.specs.declared.AxisRead.{AxisRead}
-use Rattle.definitions.specs.Basics.{pick, four}
+use Rattle.macroblock.specs.declared.Fixed.{Fixed}
+use Rattle.macroblock.specs.declared.Sort.{Sort}
+use Rattle.macroblock.specs.declared.Sort.the-variants.{Inherited as SortInherited, Intra as SortIntra, Outside as SortOutside}
+use Rattle.definitions.specs.Basics.{pick}
 use Rattle.definitions.specs.Geometry.{baseSize, classOf, macroblocks, insideAxis, sampleOf}
 use Rattle.definitions.specs.BlockMap.{stepOf}
 use Rattle.definitions.specs.Record.{laidOut}
-use Rattle.definitions.specs.Inheriting.{mostlyIntra, at, motionAt, resolved, scaledMotion, chosen}
-use Rattle.definitions.specs.Answer.{Made, dividedBy, writtenFor}
-use Rattle.definitions.specs.Accepted.{AcceptedAxes}
-use Rattle.gather.specs.Reads.{Readable, setBy, gatheredBy}
+use Rattle.definitions.specs.Inheriting.{mostlyIntra, motionAt, resolved, chosen}
+use Rattle.definitions.specs.Answer.{Made, dividedBy, withoutMotion, writtenFor}
+use Rattle.motion.specs.Scales.{AcceptedScales, allScaled, scalesOf}
+use Rattle.gather.specs.Reads.{Readable, Rising, setBy, gatheredBy}
+
+-- ---- What is fixed for a picture: the base's width in macroblocks, and the scales
+abbrev pub fixedOf : Axes → Fixed
+fixedOf g = record { width = macroblocks (baseSize (g .horizontal)); scales = scalesOf g }
 
 -- ---- An axis at a macroblock
 -- inside, of its step the coordinates that are read, the first column (row), and whether two are read
@@ -39,47 +47,63 @@ pub record Small (s : AxisStep) : Type 0 where
   pub reads : (i : ℕ) → i < 4 → getD (s .reads) i 0 < 65536
   pub first : s .first < 65536
 
--- all four coordinates lie in one column (row) where d is 4, and in one half of it where d is 2
-unfoldable pub onePart : ℕ → List ℕ → Bool
-onePart d reads = (eqb (getD reads 1 0 / d) (getD reads 0 0 / d) && eqb (getD reads 2 0 / d) (getD reads 0 0 / d)) && eqb (getD reads 3 0 / d) (getD reads 0 0 / d)
+-- ---- What is made inside, by the coordinates that are read
+-- the first and the last coordinate lie in one column (row) where d is 4, and in one half of it where d is 2
+abbrev pub onePart : ℕ → List ℕ → Bool
+onePart d reads = eqb (getD reads 3 0 / d) (getD reads 0 0 / d)
 
--- ---- What is made inside
+module _ (f : Fixed) (across down : List ℕ) (base : List ℤ) where
+  -- the intra set; the motions after steps 1 to 3, and after step 4
+  abbrev pub setInside : ℕ
+  setInside = setBy (f .width) across down base
+
+  unfoldable pub resolvedInside : List (List Motion)
+  resolvedInside = resolved setInside (gatheredBy (f .width) across down base)
+
+  unfoldable pub motionsInside : List (List Motion)
+  motionsInside = allScaled (f .scales) resolvedInside
+
+  -- the record where it inherits, and where it is inside
+  unfoldable pub inheritedInside : List ℤ
+  inheritedInside = laidOut (dividedBy (chosen motionsInside) (motionAt motionsInside))
+
+  unfoldable pub writtenInside : List ℤ
+  writtenInside = pick (mostlyIntra setInside) (withoutMotion 0) inheritedInside
+
+  unfoldable pub sortInside : Sort
+  sortInside = pick (mostlyIntra setInside) SortIntra SortInherited
+
+-- ---- What is made of any macroblock: outside no record is read
+module _ (f : Fixed) (h v : AxisRead) (base : List ℤ) where
+  unfoldable pub writtenBy : List ℤ
+  writtenBy = pick (h .inside && v .inside) (writtenInside f (h .reads) (v .reads) base) (withoutMotion 5)
+
+  unfoldable pub sortBy : Sort
+  sortBy = pick (h .inside && v .inside) (sortInside f (h .reads) (v .reads) base) SortOutside
+
+-- the answer of a sort: its origin, and the split that is chosen
 abbrev pub originBy : AxisRead → AxisRead → Origin
 originBy h v = record { class = classOf (h .two) (v .two); column = h .first; row = v .first }
 
--- the intra set
-abbrev pub intraBy : Axes → AxisRead → AxisRead → List ℤ → ℕ
-intraBy g h v base = setBy (macroblocks (baseSize (g .horizontal))) (h .reads) (v .reads) base
+abbrev pub answerFor : Sort → Origin → List (List Motion) → Answer
+answerFor SortOutside o m = Outside
+answerFor SortIntra o m = Intra o
+answerFor SortInherited o m = Inherited o (chosen m)
 
--- after steps 1 to 3, and after step 4
-unfoldable pub resolvedBy : Axes → AxisRead → AxisRead → List ℤ → List (List Motion)
-resolvedBy g h v base =
-    resolved (intraBy g h v base) (gatheredBy (macroblocks (baseSize (g .horizontal))) (h .reads) (v .reads) base)
+unfoldable pub answerBy : Fixed → AxisRead → AxisRead → List ℤ → Answer
+answerBy f h v base = answerFor (sortBy f h v base) (originBy h v) (motionsInside f (h .reads) (v .reads) base)
 
-unfoldable pub motionsBy : Axes → AxisRead → AxisRead → List ℤ → List (List Motion)
-motionsBy g h v base = four (λ q. four (λ k. scaledMotion g (at (resolvedBy g h v base) q k)))
+unfoldable pub madeBy : Fixed → AxisRead → AxisRead → List ℤ → Made
+madeBy f h v base = record { answer = answerBy f h v base; written = writtenBy f h v base }
 
-unfoldable pub answerBy : Axes → AxisRead → AxisRead → List ℤ → Answer
-answerBy g h v base =
-    pick (mostlyIntra (intraBy g h v base)) (Intra (originBy h v)) (Inherited (originBy h v) (chosen (motionsBy g h v base)))
+-- ---- What the making of a macroblock asks: what is fixed for an accepted geometry, records that lie in the base and are well formed, and coordinates as the block map gives
+-- them
+pub record Ready (f : Fixed) (across down : List ℕ) (base : List ℤ) : Type 0 where
+  pub scales : AcceptedScales (f .scales)
+  pub width : f .width ≤ 256
+  pub readable : Readable (f .width) across down base
+  pub across : Rising across
+  pub down : Rising down
 
-unfoldable pub madeInside : Axes → AxisRead → AxisRead → List ℤ → Made
-madeInside g h v base = record { answer = answerBy g h v base; written = writtenFor (answerBy g h v base) (motionsBy g h v base) }
-
--- the record where it inherits
-unfoldable pub inheritedBy : Axes → AxisRead → AxisRead → List ℤ → List ℤ
-inheritedBy g h v base =
-    let m = motionsBy g h v base in
-    laidOut (dividedBy (chosen m) (motionAt m))
-
--- ---- What is made of any macroblock: outside no record is read
-unfoldable pub madeBy : Axes → AxisRead → AxisRead → List ℤ → Made
-madeBy g h v base = pick (h .inside && v .inside) (madeInside g h v base) (record { answer = Outside; written = writtenFor Outside [] })
-
--- What the making of a macroblock asks: axes of an accepted geometry, and records that lie in the base and are well formed
-pub record Ready (g : Axes) (h v : AxisRead) (base : List ℤ) : Type 0 where
-  pub axes : AcceptedAxes g
-  pub readable : Readable (macroblocks (baseSize (g .horizontal))) (h .reads) (v .reads) base
-
-abbrev pub Makeable : Axes → AxisRead → AxisRead → List ℤ → Type 0
-Makeable g h v base = (h .inside && v .inside) ≡ true → Ready g h v base
+abbrev pub Makeable : Fixed → AxisRead → AxisRead → List ℤ → Type 0
+Makeable f h v base = (h .inside && v .inside) ≡ true → Ready f (h .reads) (v .reads) base

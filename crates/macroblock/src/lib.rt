@@ -1,11 +1,12 @@
 // What is made of one macroblock, on a geometry and records that were checked: the calls share it.
 ghost use Prim.Native.Nat.{_<_, _≤_};
-ghost use Rattle.definitions.specs.Accepted.{AcceptedAxis};
-ghost use Rattle.definitions.specs.Inheriting.{chosen, clearOf, filled, merged};
-ghost use Rattle.definitions.specs.Record.{recordWords};
-ghost use Rattle.gather.specs.Reads.{QuadrantReadable, quadrantRead};
-ghost use Rattle.macroblock.specs.Made.{Makeable, Ready, Small, inheritedBy, intraBy, madeInside, motionsBy, originBy, nowhere, onePart, madeBy, readIn, readOf, resolvedBy};
-ghost use Rattle.motion.specs.Scales.{scalesOf};
+ghost use Rattle.definitions.specs.Accepted.{AcceptedAxes, AcceptedAxis};
+ghost use Rattle.definitions.specs.Inheriting.{clearOf, filled, merged, resolved};
+ghost use Rattle.definitions.specs.Record.{recordWords, splitSaid, subSplitOf};
+ghost use Rattle.gather.specs.Reads.{Readable, gatheredBy, quadrantFrom, setBy};
+ghost use Rattle.macroblock.specs.Made.{Makeable, Ready, Small, answerBy, fixedOf, inheritedInside, nowhere, onePart, originBy, readIn, readOf, setInside, sortBy, sortInside, writtenBy, writtenInside};
+ghost use Rattle.macroblock.specs.Quadrants.{QuadrantReady, plainAt};
+ghost use Rattle.motion.specs.ByValue.{motionsIn, quadrantsIn};
 ghost use lib.ListN.{length};
 ghost use mathlib.Core.Bool.{_&&_, true};
 ghost use mathlib.Core.Path.{_≡_};
@@ -18,8 +19,11 @@ use definitions::Origin;
 use definitions::Split;
 use definitions::SubSplit;
 use definitions::SubSplits;
+use gather::Spot;
+use gather::across_of;
 use gather::block_read;
 use gather::corners_of;
+use gather::down_of;
 use gather::quadrant_read;
 use gather::reads_intra;
 use gather::reads_single;
@@ -105,8 +109,8 @@ fn origin_of(h: AxisRead, v: AxisRead) -> Origin
 }
 
 // The four blocks of a quadrant read one quadrant of a base macroblock: they have one reference in each list, and all of them or none read an intra macroblock.
-fn is_plain(x0: gather::Spot, x1: gather::Spot, y0: gather::Spot, y1: gather::Spot) -> bool
-    ensures { λ r. ⌜ r ≡ oneQuadrant x0 x1 y0 y1 ⌝ }
+fn is_plain(x0: Spot, x1: Spot, y0: Spot, y1: Spot) -> bool
+    ensures { λ r. ⌜ r ≡ plainAt x0 x1 y0 y1 ⌝ }
 {
     (x0.references == x1.references) & (y0.references == y1.references)
 }
@@ -122,14 +126,14 @@ fn motions_merged(
     requires { ⌜ Readable width across down (now base) × (width ≤ 256) ⌝ }
     ensures { λ r. ⌜ quadrantsIn r ≡ resolved 0 (gatheredBy width across down (now (base .entry))) ⌝ }
 {
-    let x0 = gather::across(across[0]);
-    let x1 = gather::across(across[1]);
-    let x2 = gather::across(across[2]);
-    let x3 = gather::across(across[3]);
-    let y0 = gather::down(width, down[0]);
-    let y1 = gather::down(width, down[1]);
-    let y2 = gather::down(width, down[2]);
-    let y3 = gather::down(width, down[3]);
+    let x0 = across_of(across[0]);
+    let x1 = across_of(across[1]);
+    let x2 = across_of(across[2]);
+    let x3 = across_of(across[3]);
+    let y0 = down_of(width, down[0]);
+    let y1 = down_of(width, down[1]);
+    let y2 = down_of(width, down[2]);
+    let y3 = down_of(width, down[3]);
     let a = if is_plain(x0, x1, y0, y1) {
         quadrant_read(base, x0, x1, y0, y1)
     } else {
@@ -163,15 +167,14 @@ struct Quadrant {
 // Steps 1 and 2: the motions of a quadrant, whose columns read x0 and x1 and whose rows y0 and y1.
 fn quadrant_made(
     base: &[i16],
-    width: usize,
-    x0: gather::Spot,
-    x1: gather::Spot,
-    y0: gather::Spot,
-    y1: gather::Spot,
+    x0: Spot,
+    x1: Spot,
+    y0: Spot,
+    y1: Spot,
     of: Quadrant,
 ) -> [BlockMotion; 4]
-    requires { ⌜ QuadrantReadable width (now base) x0 x1 y0 y1 × (width ≤ 256) × (of .q < 4) × ClearBy width (now base) x0 x1 y0 y1 (clearOf (of .set) (of .q)) ⌝ }
-    ensures { λ r. ⌜ motionsIn r ≡ merged (filled (clearOf (of .set) (of .q)) (quadrantRead width (now (base .entry)) x0 x1 y0 y1)) ⌝ }
+    requires { ⌜ (of .q < 4) × QuadrantReady (now base) x0 x1 y0 y1 (clearOf (of .set) (of .q)) ⌝ }
+    ensures { λ r. ⌜ motionsIn r ≡ merged (filled (clearOf (of .set) (of .q)) (motionsIn (quadrantFrom (now (base .entry)) x0 x1 y0 y1))) ⌝ }
 {
     let m = quadrant_read(base, x0, x1, y0, y1);
     if is_plain(x0, x1, y0, y1) {
@@ -195,18 +198,18 @@ fn motions_filled(
     requires { ⌜ Readable width across down (now base) × (width ≤ 256) × (set ≡ setBy width across down (now base)) ⌝ }
     ensures { λ r. ⌜ quadrantsIn r ≡ resolved set (gatheredBy width across down (now (base .entry))) ⌝ }
 {
-    let x0 = gather::across(across[0]);
-    let x1 = gather::across(across[1]);
-    let x2 = gather::across(across[2]);
-    let x3 = gather::across(across[3]);
-    let y0 = gather::down(width, down[0]);
-    let y1 = gather::down(width, down[1]);
-    let y2 = gather::down(width, down[2]);
-    let y3 = gather::down(width, down[3]);
-    let a = quadrant_made(base, width, x0, x1, y0, y1, Quadrant { set, q: 0 });
-    let b = quadrant_made(base, width, x2, x3, y0, y1, Quadrant { set, q: 1 });
-    let c = quadrant_made(base, width, x0, x1, y2, y3, Quadrant { set, q: 2 });
-    let d = quadrant_made(base, width, x2, x3, y2, y3, Quadrant { set, q: 3 });
+    let x0 = across_of(across[0]);
+    let x1 = across_of(across[1]);
+    let x2 = across_of(across[2]);
+    let x3 = across_of(across[3]);
+    let y0 = down_of(width, down[0]);
+    let y1 = down_of(width, down[1]);
+    let y2 = down_of(width, down[2]);
+    let y3 = down_of(width, down[3]);
+    let a = quadrant_made(base, x0, x1, y0, y1, Quadrant { set, q: 0 });
+    let b = quadrant_made(base, x2, x3, y0, y1, Quadrant { set, q: 1 });
+    let c = quadrant_made(base, x0, x1, y2, y3, Quadrant { set, q: 2 });
+    let d = quadrant_made(base, x2, x3, y2, y3, Quadrant { set, q: 3 });
     copy(set, [a, b, c, d])
 }
 
@@ -241,7 +244,10 @@ fn make_inherited(
     down: [u16; 4],
     set: u16,
     out: &mut [i16],
-) {
+)
+    requires { ⌜ Ready f across down (now base) × (set ≡ setInside f across down (now base)) × (length (now out) ≡ recordWords) ⌝ }
+    ensures { λ _. ⌜ now (out .exit) ≡ inheritedInside f across down (now (base .entry)) ⌝ }
+{
     write_made(
         out,
         f.scales,
@@ -250,12 +256,16 @@ fn make_inherited(
 }
 
 // All four coordinates lie in one column (row): the first and the last do.
-fn is_one(reads: [u16; 4]) -> bool {
+fn is_one(reads: [u16; 4]) -> bool
+    ensures { λ r. ⌜ r ≡ onePart 4 reads ⌝ }
+{
     reads[3] / 4 == reads[0] / 4
 }
 
 // All four coordinates lie in one half of a column (row).
-fn is_half(reads: [u16; 4]) -> bool {
+fn is_half(reads: [u16; 4]) -> bool
+    ensures { λ r. ⌜ r ≡ onePart 2 reads ⌝ }
+{
     reads[3] / 2 == reads[0] / 2
 }
 
@@ -267,7 +277,11 @@ pub enum Sort {
 }
 
 // Where one macroblock is read: intra, or of one motion (it is 16×16, or one quadrant of it is read that is not divided), it needs no step.
-fn make_of_one(base: &[i16], f: Fixed, across: [u16; 4], down: [u16; 4], out: &mut [i16]) -> Sort {
+fn make_of_one(base: &[i16], f: Fixed, across: [u16; 4], down: [u16; 4], out: &mut [i16]) -> Sort
+    requires { ⌜ Ready f across down (now base) × ((onePart 4 across && onePart 4 down) ≡ true) × (length (now out) ≡ recordWords) ⌝ }
+    ensures sort { λ r. ⌜ r ≡ sortInside f across down (now (base .entry)) ⌝ }
+    ensures written { λ r. ⌜ now (out .exit) ≡ writtenInside f across down (now (base .entry)) ⌝ }
+{
     let width = f.width;
     let x = across[0];
     let y = down[0];
@@ -285,7 +299,11 @@ fn make_of_one(base: &[i16], f: Fixed, across: [u16; 4], down: [u16; 4], out: &m
 }
 
 // Where more macroblocks are read.
-fn make_of_more(base: &[i16], f: Fixed, across: [u16; 4], down: [u16; 4], out: &mut [i16]) -> Sort {
+fn make_of_more(base: &[i16], f: Fixed, across: [u16; 4], down: [u16; 4], out: &mut [i16]) -> Sort
+    requires { ⌜ Ready f across down (now base) × (length (now out) ≡ recordWords) ⌝ }
+    ensures sort { λ r. ⌜ r ≡ sortInside f across down (now (base .entry)) ⌝ }
+    ensures written { λ r. ⌜ now (out .exit) ≡ writtenInside f across down (now (base .entry)) ⌝ }
+{
     let c = corners_of(base, f.width, across, down);
     if c.first | c.right | c.below | c.diagonal {
         let set = set_of(c, across, down);
@@ -301,7 +319,11 @@ fn make_of_more(base: &[i16], f: Fixed, across: [u16; 4], down: [u16; 4], out: &
 }
 
 // ---- In or out of the window
-pub fn make(base: &[i16], f: Fixed, h: AxisRead, v: AxisRead, out: &mut [i16]) -> Sort {
+pub fn make(base: &[i16], f: Fixed, h: AxisRead, v: AxisRead, out: &mut [i16]) -> Sort
+    requires { ⌜ Makeable f h v (now base) × (length (now out) ≡ recordWords) ⌝ }
+    ensures sort { λ r. ⌜ r ≡ sortBy f h v (now (base .entry)) ⌝ }
+    ensures written { λ r. ⌜ now (out .exit) ≡ writtenBy f h v (now (base .entry)) ⌝ }
+{
     if h.inside & v.inside {
         if is_one(h.reads) & is_one(v.reads) {
             return make_of_one(base, f, h.reads, v.reads, out);
@@ -313,7 +335,9 @@ pub fn make(base: &[i16], f: Fixed, h: AxisRead, v: AxisRead, out: &mut [i16]) -
 }
 
 // ---- The answer
-fn sub_split_of(word: i16) -> SubSplit {
+fn sub_split_of(word: i16) -> SubSplit
+    ensures { λ r. ⌜ r ≡ subSplitOf word ⌝ }
+{
     match word {
         0 => SubSplit::S8x8,
         1 => SubSplit::S8x4,
@@ -323,7 +347,10 @@ fn sub_split_of(word: i16) -> SubSplit {
 }
 
 // The split that a written record says.
-fn split_said(out: &[i16]) -> Split {
+fn split_said(out: &[i16]) -> Split
+    requires { ⌜ length (now out) ≡ recordWords ⌝ }
+    ensures { λ r. ⌜ r ≡ splitSaid (now (out .entry)) ⌝ }
+{
     match out[0] {
         1 => Split::S16x16,
         2 => Split::S16x8,
@@ -338,7 +365,11 @@ fn split_said(out: &[i16]) -> Split {
     }
 }
 
-pub fn answer(base: &[i16], f: Fixed, h: AxisRead, v: AxisRead, out: &mut [i16]) -> Answer {
+pub fn answer(base: &[i16], f: Fixed, h: AxisRead, v: AxisRead, out: &mut [i16]) -> Answer
+    requires { ⌜ Makeable f h v (now base) × (length (now out) ≡ recordWords) ⌝ }
+    ensures answer { λ r. ⌜ r ≡ answerBy f h v (now (base .entry)) ⌝ }
+    ensures written { λ r. ⌜ now (out .exit) ≡ writtenBy f h v (now (base .entry)) ⌝ }
+{
     match make(base, f, h, v, out) {
         Sort::Outside => Answer::Outside,
         Sort::Intra => {
@@ -353,7 +384,10 @@ pub fn answer(base: &[i16], f: Fixed, h: AxisRead, v: AxisRead, out: &mut [i16])
     }
 }
 
-pub fn fixed_of(g: Axes) -> Fixed {
+pub fn fixed_of(g: Axes) -> Fixed
+    requires { ⌜ AcceptedAxes g ⌝ }
+    ensures { λ r. ⌜ r ≡ fixedOf g ⌝ }
+{
     let scales = motion::scales_of(g);
     Fixed {
         width: common::raster::base_width(g),
