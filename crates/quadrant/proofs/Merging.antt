@@ -1,10 +1,13 @@
 -- A block put together of the lowest references and the vectors of the blocks that had them is the merged one. Assumes zeroPrediction.
-use Prim.Native.Nat.{ℕ, _<_}
+use Prim.Native.Nat.{ℕ, _*_, _<_}
 use mathlib.Core.Path.{_≡_, refl, sym, ap, subst, _∙_}
 use mathlib.Core.Bool.{Bool, true, false}
 use mathlib.Core.List.{List}
+use native.Mathlib.Omega.{arith}
 use lib.IntN.{ℤ}
 use lib.ListN.{getD}
+use mir.Syntax.{w64}
+use mir.Val.{Fits}
 use Rattle.definitions.specs.declared.Prediction.{Prediction}
 use Rattle.definitions.specs.declared.Motion.{Motion}
 use Rattle.definitions.specs.Basics.{four}
@@ -15,6 +18,10 @@ use Rattle.definitions.proofs.Steps.{source-below, not-used, vector-had}
 use Rattle.motion.specs.declared.BlockMotion.{BlockMotion}
 use Rattle.motion.specs.ByValue.{zeroBlock, motionIn, motionsIn}
 use Rattle.quadrant.specs.Merging.{lowestOf, having4, joinedOf, Empty, AllEmpty}
+
+-- a block is six numbers of four bytes
+pub block-fits : {j : ℕ} → j < 4 → Fits w64 (j * 24)
+block-fits h = record { fits = omega arith }
 
 -- ---- one list of four blocks
 module _ (f : ℕ → Prediction) where

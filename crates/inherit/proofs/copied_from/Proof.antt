@@ -28,7 +28,7 @@ unfolding copiedFrom
 returns c = (sym (yes _ _ (c .if1 .taken)), omega arith)
 
 array-read-if2 : tie.Need-array-read-if2
-array-read-if2 c = horizontal-below (c .before .args .q) (omega arith)
+array-read-if2 c = let q = c .before .args .q in omega (arith, horizontal-below q (omega arith), vertical-below q (omega arith))
 
 returns-2 : tie.Need-returns-2
 unfolding copiedFrom

@@ -34,7 +34,7 @@ unfolding source
 returns c = (sym (yes _ _ (c .if1 .taken)), omega arith)
 
 array-read-if2 : tie.Need-array-read-if2
-array-read-if2 c = horizontal-below (c .before .args .k) (omega arith)
+array-read-if2 c = let k = c .before .args .k in omega (arith, horizontal-below k (omega arith), vertical-below k (omega arith))
 
 returns-2 : tie.Need-returns-2
 unfolding source
