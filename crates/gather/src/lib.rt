@@ -1,11 +1,12 @@
 // Reading by the block map: the motions that the blocks of a macroblock read, and which of the macroblocks that are read are intra.
-ghost use Prim.Native.Nat.{_≤_};
+ghost use Prim.Native.Nat.{ℕ, _<_, _≤_};
 ghost use Rattle.definitions.specs.Basics.{eqZ};
 ghost use Rattle.definitions.specs.Blocks.{quadrantOf};
 ghost use Rattle.definitions.specs.Record.{isIntra, subTypeOf, typeOf};
-ghost use Rattle.gather.specs.Reads.{PlaceIn, PlacesIn, Readable, ReadableAt, acrossOf, addressAt, blockAt, blockFrom, cornersBy, downOf, motionRead, quadrantFrom, recordRead, rowAmong, setAmong};
+ghost use Rattle.gather.specs.Reads.{PlaceIn, PlacesIn, Readable, ReadableAt, acrossOf, addressAt, beside, bitOf, blockAt, blockFrom, cornersBy, downOf, motionRead, quadrantFrom, recordRead, rowAmong, setAmong};
 ghost use Rattle.motion.specs.ByValue.{motionIn};
 ghost use lib.IntN.{pos};
+ghost use lib.ListN.{getD, length};
 ghost use mathlib.Core.Path.{_≡_};
 use common::raster;
 use definitions::RECORD_WORDS;
@@ -54,6 +55,14 @@ pub fn down_of(width: usize, y: u16) -> Spot
     }
 }
 
+// A word of the base.
+fn word_at(base: &[i16], at: usize) -> i32
+    requires { ⌜ at < length (now base) ⌝ }
+    ensures { λ r. ⌜ r ≡ getD (now (base .entry)) at (pos 0) ⌝ }
+{
+    base[at] as i32
+}
+
 // The motion at a column and a row.
 fn block_from(base: &[i16], x: Spot, y: Spot) -> BlockMotion
     requires { ⌜ PlaceIn (now base) x y ⌝ }
@@ -62,12 +71,12 @@ fn block_from(base: &[i16], x: Spot, y: Spot) -> BlockMotion
     let v = x.vectors + y.vectors;
     let r = x.references + y.references;
     BlockMotion {
-        r0: base[r] as i32,
-        r1: base[r + 1] as i32,
-        x0: base[v] as i32,
-        y0: base[v + 1] as i32,
-        x1: base[v + 2] as i32,
-        y1: base[v + 3] as i32,
+        r0: word_at(base, r),
+        r1: word_at(base, r + 1),
+        x0: word_at(base, v),
+        y0: word_at(base, v + 1),
+        x1: word_at(base, v + 2),
+        y1: word_at(base, v + 3),
     }
 }
 
@@ -146,16 +155,31 @@ pub fn corners_of(base: &[i16], width: usize, across: [u16; 4], down: [u16; 4]) 
     }
 }
 
-// The bits of a row of four blocks: near in the column of the first block, far in that of the last.
+fn bit_of(on: bool) -> u16
+    ensures { λ r. ⌜ (r ≡ bitOf on) × (r ≤ 1) ⌝ }
+{
+    if on { 1 } else { 0 }
+}
+
+// What holds of block i along an axis, by the macroblock of the first block and that of the last.
+fn beside_of(x: [u16; 4], i: usize, near: u16, far: u16) -> u16
+    requires { ⌜ i < 4 ⌝ }
+    ensures is { λ r. ⌜ r ≡ beside x i near far ⌝ }
+    ensures top { λ r. ⌜ ((t : ℕ) → near ≤ t → far ≤ t → r ≤ t) ⌝ }
+{
+    if x[i] / 4 == x[0] / 4 { near } else { far }
+}
+
+// The bits of a row of four blocks.
 fn row_set(across: [u16; 4], near: bool, far: bool) -> u16
     ensures { λ r. ⌜ (r ≡ rowAmong across near far) × (r ≤ 15) ⌝ }
 {
-    let first = across[0] / 4;
-    let n = near as u16;
-    let f = far as u16;
-    let b = if across[1] / 4 == first { n } else { f };
-    let c = if across[2] / 4 == first { n } else { f };
-    n + 2 * b + 4 * c + 8 * (if across[3] / 4 == first { n } else { f })
+    let n = bit_of(near);
+    let f = bit_of(far);
+    let b = beside_of(across, 1, n, f);
+    let c = beside_of(across, 2, n, f);
+    let d = beside_of(across, 3, n, f);
+    n + 2 * b + 4 * c + 8 * d
 }
 
 // The blocks that read intra macroblocks.
@@ -164,9 +188,8 @@ pub fn set_of(c: Corners, across: [u16; 4], down: [u16; 4]) -> u16
 {
     let upper = row_set(across, c.first, c.right);
     let lower = row_set(across, c.below, c.diagonal);
-    let first = down[0] / 4;
-    let i = if down[1] / 4 == first { upper } else { lower };
-    let j = if down[2] / 4 == first { upper } else { lower };
-    let k = if down[3] / 4 == first { upper } else { lower };
+    let i = beside_of(down, 1, upper, lower);
+    let j = beside_of(down, 2, upper, lower);
+    let k = beside_of(down, 3, upper, lower);
     upper + 16 * i + 256 * j + 4096 * k
 }

@@ -1,74 +1,103 @@
 -- `gather::row_set` meets its contract. Assumes nothing.
-use Prim.Native.Nat.{_+_, _*_}
 use native.Mathlib.Omega.{arith}
-use Rattle.gather.specs.Reads.{rowSet}
+use Rattle.gather.specs.Reads.{rowAmong}
 use borrow.Author.Needs.{needs}
 use Rattle.gather.proofs.row_set.Statement.{statement}
 use Rattle.gather.proofs.row_set.Tie as tie
 
-array-read-intra-bit : tie.Need-array-read-intra-bit
-array-read-intra-bit c = search needs
+bit-of-requires : tie.Need-bit-of-requires
+bit-of-requires c κs = search needs
 
-intra-bit-requires : tie.Need-intra-bit-requires
-intra-bit-requires c κs = search needs
+bit-of-requires-2 : tie.Need-bit-of-requires-2
+bit-of-requires-2 c κs = search needs
 
-array-read-intra-bit-2 : tie.Need-array-read-intra-bit-2
-array-read-intra-bit-2 c = search needs
+beside-of-requires : tie.Need-beside-of-requires
+beside-of-requires c κs = search needs
 
-intra-bit-requires-2 : tie.Need-intra-bit-requires-2
-intra-bit-requires-2 c κs = search needs
+beside-of-requires-2 : tie.Need-beside-of-requires-2
+beside-of-requires-2 c κs = search needs
 
-array-read-intra-bit-3 : tie.Need-array-read-intra-bit-3
-array-read-intra-bit-3 c = search needs
-
-intra-bit-requires-3 : tie.Need-intra-bit-requires-3
-intra-bit-requires-3 c κs = search needs
-
-array-read-intra-bit-4 : tie.Need-array-read-intra-bit-4
-array-read-intra-bit-4 c = search needs
-
-intra-bit-requires-4 : tie.Need-intra-bit-requires-4
-intra-bit-requires-4 c κs = search needs
+beside-of-requires-3 : tie.Need-beside-of-requires-3
+beside-of-requires-3 c κs = search needs
 
 mul-result : tie.Need-mul-result
-mul-result c = search needs
+mul-result c =
+    let n = c .before .before .before .before .bit-of .ensures .1 in
+    let f = c .before .before .before .bit-of2 .ensures .1 in
+    let b = c .before .before .beside-of .ensures .1 1 n f in
+    let d = c .before .beside-of2 .ensures .1 1 n f in
+    let e = c .beside-of3 .ensures .1 1 n f in
+    omega (arith, n, f, b, d, e)
 
 add-result : tie.Need-add-result
-add-result c = search needs
+add-result c =
+    let n = c .before .before .before .before .bit-of .ensures .1 in
+    let f = c .before .before .before .bit-of2 .ensures .1 in
+    let b = c .before .before .beside-of .ensures .1 1 n f in
+    let d = c .before .beside-of2 .ensures .1 1 n f in
+    let e = c .beside-of3 .ensures .1 1 n f in
+    omega (arith, n, f, b, d, e)
 
 mul-result-2 : tie.Need-mul-result-2
-mul-result-2 c = search needs
+mul-result-2 c =
+    let n = c .before .before .before .before .bit-of .ensures .1 in
+    let f = c .before .before .before .bit-of2 .ensures .1 in
+    let b = c .before .before .beside-of .ensures .1 1 n f in
+    let d = c .before .beside-of2 .ensures .1 1 n f in
+    let e = c .beside-of3 .ensures .1 1 n f in
+    omega (arith, n, f, b, d, e)
 
 add-result-2 : tie.Need-add-result-2
-add-result-2 c = search needs
+add-result-2 c =
+    let n = c .before .before .before .before .bit-of .ensures .1 in
+    let f = c .before .before .before .bit-of2 .ensures .1 in
+    let b = c .before .before .beside-of .ensures .1 1 n f in
+    let d = c .before .beside-of2 .ensures .1 1 n f in
+    let e = c .beside-of3 .ensures .1 1 n f in
+    omega (arith, n, f, b, d, e)
 
 mul-result-3 : tie.Need-mul-result-3
-mul-result-3 c = search needs
+mul-result-3 c =
+    let n = c .before .before .before .before .bit-of .ensures .1 in
+    let f = c .before .before .before .bit-of2 .ensures .1 in
+    let b = c .before .before .beside-of .ensures .1 1 n f in
+    let d = c .before .beside-of2 .ensures .1 1 n f in
+    let e = c .beside-of3 .ensures .1 1 n f in
+    omega (arith, n, f, b, d, e)
 
 add-result-3 : tie.Need-add-result-3
-add-result-3 c = search needs
+add-result-3 c =
+    let n = c .before .before .before .before .bit-of .ensures .1 in
+    let f = c .before .before .before .bit-of2 .ensures .1 in
+    let b = c .before .before .beside-of .ensures .1 1 n f in
+    let d = c .before .beside-of2 .ensures .1 1 n f in
+    let e = c .beside-of3 .ensures .1 1 n f in
+    omega (arith, n, f, b, d, e)
 
 returns : tie.Need-returns
-unfolding rowSet
+unfolding rowAmong
 returns c =
-    let p = c .before .before .before .intra-bit .ensures .0 in
-    let q = c .before .before .intra-bit2 .ensures .0 in
-    let s = c .before .intra-bit3 .ensures .0 in
-    let t = c .intra-bit4 .ensures .0 in
-    ((λ i. p i + 2 * q i + 4 * s i + 8 * t i), omega (arith, c .before .before .before .intra-bit .ensures .1, c .before .before .intra-bit2 .ensures .1, c .before .intra-bit3 .ensures .1, c .intra-bit4 .ensures .1))
+    let n = c .before .before .before .before .bit-of .ensures .1 in
+    let f = c .before .before .before .bit-of2 .ensures .1 in
+    let b = c .before .before .beside-of .ensures .1 1 n f in
+    let d = c .before .beside-of2 .ensures .1 1 n f in
+    let e = c .beside-of3 .ensures .1 1 n f in
+    let p = c .before .before .before .before .bit-of .ensures .0 in
+    let q = c .before .before .before .bit-of2 .ensures .0 in
+    let x = c .before .before .beside-of .ensures .0 in
+    let y = c .before .beside-of2 .ensures .0 in
+    let z = c .beside-of3 .ensures .0 in
+    (rw (x, y, z, p, q), omega (arith, n, f, b, d, e))
 
 pub row-set-spec : {M : Type 1} → statement M
 row-set-spec =
     tie.close
     (tie.spec
-    array-read-intra-bit
-    intra-bit-requires
-    array-read-intra-bit-2
-    intra-bit-requires-2
-    array-read-intra-bit-3
-    intra-bit-requires-3
-    array-read-intra-bit-4
-    intra-bit-requires-4
+    bit-of-requires
+    bit-of-requires-2
+    beside-of-requires
+    beside-of-requires-2
+    beside-of-requires-3
     mul-result
     add-result
     mul-result-2
