@@ -1,9 +1,9 @@
--- Laws of this crate's proofs; other crates cite Addresses and Undivided.
+-- Laws of this crate's proofs; other crates cite those that are pub.
 pub mod Addresses
 pub mod Undivided
-mod Words
-mod Searches
-mod Ranges
-mod FirstBlocks
+pub mod Words
+pub mod Searches
+pub mod Ranges
+pub mod FirstBlocks
 mod Verdicts
 mod Assembly
