@@ -5,5 +5,5 @@ pub mod Words
 pub mod Searches
 pub mod Ranges
 pub mod FirstBlocks
-mod Verdicts
+pub mod Verdicts
 mod Assembly

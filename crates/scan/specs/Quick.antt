@@ -1,5 +1,5 @@
 -- What the quick tests find, where no definition of the crate records says it.
-use Prim.Native.Nat.{ℕ, _<_}
+use Prim.Native.Nat.{ℕ, _+_, _*_, _/_, _%_, _<_}
 use mathlib.Core.Path.{_≡_}
 use mathlib.Core.Bool.{Bool, true}
 use mathlib.Core.List.{List}
@@ -18,6 +18,10 @@ pub record OneReference (r : List ℤ) : Type 0 where
 -- rule 5 of a block
 abbrev pub blockRight : List ℤ → ℕ → Bool
 blockRight r b = allBelow 2 (listRight r b)
+
+-- the first block of quadrant q
+abbrev pub firstOf : ℕ → ℕ
+firstOf q = 8 * (q / 2) + 2 * (q % 2)
 
 -- the blocks of quadrant q have the vectors of the first block of their sub-partition
 unfoldable pub subAsFirst : List ℤ → ℕ → Bool

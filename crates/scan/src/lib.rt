@@ -5,12 +5,11 @@ ghost use Prim.Native.Nat.{ℕ, _+_, _*_, _≤_, _<_};
 ghost use lib.IntN.{pos};
 ghost use lib.ListN.{length};
 ghost use Rattle.definitions.specs.Basics.{allBelow, eqZ};
-ghost use Rattle.definitions.specs.Blocks.{rasterOf};
 ghost use Rattle.definitions.specs.Record.{firstBroken, isIntra, motionOf, narrow, recordAt, recordWords, typeOf};
 ghost use Rattle.definitions.specs.Refusals.{recordTests, verdictOf};
 ghost use Rattle.definitions.specs.Splits.{sameMotion};
 ghost use Rattle.records.specs.Checking.{addresses, sameVectors};
-ghost use Rattle.scan.specs.Quick.{HalvesAlike, OneReference, QuadrantRight, blockRight, subAsFirst};
+ghost use Rattle.scan.specs.Quick.{HalvesAlike, OneReference, QuadrantRight, blockRight, firstOf, subAsFirst};
 use definitions::Verdict;
 use records::check;
 use records::layout;
@@ -87,7 +86,7 @@ fn quick_whole(words: &[i16]) -> bool
 // ---- Types 2 to 4
 // The blocks of quadrant q have the vectors of the first block of their sub-partition. Block i is the quadrant's first.
 fn same_in_quadrant(words: &[i16], q: usize, i: usize) -> bool
-    requires { ⌜ (length (now words) ≡ recordWords) × (q < 4) × (i ≡ rasterOf q 0) ⌝ }
+    requires { ⌜ (length (now words) ≡ recordWords) × (q < 4) × (i ≡ firstOf q) ⌝ }
     ensures { λ t. ⌜ (t ≡ true → subAsFirst (now (words .entry)) q ≡ true) ⌝ }
 {
     let sub = words[layout::SUB_TYPES + q];
@@ -98,7 +97,7 @@ fn same_in_quadrant(words: &[i16], q: usize, i: usize) -> bool
 
 // Quadrant q, whose first block is i.
 fn quick_quadrant(words: &[i16], q: usize, i: usize) -> bool
-    requires { ⌜ (length (now words) ≡ recordWords) × (q < 4) × (i ≡ rasterOf q 0) ⌝ }
+    requires { ⌜ (length (now words) ≡ recordWords) × (q < 4) × (i ≡ firstOf q) ⌝ }
     ensures { λ t. ⌜ (t ≡ true → QuadrantRight (now (words .entry)) q) ⌝ }
 {
     let same = same_in_quadrant(words, q, i);
