@@ -1,10 +1,11 @@
 -- Records of types 2 to 4: rule 6 from the quadrants and the halves. Assumes nothing.
 use Prim.Native.Nat.{ℕ, _+_, _*_, _/_, _%_, _<_}
-use mathlib.Core.Path.{_≡_, refl, sym, ap, _∙_}
+use mathlib.Core.Path.{_≡_, refl, sym, ap, _∙_, subst}
 use mathlib.Core.Bool.{Bool, true, false, not, _&&_, _||_}
 use mathlib.Core.List.{List, [], _∷_}
 use native.Mathlib.Nat.{add-zero}
 use native.Mathlib.Omega.{arith}
+use lib.Dec.{eqb}
 use lib.IntN.{ℤ, pos}
 use lib.ListN.{getD}
 use Rattle.definitions.specs.declared.SubSplit.{SubSplit}
@@ -15,12 +16,12 @@ use Rattle.definitions.specs.declared.Split.the-variants.{S16x16, S16x8, S8x16,
 use Rattle.definitions.specs.Basics.{pick, eqZ, allBelow}
 use Rattle.definitions.specs.Blocks.{quadrantOf, inQuadrant, rasterOf}
 use Rattle.definitions.specs.Splits.{sameMotion, oneEach}
-use Rattle.definitions.specs.Record.{narrow, typeOf, subTypeOf, isIntra, referenceOf, motionOf, subSplitOf, splitSaid, rule1, rule2, rule3, rule4, rule5, rule6, firstBroken}
+use Rattle.definitions.specs.Record.{narrow, typeOf, subTypeOf, isIntra, wordOf, used, vectorWord, referenceOf, motionOf, subSplitOf, splitSaid, rule1, rule2, rule3, rule4, rule5, rule6, firstBroken}
 use Rattle.definitions.proofs.Choices.{yes, no, both-true, or-right, eqZ-true, below-true, below-intro, each}
 use Rattle.definitions.proofs.Motions.{motion-same, motion-true}
 use Rattle.definitions.proofs.Records.{each16, raster-quadrant, raster-is}
-use Rattle.records.specs.Checking.{headBroken, vectorsRight, subFirstBlock, subSplitAt, firstBlockIn, sameVectors}
-use Rattle.records.proofs.Ranges.{vectors-all}
+use Rattle.records.specs.Checking.{blockWithin, headBroken, vectorsRight, subFirstBlock, subSplitAt, firstBlockIn, sameVectors}
+use Rattle.records.proofs.Ranges.{vectors-all, quadrant-right}
 use Rattle.records.proofs.FirstBlocks.{by-first-blocks, firstPlace, sub-first-is}
 use Rattle.records.proofs.Verdicts.{broken-none}
 use Rattle.scan.specs.Quick.{firstOf, subAsFirst, QuadrantRight, HalvesAlike}
@@ -76,3 +77,147 @@ module _ (r : List ℤ) (q : ℕ) (hq : q < 4) where
         alike-same r (B k) (subFirstBlock (subSplitOf (subTypeOf r q)) (B k))
         (rw (sub-first-is (motionOf r) q k hq h (subSplitOf (subTypeOf r q)))
         (by-sub (eqZ (subTypeOf r q) (pos 0)) (eqZ (subTypeOf r q) (pos 1)) (eqZ (subTypeOf r q) (pos 2)) e f k h)))
+
+  -- the same, from the tests of the words; i is the quadrant's first block
+  module _ (i : ℕ) (at : i ≡ firstOf q) where
+    b0 : B 0 ≡ i
+    b0 = each (λ q. rasterOf q 0 ≡ firstOf q) refl refl refl refl q hq ∙ sym at
+
+    b1 : B 1 ≡ i + 1
+    b1 = each (λ q. rasterOf q 1 ≡ firstOf q + 1) refl refl refl refl q hq ∙ ap (λ (n : ℕ). n + 1) (sym at)
+
+    b2 : B 2 ≡ i + 4
+    b2 = each (λ q. rasterOf q 2 ≡ firstOf q + 4) refl refl refl refl q hq ∙ ap (λ (n : ℕ). n + 4) (sym at)
+
+    b3 : B 3 ≡ i + 5
+    b3 = each (λ q. rasterOf q 3 ≡ firstOf q + 5) refl refl refl refl q hq ∙ ap (λ (n : ℕ). n + 5) (sym at)
+
+    turned : (b d v w : ℕ) → b ≡ v → d ≡ w → sameVectors r v w ≡ true → Alike r d b
+    turned b d v w e f s = alike-back r b d (alike r b d ((λ j. sameVectors r (e j) (f j)) ∙ s))
+
+    pub quadrant-alike :
+        {v01 v23 v02 v13 t0 t1 t2 : Bool} →
+        v01 ≡ sameVectors r i (i + 1) → v23 ≡ sameVectors r (i + 4) (i + 5) → v02 ≡ sameVectors r i (i + 4) → v13 ≡ sameVectors r (i + 1) (i + 5) →
+        t0 ≡ eqZ (subTypeOf r q) (pos 0) → t1 ≡ eqZ (subTypeOf r q) (pos 1) → t2 ≡ eqZ (subTypeOf r q) (pos 2) →
+        (((v01 && v23) || (not t0 && not t1)) && ((v02 && v13) || (not t0 && not t2))) ≡ true → subAsFirst r q ≡ true
+    quadrant-alike {v01} {v23} {v02} {v13} {t0} {t1} {t2} e01 e23 e02 e13 s0 s1 s2 e =
+        let both = both-true ((v01 && v23) || (not t0 && not t1)) ((v02 && v13) || (not t0 && not t2)) e in
+        by-sub-type (v01 && v23) (v02 && v13)
+        (λ h. let p = both-true v01 v23 h in (turned (B 0) (B 1) i (i + 1) b0 b1 (sym e01 ∙ p .0), turned (B 2) (B 3) (i + 4) (i + 5) b2 b3 (sym e23 ∙ p .1)))
+        (λ h. let p = both-true v02 v13 h in (turned (B 0) (B 2) i (i + 4) b0 b2 (sym e02 ∙ p .0), turned (B 1) (B 3) (i + 1) (i + 5) b1 b3 (sym e13 ∙ p .1)))
+        ((λ j. (v01 && v23) || (not (sym s0 j) && not (sym s1 j))) ∙ both .0)
+        ((λ j. (v02 && v13) || (not (sym s0 j) && not (sym s2 j))) ∙ both .1)
+
+    pub vectors-at :
+        (f g : ℤ → Bool) →
+        ((v : ℤ) → f v ≡ vectorWord narrow (used (wordOf r (5 + 2 * q))) v) →
+        ((v : ℤ) → g v ≡ vectorWord narrow (used (wordOf r (5 + 2 * q + 1))) v) →
+        (((blockWithin f g r (13 + 4 * i) && blockWithin f g r (13 + 4 * i + 4)) && blockWithin f g r (13 + 4 * i + 16)) && blockWithin f g r (13 + 4 * i + 20)) ≡ vectorsRight r q
+    vectors-at f g e0 e1 =
+        let w : 13 + 4 * i ≡ 13 + 32 * (q / 2) + 8 * (q % 2) = omega arith in
+        (λ j. ((blockWithin f g r (w j) && blockWithin f g r (w j + 4)) && blockWithin f g r (w j + 16)) && blockWithin f g r (w j + 20))
+        ∙ quadrant-right r q hq f g e0 e1
+
+-- ---- The halves
+pub halves-alike :
+    (r : List ℤ) {a b c d t2 t3 : Bool} →
+    a ≡ sameMotion (motionOf r 2) (motionOf r 0) → b ≡ sameMotion (motionOf r 10) (motionOf r 8) →
+    c ≡ sameMotion (motionOf r 8) (motionOf r 0) → d ≡ sameMotion (motionOf r 10) (motionOf r 2) →
+    t2 ≡ eqZ (typeOf r) (pos 2) → t3 ≡ eqZ (typeOf r) (pos 3) →
+    (((a && b) || not t2) && ((c && d) || not t3)) ≡ true → HalvesAlike r
+halves-alike r {a} {b} {c} {d} {t2} {t3} ea eb ec ed e2 e3 e =
+    let both = both-true ((a && b) || not t2) ((c && d) || not t3) e in
+    record {
+      rows = λ t. let p = both-true a b (where-true (a && b) t2 (both .0) (e2 ∙ t)) in (motion-true _ _ (sym ea ∙ p .0), motion-true _ _ (sym eb ∙ p .1));
+      columns = λ t. let p = both-true c d (where-true (c && d) t3 (both .1) (e3 ∙ t)) in (motion-true _ _ (sym ec ∙ p .0), motion-true _ _ (sym ed ∙ p .1)) }
+
+-- ---- A block has the motion of the first block of its piece
+row-first : (b : ℕ) → b < 16 → rasterOf (quadrantOf b / 2 * 2) 0 ≡ b / 8 * 8
+row-first = each16 (λ b. rasterOf (quadrantOf b / 2 * 2) 0 ≡ b / 8 * 8) refl refl refl refl refl refl refl refl refl refl refl refl refl refl refl refl
+
+column-first : (b : ℕ) → b < 16 → rasterOf (quadrantOf b % 2) 0 ≡ b % 4 / 2 * 2
+column-first = each16 (λ b. rasterOf (quadrantOf b % 2) 0 ≡ b % 4 / 2 * 2) refl refl refl refl refl refl refl refl refl refl refl refl refl refl refl refl
+
+sub-quadrant : (s : SubSplit) (b : ℕ) → b < 16 → quadrantOf (subFirstBlock s b) ≡ quadrantOf b
+sub-quadrant S8x8 b h = raster-quadrant (quadrantOf b) 0 (omega arith) (omega arith)
+sub-quadrant S8x4 b h = raster-quadrant (quadrantOf b) (inQuadrant b / 2 * 2) (omega arith) (omega arith)
+sub-quadrant S4x8 b h = raster-quadrant (quadrantOf b) (inQuadrant b % 2) (omega arith) (omega arith)
+sub-quadrant S4x4 b h = refl
+
+module _ (r : List ℤ) (pieces : (q : ℕ) → q < 4 → subAsFirst r q ≡ true) where
+  abbrev sub : ℕ → SubSplit
+  sub b = subSplitOf (subTypeOf r (quadrantOf b))
+
+  sub-alike : (b : ℕ) → b < 16 → Alike r b (subFirstBlock (sub b) b)
+  unfolding subAsFirst
+  sub-alike b h =
+      subst (λ (d : ℕ). Alike r d (subFirstBlock (sub b) d)) (raster-is b h)
+      (alike r _ _
+      (below-true 4 (λ k. sameVectors r (rasterOf (quadrantOf b) k) (subFirstBlock (sub b) (rasterOf (quadrantOf b) k))) (pieces (quadrantOf b) (omega arith)) (inQuadrant b) (omega arith)))
+
+  sub-motion : (b : ℕ) → b < 16 → motionOf r b ≡ motionOf r (subFirstBlock (sub b) b)
+  sub-motion b h = alike-motion r b (subFirstBlock (sub b) b) (λ l hl. ap (λ (q : ℕ). referenceOf r q l) (sym (sub-quadrant (sub b) b h))) (sub-alike b h)
+
+  module _ (undivided : (q : ℕ) → q < 4 → eqZ (subTypeOf r q) (pos 0) ≡ true) where
+    quadrant-motion : (b : ℕ) → b < 16 → motionOf r b ≡ motionOf r (rasterOf (quadrantOf b) 0)
+    quadrant-motion b h = sub-motion b h ∙ ap (λ (s : SubSplit). motionOf r (subFirstBlock s b)) (yes _ _ (undivided (quadrantOf b) (omega arith)))
+
+    row-motion : (motionOf r 2 ≡ motionOf r 0) × (motionOf r 10 ≡ motionOf r 8) → (b : ℕ) → b < 16 → motionOf r b ≡ motionOf r (b / 8 * 8)
+    row-motion m b h =
+        quadrant-motion b h
+        ∙ (each (λ q. motionOf r (rasterOf q 0) ≡ motionOf r (rasterOf (q / 2 * 2) 0)) refl (m .0) refl (m .1) (quadrantOf b) (omega arith) ∙ ap (motionOf r) (row-first b h))
+
+    column-motion : (motionOf r 8 ≡ motionOf r 0) × (motionOf r 10 ≡ motionOf r 2) → (b : ℕ) → b < 16 → motionOf r b ≡ motionOf r (b % 4 / 2 * 2)
+    column-motion m b h =
+        quadrant-motion b h
+        ∙ (each (λ q. motionOf r (rasterOf q 0) ≡ motionOf r (rasterOf (q % 2) 0)) refl refl (m .0) (m .1) (quadrantOf b) (omega arith) ∙ ap (motionOf r) (column-first b h))
+
+-- ---- The record
+second-rule : (a b : Bool) (n : ℕ) → pick (not a) 1 (pick (not b) 2 n) ≡ 0 → b ≡ true
+unfolding pick
+second-rule true true n e = refl
+second-rule true false n e = absurd (omega arith)
+second-rule false b n e = absurd (omega arith)
+
+second-of : (a b : Bool) → a ≡ false → (a || b) ≡ true → b ≡ true
+second-of true b e o = cc
+second-of false b e o = o
+
+module _ (r : List ℤ) (not-whole : eqZ (typeOf r) (pos 1) ≡ false) (head : headBroken r ≡ 0) (quadrants : (q : ℕ) → q < 4 → QuadrantRight r q)
+    (halves : HalvesAlike r) where
+  pieces : (q : ℕ) → q < 4 → subAsFirst r q ≡ true
+  pieces q h = quadrants q h .pieces
+
+  right2 : rule2 r ≡ true
+  unfolding headBroken
+  right2 = second-rule (rule1 r) (rule2 r) _ head
+
+  undivided : (n : ℕ) → eqb n 4 ≡ false → eqZ (typeOf r) (pos n) ≡ true → (q : ℕ) → q < 4 → eqZ (subTypeOf r q) (pos 0) ≡ true
+  unfolding rule2
+  undivided n not4 t =
+      below-true 4 (λ q. eqZ (subTypeOf r q) (pos 0))
+      (second-of (eqZ (typeOf r) (pos 4)) _ (ap (λ (z : ℤ). eqZ z (pos 4)) (eqZ-true (typeOf r) (pos n) t) ∙ not4) (both-true _ _ right2 .1))
+
+  abbrev said : SubSplits
+  said = record { a = subSplitOf (subTypeOf r 0); b = subSplitOf (subTypeOf r 1); c = subSplitOf (subTypeOf r 2); d = subSplitOf (subTypeOf r 3) }
+
+  by-type :
+      (t2 t3 : Bool) → eqZ (typeOf r) (pos 2) ≡ t2 → eqZ (typeOf r) (pos 3) ≡ t3 →
+      (b : ℕ) → b < 16 → motionOf r b ≡ motionOf r (firstBlockIn (pick t2 S16x8 (pick t3 S8x16 (Quarters said))) b)
+  unfolding pick
+  by-type true t3 e f = row-motion r pieces (undivided 2 refl e) (halves .rows e)
+  by-type false true e f = column-motion r pieces (undivided 3 refl f) (halves .columns f)
+  by-type false false e f b h =
+      sub-motion r pieces b h
+      ∙ ap (λ (s : SubSplit). motionOf r (subFirstBlock s b))
+      (sym (each (λ q. subSplitAt said q ≡ subSplitOf (subTypeOf r q)) refl refl refl refl (quadrantOf b) (omega arith)))
+
+  right6 : rule6 r ≡ true
+  unfolding rule6 splitSaid
+  right6 =
+      or-right (isIntra r)
+      (ap (oneEach (motionOf r)) (no _ _ not-whole)
+      ∙ (sym (by-first-blocks (motionOf r) _) ∙ below-intro 16 _ (λ b h. motion-same _ _ (by-type _ _ refl refl b h))))
+
+  pub divided-formed : firstBroken narrow r ≡ 0
+  divided-formed = broken-none r head (vectors-all r ∙ below-intro 4 _ (λ q h. quadrants q h .vectors)) right6

@@ -145,7 +145,7 @@ fn halves_alike(words: &[i16]) -> bool
 }
 
 fn quick_divided(words: &[i16]) -> bool
-    requires { ⌜ (length (now words) ≡ recordWords) × (isIntra (now words) ≡ false) × (eqZ (typeOf (now words)) (pos 1) ≡ false) ⌝ }
+    requires { ⌜ (length (now words) ≡ recordWords) × (eqZ (typeOf (now words)) (pos 1) ≡ false) ⌝ }
     ensures { λ t. ⌜ (t ≡ true → firstBroken narrow (now (words .entry)) ≡ 0) ⌝ }
 {
     if check::head_rule(words) != 0 {

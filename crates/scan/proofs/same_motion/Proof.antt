@@ -1,3 +1,7 @@
+-- `same_motion` meets its contract: the references of the quadrants and the vectors of the blocks. Assumes nothing.
+use mathlib.Core.Path.{sym, _∙_}
+use mathlib.Core.Bool.{_&&_}
+use Rattle.records.proofs.FirstBlocks.{motion-parts}
 use borrow.Author.Needs.{needs}
 use Rattle.scan.proofs.same_motion.Statement.{statement}
 use Rattle.scan.proofs.same_motion.Tie as tie
@@ -6,33 +10,30 @@ use Rattle.scan.proofs.same_motion.Lts as lts
 use Rattle.records.proofs.check.same_references.Reads as same-references-reads
 use Rattle.records.proofs.check.same_vectors.Reads as same-vectors-reads
 
--- src/lib.rt:131:13
 mul-q : tie.Need-mul-q
 mul-q c = search needs
 
--- src/lib.rt:131:13
 add-q : tie.Need-add-q
 add-q c = search needs
 
--- src/lib.rt:132:13
 mul-e : tie.Need-mul-e
 mul-e c = search needs
 
--- src/lib.rt:132:13
 add-e : tie.Need-add-e
 add-e c = search needs
 
--- src/lib.rt:133:5
 same-references-requires : tie.Need-same-references-requires
 same-references-requires c κs = search needs
 
--- src/lib.rt:133:43
 same-vectors-requires : tie.Need-same-vectors-requires
 same-vectors-requires c κs = search needs
 
--- src/lib.rt:127:1
 returns : tie.Need-returns
-returns c = ?
+returns c =
+    let a = c .before .before .args in
+    let references = c .before .same-references .ensures in
+    let vectors = c .same-vectors .ensures in
+    (λ i. references i && vectors i) ∙ sym (motion-parts (a .words .now) (a .b) (a .d))
 
 pub same-motion-spec : {M : Type 1} → statement M
 same-motion-spec =
