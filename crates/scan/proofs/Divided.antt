@@ -13,7 +13,7 @@ use Rattle.definitions.specs.declared.SubSplit.the-variants.{S8x8, S8x4, S4x8, 
 use Rattle.definitions.specs.declared.SubSplits.{SubSplits}
 use Rattle.definitions.specs.declared.Split.{Split}
 use Rattle.definitions.specs.declared.Split.the-variants.{S16x16, S16x8, S8x16, S8x8 as Quarters}
-use Rattle.definitions.specs.Basics.{pick, eqZ, allBelow}
+use Rattle.definitions.specs.Basics.{pick, eqZ, between, allBelow}
 use Rattle.definitions.specs.Blocks.{quadrantOf, inQuadrant, rasterOf}
 use Rattle.definitions.specs.Splits.{sameMotion, oneEach}
 use Rattle.definitions.specs.Record.{narrow, typeOf, subTypeOf, isIntra, wordOf, used, vectorWord, referenceOf, motionOf, subSplitOf, splitSaid, rule1, rule2, rule3, rule4, rule5, rule6, firstBroken}
@@ -196,7 +196,7 @@ module _ (r : List ℤ) (not-whole : eqZ (typeOf r) (pos 1) ≡ false) (head : h
   unfolding rule2
   undivided n not4 t =
       below-true 4 (λ q. eqZ (subTypeOf r q) (pos 0))
-      (second-of (eqZ (typeOf r) (pos 4)) _ (ap (λ (z : ℤ). eqZ z (pos 4)) (eqZ-true (typeOf r) (pos n) t) ∙ not4) (both-true _ _ right2 .1))
+      (second-of (eqZ (typeOf r) (pos 4)) _ (ap (λ (z : ℤ). eqZ z (pos 4)) (eqZ-true (typeOf r) (pos n) t) ∙ not4) (both-true (allBelow 4 (λ q. between (pos 0) (pos 3) (subTypeOf r q))) (eqZ (typeOf r) (pos 4) || allBelow 4 (λ q. eqZ (subTypeOf r q) (pos 0))) right2 .1))
 
   abbrev said : SubSplits
   said = record { a = subSplitOf (subTypeOf r 0); b = subSplitOf (subTypeOf r 1); c = subSplitOf (subTypeOf r 2); d = subSplitOf (subTypeOf r 3) }

@@ -1,11 +1,17 @@
 -- Records that are well formed, from an address on, leave the verdict to those after them. Assumes nothing.
 use Prim.Native.Nat.{ℕ, zero, suc, _+_, _-_, _<_, _≤_}
-use mathlib.Core.Path.{_≡_, refl, sym, ap, _∙_}
+use mathlib.Core.Path.{_≡_, refl, sym, ap, _∙_, subst}
+use mathlib.Core.Logic.{⊎-elim}
 use mathlib.Core.List.{List}
+use native.Mathlib.Nat.{eq-or-lt-of-le}
 use native.Mathlib.Omega.{arith}
 use lib.IntN.{ℤ}
 use Rattle.definitions.specs.Record.{narrow, recordAt, firstBroken}
 use Rattle.records.proofs.Verdicts.{verdict, verdict-more}
+
+-- what holds at from .. a−1, and at a
+pub one-more : (P : ℕ → Type 0) (from a : ℕ) → ((k : ℕ) → from ≤ k → k < a → P k) → P a → (k : ℕ) → from ≤ k → k < a + 1 → P k
+one-more P from a before here k low high = ⊎-elim (λ e. subst P (sym e) here) (λ h. before k low h) (eq-or-lt-of-le (let l : k ≤ a = omega arith in l))
 
 module _ (base : List ℤ) (to : ℕ) where
   passed : (n from : ℕ) → from + n ≤ to → ((k : ℕ) → from ≤ k → k < from + n → firstBroken narrow (recordAt base k) ≡ 0) → verdict base (from + n) to ≡ verdict base from to
