@@ -205,8 +205,8 @@ module _ (r : List ℤ) (not-whole : eqZ (typeOf r) (pos 1) ≡ false) (head : h
       (t2 t3 : Bool) → eqZ (typeOf r) (pos 2) ≡ t2 → eqZ (typeOf r) (pos 3) ≡ t3 →
       (b : ℕ) → b < 16 → motionOf r b ≡ motionOf r (firstBlockIn (pick t2 S16x8 (pick t3 S8x16 (Quarters said))) b)
   unfolding pick
-  by-type true t3 e f = row-motion r pieces (undivided 2 refl e) (halves .rows e)
-  by-type false true e f = column-motion r pieces (undivided 3 refl f) (halves .columns f)
+  by-type true t3 e f b h = row-motion r pieces (undivided 2 refl e) (halves .rows e) b h
+  by-type false true e f b h = column-motion r pieces (undivided 3 refl f) (halves .columns f) b h
   by-type false false e f b h =
       sub-motion r pieces b h
       ∙ ap (λ (s : SubSplit). motionOf r (subFirstBlock s b))
