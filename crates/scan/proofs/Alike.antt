@@ -1,16 +1,20 @@
--- Words, references and vectors that are the same, and a record that keeps all rules. Assumes nothing.
+-- References, vectors and motions that are the same; rule 6 of a record whose blocks have the motion of their piece's first; a record that keeps all rules. Assumes nothing.
 use Prim.Native.Nat.{ℕ, _<_}
 use mathlib.Core.Path.{_≡_, refl, sym, ap, _∙_}
 use mathlib.Core.Bool.{Bool, true, not}
 use mathlib.Core.List.{List}
 use native.Mathlib.Omega.{arith}
 use lib.IntN.{ℤ}
-use Rattle.definitions.specs.Basics.{eqZ, allBelow}
+use Rattle.definitions.specs.declared.Split.{Split}
+use Rattle.definitions.specs.Basics.{eqZ}
 use Rattle.definitions.specs.Blocks.{quadrantOf}
-use Rattle.definitions.specs.Record.{narrow, referenceOf, vectorXOf, vectorYOf, motionOf, firstBroken}
-use Rattle.definitions.proofs.Choices.{no, both-true, and-intro, eqZ-true, eqZ-refl, below-true, below-intro}
+use Rattle.definitions.specs.Splits.{oneEach}
+use Rattle.definitions.specs.Record.{narrow, referenceOf, vectorXOf, vectorYOf, motionOf, isIntra, splitSaid, rule6, firstBroken}
+use Rattle.definitions.proofs.Choices.{no, both-true, and-intro, or-right, eqZ-true, eqZ-refl, below-true, below-intro}
 use Rattle.definitions.proofs.Formed.{Rules}
-use Rattle.records.specs.Checking.{sameReferences, sameVectors}
+use Rattle.definitions.proofs.Motions.{motion-same}
+use Rattle.records.specs.Checking.{firstBlockIn, sameReferences, sameVectors}
+use Rattle.records.proofs.FirstBlocks.{by-first-blocks}
 
 pub none-broken : (r : List ℤ) → Rules narrow r → firstBroken narrow r ≡ 0
 unfolding firstBroken
@@ -65,3 +69,10 @@ module _ (r : List ℤ) where
       let v0 = a 0 (omega arith) in
       let v1 = a 1 (omega arith) in
       λ i. record { list0 = record { reference = r0 i; x = v0 .0 i; y = v0 .1 i }; list1 = record { reference = r1 i; x = v1 .0 i; y = v1 .1 i } }
+
+  -- rule 6
+  pub one-motion-each : (s : Split) → splitSaid r ≡ s → ((b : ℕ) → b < 16 → motionOf r b ≡ motionOf r (firstBlockIn s b)) → rule6 r ≡ true
+  unfolding rule6
+  one-motion-each s said motions =
+      or-right (isIntra r)
+      (ap (oneEach (motionOf r)) said ∙ (sym (by-first-blocks (motionOf r) s) ∙ below-intro 16 _ (λ b h. motion-same _ _ (motions b h))))

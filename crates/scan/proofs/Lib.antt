@@ -1,6 +1,6 @@
 -- Laws that the proofs of the functions cite.
 mod Alike
 mod Intra
-mod Whole
-mod Divided
+mod Undivided
+mod Quarters
 mod Passed

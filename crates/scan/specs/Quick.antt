@@ -3,21 +3,16 @@ use Prim.Native.Nat.{ℕ, _+_, _*_, _/_, _%_, _<_}
 use mathlib.Core.Path.{_≡_}
 use mathlib.Core.Bool.{Bool, true}
 use mathlib.Core.List.{List}
-use lib.IntN.{ℤ, pos}
-use Rattle.definitions.specs.Basics.{eqZ, allBelow}
-use Rattle.definitions.specs.Blocks.{rasterOf}
-use Rattle.definitions.specs.Record.{typeOf, subTypeOf, subSplitOf, motionOf, rule3}
-use Rattle.records.specs.Checking.{quadrantUsed, listRight, vectorsRight, subFirstBlock, sameReferences, sameVectors}
+use lib.IntN.{ℤ}
+use Rattle.definitions.specs.Basics.{allBelow}
+use Rattle.definitions.specs.Blocks.{quadrantOf, rasterOf}
+use Rattle.definitions.specs.Record.{subTypeOf, subSplitOf}
+use Rattle.records.specs.Checking.{quadrantUsed, listRight, vectorsRight, subFirstBlock, sameVectors}
 
--- type 1: references that are right, and the same in each quadrant
-pub record OneReference (r : List ℤ) : Type 0 where
-  pub right : rule3 r ≡ true
-  pub used : (q : ℕ) → q < 4 → quadrantUsed r q ≡ true
-  pub same : (q : ℕ) → q < 4 → sameReferences r q 0 ≡ true
-
--- rule 5 of a block
-abbrev pub blockRight : List ℤ → ℕ → Bool
-blockRight r b = allBelow 2 (listRight r b)
+-- rules 4 and 5 of block b, which is not intra: a used list, and vectors as its references allow
+pub record BlockRight (r : List ℤ) (b : ℕ) : Type 0 where
+  pub used : quadrantUsed r (quadrantOf b) ≡ true
+  pub vectors : (l : ℕ) → l < 2 → listRight r b l ≡ true
 
 -- the first block of quadrant q
 abbrev pub firstOf : ℕ → ℕ
@@ -27,12 +22,7 @@ firstOf q = 8 * (q / 2) + 2 * (q % 2)
 unfoldable pub subAsFirst : List ℤ → ℕ → Bool
 subAsFirst r q = allBelow 4 (λ k. sameVectors r (rasterOf q k) (subFirstBlock (subSplitOf (subTypeOf r q)) (rasterOf q k)))
 
--- rules 5 and 6 of a quadrant, as far as the quadrant alone shows them
+-- rules 5 and 6 of quadrant q in type 4
 pub record QuadrantRight (r : List ℤ) (q : ℕ) : Type 0 where
   pub vectors : vectorsRight r q ≡ true
   pub pieces : subAsFirst r q ≡ true
-
--- 16×8 (type 2) and 8×16 (type 3): both quadrants of a partition begin with one motion
-pub record HalvesAlike (r : List ℤ) : Type 0 where
-  pub rows : eqZ (typeOf r) (pos 2) ≡ true → (motionOf r 2 ≡ motionOf r 0) × (motionOf r 10 ≡ motionOf r 8)
-  pub columns : eqZ (typeOf r) (pos 3) ≡ true → (motionOf r 8 ≡ motionOf r 0) × (motionOf r 10 ≡ motionOf r 2)

@@ -1,21 +1,20 @@
-// A quick scan of motion records: it passes only well-formed ones, nearly all of them, and the check in full goes on from the first that it does not pass.
+// A quick scan of motion records: it passes only well-formed ones, and nearly all of them. From the first that it does not pass, the full check goes on.
 ghost use mathlib.Core.Path.{_≡_};
 ghost use mathlib.Core.Bool.{true, false};
 ghost use Prim.Native.Nat.{ℕ, _+_, _*_, _≤_, _<_};
 ghost use lib.IntN.{pos};
 ghost use lib.ListN.{length};
-ghost use Rattle.definitions.specs.Basics.{allBelow, eqZ};
-ghost use Rattle.definitions.specs.Record.{firstBroken, isIntra, motionOf, narrow, recordAt, recordWords, typeOf};
+ghost use Rattle.definitions.specs.Basics.{eqZ};
+ghost use Rattle.definitions.specs.Record.{firstBroken, isIntra, narrow, recordAt, recordWords, rule2, rule3, typeOf};
 ghost use Rattle.definitions.specs.Refusals.{recordTests, verdictOf};
-ghost use Rattle.definitions.specs.Splits.{sameMotion};
 ghost use Rattle.records.specs.Checking.{addresses, sameVectors};
-ghost use Rattle.scan.specs.Quick.{HalvesAlike, OneReference, QuadrantRight, blockRight, firstOf, subAsFirst};
+ghost use Rattle.scan.specs.Quick.{BlockRight, QuadrantRight, firstOf, subAsFirst};
 use definitions::Verdict;
 use records::check;
 use records::layout;
 use records::read::record_at;
 
-// All tests here are by `&` and `|`, which have no branch, so that the compiler takes several words at once.
+// Tests joined by `&` and `|` have no branch between them, and the compiler takes several words at once.
 // ---- Type 0, intra
 fn quick_intra(words: &[i16]) -> bool
     requires { ⌜ (length (now words) ≡ recordWords) × (isIntra (now words) ≡ true) ⌝ }
@@ -26,64 +25,113 @@ fn quick_intra(words: &[i16]) -> bool
         & check::all_within(words, layout::VECTORS, 64, check::ONLY_ZERO)
 }
 
-// ---- Type 1, 16×16
-// The references are right, and those of quadrant 0 in all quadrants.
-fn one_reference(words: &[i16]) -> bool
-    requires { ⌜ length (now words) ≡ recordWords ⌝ }
-    ensures { λ t. ⌜ (t ≡ true → OneReference (now (words .entry))) ⌝ }
+// ---- Types 1 to 3: a few blocks are tested, and the others have their motion
+// Rules 2 and 3 of a type that has no sub-types.
+fn undivided_head(words: &[i16]) -> bool
+    requires { ⌜ (length (now words) ≡ recordWords) × (eqZ (typeOf (now words)) (pos 4) ≡ false) ⌝ }
+    ensures { λ t. ⌜ (t ≡ true → (rule2 (now (words .entry)) ≡ true) × (rule3 (now (words .entry)) ≡ true)) ⌝ }
 {
-    if !check::all_within(words, layout::REFERENCES, 2, check::REFERENCES) {
+    if !check::all_within(words, layout::SUB_TYPES, 4, check::ONLY_ZERO) {
         return false;
     }
-    if !check::quadrant_used(words, 0) {
+    check::all_within(words, layout::REFERENCES, 8, check::REFERENCES)
+}
+
+// Rules 4 and 5 of block b.
+fn block_right(words: &[i16], b: usize) -> bool
+    requires { ⌜ (length (now words) ≡ recordWords) × (b < 16) ⌝ }
+    ensures { λ t. ⌜ (t ≡ true → BlockRight (now (words .entry)) b) ⌝ }
+{
+    let quadrant = 2 * (b / 8) + b % 4 / 2;
+    if !check::quadrant_used(words, quadrant) {
         return false;
     }
-    check::same_references(words, 1, 0)
-        & check::same_references(words, 2, 0)
-        & check::same_references(words, 3, 0)
+    let reference = layout::REFERENCES + 2 * quadrant;
+    let range0 = check::range_by(words, reference);
+    let range1 = check::range_by(words, reference + 1);
+    check::block_within(words, layout::VECTORS + 4 * b, range0, range1)
 }
 
-// Rule 5 of block 0.
-fn first_block_right(words: &[i16]) -> bool
-    requires { ⌜ length (now words) ≡ recordWords ⌝ }
-    ensures { λ t. ⌜ t ≡ blockRight (now (words .entry)) 0 ⌝ }
-{
-    let range0 = check::range_by(words, layout::REFERENCES);
-    let range1 = check::range_by(words, layout::REFERENCES + 1);
-    check::block_within(words, layout::VECTORS, range0, range1)
-}
-
-// Each block from 2 on has the vectors of the block two before.
-fn vectors_repeat(words: &[i16]) -> bool
-    requires { ⌜ length (now words) ≡ recordWords ⌝ }
-    ensures { λ t. ⌜ t ≡ allBelow 14 (λ b. sameVectors (now (words .entry)) (b + 2) b) ⌝ }
+// Of blocks first..end-1, each has the vectors of the block that is a step before it.
+fn vectors_repeat(words: &[i16], first: usize, end: usize, step: usize) -> bool
+    requires { ⌜ (length (now words) ≡ recordWords) × (first ≤ 16) × (end ≤ 16) × (step ≤ 16) ⌝ }
+    ensures { λ t. ⌜ (t ≡ true → (b : ℕ) → first ≤ b → b + step < end → sameVectors (now (words .entry)) (b + step) b ≡ true) ⌝ }
 {
     let mut same = true;
-    let mut b: usize = 0;
-    while b < 14 {
-        same = same & check::same_vectors(words, b + 2, b);
+    let mut b = first;
+    while b + step < end {
+        same = same & check::same_vectors(words, b + step, b);
         b += 1;
     }
     same
 }
 
+// Type 1, 16×16: all blocks as block 0.
 fn quick_whole(words: &[i16]) -> bool
     requires { ⌜ (length (now words) ≡ recordWords) × (eqZ (typeOf (now words)) (pos 1) ≡ true) ⌝ }
     ensures { λ t. ⌜ (t ≡ true → firstBroken narrow (now (words .entry)) ≡ 0) ⌝ }
 {
-    if !check::all_within(words, layout::SUB_TYPES, 4, check::ONLY_ZERO) {
+    if !undivided_head(words) {
         return false;
     }
-    if !one_reference(words) {
+    if !block_right(words, 0) {
         return false;
     }
-    if !first_block_right(words) {
+    if !(check::same_references(words, 1, 0)
+        & check::same_references(words, 2, 0)
+        & check::same_references(words, 3, 0))
+    {
         return false;
     }
-    check::same_vectors(words, 1, 0) & vectors_repeat(words)
+    check::same_vectors(words, 1, 0) & vectors_repeat(words, 0, 16, 2)
 }
 
-// ---- Types 2 to 4
+// Type 2, 16×8: the blocks of the upper half as block 0, those of the lower as block 8.
+fn quick_rows(words: &[i16]) -> bool
+    requires { ⌜ (length (now words) ≡ recordWords) × (eqZ (typeOf (now words)) (pos 2) ≡ true) ⌝ }
+    ensures { λ t. ⌜ (t ≡ true → firstBroken narrow (now (words .entry)) ≡ 0) ⌝ }
+{
+    if !undivided_head(words) {
+        return false;
+    }
+    if !block_right(words, 0) {
+        return false;
+    }
+    if !block_right(words, 8) {
+        return false;
+    }
+    if !(check::same_references(words, 1, 0) & check::same_references(words, 3, 2)) {
+        return false;
+    }
+    check::same_vectors(words, 1, 0)
+        & vectors_repeat(words, 0, 8, 2)
+        & check::same_vectors(words, 9, 8)
+        & vectors_repeat(words, 8, 16, 2)
+}
+
+// Type 3, 8×16: the blocks of the left half as block 0, those of the right as block 2.
+fn quick_columns(words: &[i16]) -> bool
+    requires { ⌜ (length (now words) ≡ recordWords) × (eqZ (typeOf (now words)) (pos 3) ≡ true) ⌝ }
+    ensures { λ t. ⌜ (t ≡ true → firstBroken narrow (now (words .entry)) ≡ 0) ⌝ }
+{
+    if !undivided_head(words) {
+        return false;
+    }
+    if !block_right(words, 0) {
+        return false;
+    }
+    if !block_right(words, 2) {
+        return false;
+    }
+    if !(check::same_references(words, 2, 0) & check::same_references(words, 3, 1)) {
+        return false;
+    }
+    check::same_vectors(words, 1, 0)
+        & check::same_vectors(words, 3, 2)
+        & vectors_repeat(words, 0, 16, 4)
+}
+
+// ---- Type 4, 8×8
 // The blocks of quadrant q have the vectors of the first block of their sub-partition. Block i is the quadrant's first.
 fn same_in_quadrant(words: &[i16], q: usize, i: usize) -> bool
     requires { ⌜ (length (now words) ≡ recordWords) × (q < 4) × (i ≡ firstOf q) ⌝ }
@@ -95,16 +143,16 @@ fn same_in_quadrant(words: &[i16], q: usize, i: usize) -> bool
     (rows | ((sub != 0) & (sub != 1))) & (columns | ((sub != 0) & (sub != 2)))
 }
 
-// Quadrant q, whose first block is i.
+// Rules 5 and 6 of quadrant q, whose first block is i.
 fn quick_quadrant(words: &[i16], q: usize, i: usize) -> bool
     requires { ⌜ (length (now words) ≡ recordWords) × (q < 4) × (i ≡ firstOf q) ⌝ }
     ensures { λ t. ⌜ (t ≡ true → QuadrantRight (now (words .entry)) q) ⌝ }
 {
-    let same = same_in_quadrant(words, q, i);
     let reference = layout::REFERENCES + 2 * q;
     let range0 = check::range_by(words, reference);
     let range1 = check::range_by(words, reference + 1);
     let first = layout::VECTORS + 4 * i;
+    let same = same_in_quadrant(words, q, i);
     check::block_within(words, first, range0, range1)
         & check::block_within(words, first + 4, range0, range1)
         & check::block_within(words, first + 16, range0, range1)
@@ -112,49 +160,17 @@ fn quick_quadrant(words: &[i16], q: usize, i: usize) -> bool
         & same
 }
 
-// All four.
-fn quick_quadrants(words: &[i16]) -> bool
-    requires { ⌜ length (now words) ≡ recordWords ⌝ }
-    ensures { λ t. ⌜ (t ≡ true → (q : ℕ) → q < 4 → QuadrantRight (now (words .entry)) q) ⌝ }
-{
-    quick_quadrant(words, 0, 0)
-        & quick_quadrant(words, 1, 2)
-        & quick_quadrant(words, 2, 8)
-        & quick_quadrant(words, 3, 10)
-}
-
-// Blocks b and d have the same motion.
-fn same_motion(words: &[i16], b: usize, d: usize) -> bool
-    requires { ⌜ (length (now words) ≡ recordWords) × (b < 16) × (d < 16) ⌝ }
-    ensures { λ t. ⌜ t ≡ sameMotion (motionOf (now (words .entry)) b) (motionOf (now (words .entry)) d) ⌝ }
-{
-    let q = 2 * (b / 8) + b % 4 / 2;
-    let e = 2 * (d / 8) + d % 4 / 2;
-    check::same_references(words, q, e) & check::same_vectors(words, b, d)
-}
-
-// The quadrants of a partition of 16×8 (type 2), or of 8×16 (type 3), begin with the same motion. Their first blocks are 0, 2, 8 and 10.
-fn halves_alike(words: &[i16]) -> bool
-    requires { ⌜ length (now words) ≡ recordWords ⌝ }
-    ensures { λ t. ⌜ (t ≡ true → HalvesAlike (now (words .entry))) ⌝ }
-{
-    let kind = words[layout::TYPE];
-    let rows = same_motion(words, 2, 0) & same_motion(words, 10, 8);
-    let columns = same_motion(words, 8, 0) & same_motion(words, 10, 2);
-    (rows | (kind != 2)) & (columns | (kind != 3))
-}
-
-fn quick_divided(words: &[i16]) -> bool
-    requires { ⌜ (length (now words) ≡ recordWords) × (eqZ (typeOf (now words)) (pos 1) ≡ false) ⌝ }
+fn quick_quarters(words: &[i16]) -> bool
+    requires { ⌜ (length (now words) ≡ recordWords) × (eqZ (typeOf (now words)) (pos 4) ≡ true) ⌝ }
     ensures { λ t. ⌜ (t ≡ true → firstBroken narrow (now (words .entry)) ≡ 0) ⌝ }
 {
     if check::head_rule(words) != 0 {
         return false;
     }
-    if !quick_quadrants(words) {
-        return false;
-    }
-    halves_alike(words)
+    quick_quadrant(words, 0, 0)
+        & quick_quadrant(words, 1, 2)
+        & quick_quadrant(words, 2, 8)
+        & quick_quadrant(words, 3, 10)
 }
 
 // ---- The scan
@@ -170,7 +186,16 @@ fn quick(words: &[i16]) -> bool
     if kind == 1 {
         return quick_whole(words);
     }
-    quick_divided(words)
+    if kind == 2 {
+        return quick_rows(words);
+    }
+    if kind == 3 {
+        return quick_columns(words);
+    }
+    if kind == 4 {
+        return quick_quarters(words);
+    }
+    false
 }
 
 // The first of records from..to-1 that does not pass, or to.
@@ -189,7 +214,7 @@ fn first_not_quick(base: &[i16], from: usize, to: usize) -> usize
     a
 }
 
-// Records from..to-1 are well formed, or refusal 8 at the lowest that is not, with its first broken rule: as `records::check::check`, and quicker.
+// Records from..to-1 are well formed, or refusal 8 at the lowest that is not, with its first broken rule.
 pub fn check(base: &[i16], from: usize, to: usize) -> Verdict
     requires { ⌜ (to * recordWords ≤ length (now base)) × (from ≤ to) × (to ≤ 65536) ⌝ }
     ensures { λ v. ⌜ v ≡ verdictOf (recordTests narrow (now (base .entry)) (addresses from to)) ⌝ }

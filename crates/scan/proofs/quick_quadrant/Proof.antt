@@ -3,7 +3,7 @@ use mathlib.Core.Path.{sym, _∙_}
 use mathlib.Core.Bool.{_&&_}
 use Rattle.definitions.proofs.Choices.{both-true}
 use Rattle.records.specs.Checking.{liesIn}
-use Rattle.scan.proofs.Divided.{vectors-at}
+use Rattle.scan.proofs.Quarters.{vectors-at}
 use borrow.Author.Needs.{needs}
 use Rattle.scan.proofs.quick_quadrant.Statement.{statement}
 use Rattle.scan.proofs.quick_quadrant.Tie as tie
@@ -12,9 +12,6 @@ use Rattle.scan.proofs.quick_quadrant.Lts as lts
 use Rattle.records.proofs.check.block_within.Reads as block-within-reads
 use Rattle.records.proofs.check.range_by.Reads as range-by-reads
 use Rattle.scan.proofs.same_in_quadrant.Reads as same-in-quadrant-reads
-
-same-in-quadrant-requires : tie.Need-same-in-quadrant-requires
-same-in-quadrant-requires c κs = search needs
 
 mul-reference : tie.Need-mul-reference
 mul-reference c = search needs
@@ -36,6 +33,9 @@ mul-first c = search needs
 
 add-first : tie.Need-add-first
 add-first c = search needs
+
+same-in-quadrant-requires : tie.Need-same-in-quadrant-requires
+same-in-quadrant-requires c κs = search needs
 
 block-within-requires : tie.Need-block-within-requires
 block-within-requires c κs = search needs
@@ -61,9 +61,9 @@ block-within-requires-4 c κs = search needs
 returns : tie.Need-returns
 returns c =
     let start = c .before .before .before .before .before .before .before in
-    let same = c .before .before .before .before .before .before .same-in-quadrant in
-    let range0 = c .before .before .before .before .before .range-by in
-    let range1 = c .before .before .before .before .range-by2 in
+    let range0 = c .before .before .before .before .before .before .range-by in
+    let range1 = c .before .before .before .before .before .range-by2 in
+    let same = c .before .before .before .before .same-in-quadrant in
     let w0 = c .before .before .before .block-within in
     let w1 = c .before .before .block-within2 in
     let w4 = c .before .block-within3 in
@@ -82,7 +82,6 @@ pub quick-quadrant-spec : {M : Type 1} → statement M
 quick-quadrant-spec =
     tie.close
     (tie.spec
-    same-in-quadrant-requires
     mul-reference
     add-reference
     range-by-requires
@@ -90,6 +89,7 @@ quick-quadrant-spec =
     range-by-requires-2
     mul-first
     add-first
+    same-in-quadrant-requires
     block-within-requires
     add-block-within
     block-within-requires-2

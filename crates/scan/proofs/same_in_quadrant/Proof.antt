@@ -2,7 +2,7 @@
 use lib.IntN.{pos}
 use Rattle.definitions.specs.Record.{subTypeOf}
 use Rattle.definitions.proofs.Motions.{word-same}
-use Rattle.scan.proofs.Divided.{quadrant-alike}
+use Rattle.scan.proofs.Quarters.{quadrant-alike}
 use borrow.Author.Needs.{needs}
 use Rattle.scan.proofs.same_in_quadrant.Statement.{statement}
 use Rattle.scan.proofs.same_in_quadrant.Tie as tie

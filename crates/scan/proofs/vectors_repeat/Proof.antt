@@ -1,10 +1,12 @@
 -- `vectors_repeat` meets its contract: the blocks passed. Assumes nothing.
-use Prim.Native.Nat.{_+_, _-_, _≤_}
-use mathlib.Core.Path.{_≡_, sym}
+use Prim.Native.Nat.{ℕ, _+_, _-_, _<_, _≤_}
+use mathlib.Core.Path.{_≡_, sym, _∙_}
+use mathlib.Core.Bool.{true}
+use native.Mathlib.Omega.{arith}
 use borrow.Author.Needs.{needs}
-use Rattle.definitions.specs.Basics.{allBelow}
+use Rattle.definitions.proofs.Choices.{both-true}
 use Rattle.records.specs.Checking.{sameVectors}
-use Rattle.records.proofs.Searches.{search-none, below-more, search-end}
+use Rattle.scan.proofs.Passed.{one-more}
 use Rattle.scan.proofs.vectors_repeat.Statement.{statement}
 use Rattle.scan.proofs.vectors_repeat.Tie as tie
 use Rattle.scan.proofs.vectors_repeat.Reads as reads
@@ -12,13 +14,16 @@ use Rattle.scan.proofs.vectors_repeat.Lts as lts
 use Rattle.records.proofs.check.same_vectors.Reads as same-vectors-reads
 
 abbrev Inv-loop : tie.InvT-loop
-Inv-loop words same₀ b₀ same b = (b ≤ 14) × (same ≡ allBelow b (λ b. sameVectors words (b + 2) b))
+Inv-loop words first end step same₀ b₀ same b = (first ≤ b) × (b ≤ 16) × (same ≡ true → (k : ℕ) → first ≤ k → k < b → sameVectors words (k + step) k ≡ true)
 
 abbrev μ-loop : tie.MeasureT-loop
-μ-loop words same₀ b₀ same b = 14 - b
+μ-loop words first end step same₀ b₀ same b = end - b
 
 loop-holds : tie.Need-loop-holds Inv-loop μ-loop
-loop-holds c = (search needs, sym (search-none (λ b. sameVectors (c .args .words .now) (b + 2) b)))
+loop-holds c = (search needs, search needs, λ e k low high. absurd (omega arith))
+
+add-loop : tie.Need-add-loop Inv-loop μ-loop
+add-loop c = search needs
 
 add-same-vectors : tie.Need-add-same-vectors Inv-loop μ-loop
 add-same-vectors c = search needs
@@ -34,13 +39,18 @@ loop-less c = search needs
 
 loop-again : tie.Need-loop-again Inv-loop μ-loop
 loop-again c =
+    let a = c .before .before .before .args in
     let l = c .before .before .loop in
-    (search needs, below-more (λ b. sameVectors (c .before .before .before .args .words .now) (b + 2) b) (l .b) (l .inv .1) (c .same-vectors .ensures))
+    let here = c .same-vectors in (
+      search needs,
+      search needs,
+      λ e.
+          let both = both-true (l .same) (here .result) e in
+          one-more (λ k. sameVectors (a .words .now) (k + a .step) k ≡ true) (a .first) (l .b) (l .inv .2 (both .0)) (sym (here .ensures) ∙ both .1),
+    )
 
 returns : tie.Need-returns Inv-loop μ-loop
-returns c =
-    let l = c .before .loop in
-    sym (search-end (λ b. sameVectors (c .before .before .args .words .now) (b + 2) b) 14 (l .b) (l .inv .0) (c .loop-test .left) (sym (l .inv .1)))
+returns c = λ e k low high. c .before .loop .inv .2 e k low (omega arith)
 
 pub vectors-repeat-spec : {M : Type 1} → statement M
 vectors-repeat-spec =
@@ -49,6 +59,7 @@ vectors-repeat-spec =
     Inv-loop
     μ-loop
     loop-holds
+    add-loop
     add-same-vectors
     same-vectors-requires
     add-b

@@ -1,4 +1,4 @@
--- Records of types 2 to 4: rule 6 from the quadrants and the halves. Assumes nothing.
+-- A record of type 4 whose quadrants keep rules 5 and 6 is well formed. Assumes nothing.
 use Prim.Native.Nat.{ℕ, _+_, _*_, _/_, _%_, _<_}
 use mathlib.Core.Path.{_≡_, refl, sym, ap, _∙_, subst}
 use mathlib.Core.Bool.{Bool, true, false, not, _&&_, _||_}
@@ -24,8 +24,8 @@ use Rattle.records.specs.Checking.{blockWithin, headBroken, vectorsRight, subFi
 use Rattle.records.proofs.Ranges.{vectors-all, quadrant-right}
 use Rattle.records.proofs.FirstBlocks.{by-first-blocks, firstPlace, sub-first-is}
 use Rattle.records.proofs.Verdicts.{broken-none}
-use Rattle.scan.specs.Quick.{firstOf, subAsFirst, QuadrantRight, HalvesAlike}
-use Rattle.scan.proofs.Alike.{Alike, alike, alike-same, alike-self, alike-back, alike-then, alike-motion}
+use Rattle.scan.specs.Quick.{firstOf, subAsFirst, QuadrantRight}
+use Rattle.scan.proofs.Alike.{Alike, alike, alike-same, alike-self, alike-back, alike-then, alike-motion, one-motion-each}
 
 -- a test that is made only where t holds
 where-true : (a t : Bool) → (a || not t) ≡ true → t ≡ true → a ≡ true
@@ -118,26 +118,7 @@ module _ (r : List ℤ) (q : ℕ) (hq : q < 4) where
         (λ j. ((blockWithin f g r (w j) && blockWithin f g r (w j + 4)) && blockWithin f g r (w j + 16)) && blockWithin f g r (w j + 20))
         ∙ quadrant-right r q hq f g e0 e1
 
--- ---- The halves
-pub halves-alike :
-    (r : List ℤ) {a b c d t2 t3 : Bool} →
-    a ≡ sameMotion (motionOf r 2) (motionOf r 0) → b ≡ sameMotion (motionOf r 10) (motionOf r 8) →
-    c ≡ sameMotion (motionOf r 8) (motionOf r 0) → d ≡ sameMotion (motionOf r 10) (motionOf r 2) →
-    t2 ≡ eqZ (typeOf r) (pos 2) → t3 ≡ eqZ (typeOf r) (pos 3) →
-    (((a && b) || not t2) && ((c && d) || not t3)) ≡ true → HalvesAlike r
-halves-alike r {a} {b} {c} {d} {t2} {t3} ea eb ec ed e2 e3 e =
-    let both = both-true ((a && b) || not t2) ((c && d) || not t3) e in
-    record {
-      rows = λ t. let p = both-true a b (where-true (a && b) t2 (both .0) (e2 ∙ t)) in (motion-true _ _ (sym ea ∙ p .0), motion-true _ _ (sym eb ∙ p .1));
-      columns = λ t. let p = both-true c d (where-true (c && d) t3 (both .1) (e3 ∙ t)) in (motion-true _ _ (sym ec ∙ p .0), motion-true _ _ (sym ed ∙ p .1)) }
-
--- ---- A block has the motion of the first block of its piece
-row-first : (b : ℕ) → b < 16 → rasterOf (quadrantOf b / 2 * 2) 0 ≡ b / 8 * 8
-row-first = each16 (λ b. rasterOf (quadrantOf b / 2 * 2) 0 ≡ b / 8 * 8) refl refl refl refl refl refl refl refl refl refl refl refl refl refl refl refl
-
-column-first : (b : ℕ) → b < 16 → rasterOf (quadrantOf b % 2) 0 ≡ b % 4 / 2 * 2
-column-first = each16 (λ b. rasterOf (quadrantOf b % 2) 0 ≡ b % 4 / 2 * 2) refl refl refl refl refl refl refl refl refl refl refl refl refl refl refl refl
-
+-- ---- A block has the motion of the first block of its sub-partition
 sub-quadrant : (s : SubSplit) (b : ℕ) → b < 16 → quadrantOf (subFirstBlock s b) ≡ quadrantOf b
 sub-quadrant S8x8 b h = raster-quadrant (quadrantOf b) 0 (omega arith) (omega arith)
 sub-quadrant S8x4 b h = raster-quadrant (quadrantOf b) (inQuadrant b / 2 * 2) (omega arith) (omega arith)
@@ -158,66 +139,22 @@ module _ (r : List ℤ) (pieces : (q : ℕ) → q < 4 → subAsFirst r q ≡ tru
   sub-motion : (b : ℕ) → b < 16 → motionOf r b ≡ motionOf r (subFirstBlock (sub b) b)
   sub-motion b h = alike-motion r b (subFirstBlock (sub b) b) (λ l hl. ap (λ (q : ℕ). referenceOf r q l) (sym (sub-quadrant (sub b) b h))) (sub-alike b h)
 
-  module _ (undivided : (q : ℕ) → q < 4 → eqZ (subTypeOf r q) (pos 0) ≡ true) where
-    quadrant-motion : (b : ℕ) → b < 16 → motionOf r b ≡ motionOf r (rasterOf (quadrantOf b) 0)
-    quadrant-motion b h = sub-motion b h ∙ ap (λ (s : SubSplit). motionOf r (subFirstBlock s b)) (yes _ _ (undivided (quadrantOf b) (omega arith)))
-
-    row-motion : (motionOf r 2 ≡ motionOf r 0) × (motionOf r 10 ≡ motionOf r 8) → (b : ℕ) → b < 16 → motionOf r b ≡ motionOf r (b / 8 * 8)
-    row-motion m b h =
-        quadrant-motion b h
-        ∙ (each (λ q. motionOf r (rasterOf q 0) ≡ motionOf r (rasterOf (q / 2 * 2) 0)) refl (m .0) refl (m .1) (quadrantOf b) (omega arith) ∙ ap (motionOf r) (row-first b h))
-
-    column-motion : (motionOf r 8 ≡ motionOf r 0) × (motionOf r 10 ≡ motionOf r 2) → (b : ℕ) → b < 16 → motionOf r b ≡ motionOf r (b % 4 / 2 * 2)
-    column-motion m b h =
-        quadrant-motion b h
-        ∙ (each (λ q. motionOf r (rasterOf q 0) ≡ motionOf r (rasterOf (q % 2) 0)) refl refl (m .0) (m .1) (quadrantOf b) (omega arith) ∙ ap (motionOf r) (column-first b h))
-
 -- ---- The record
-second-rule : (a b : Bool) (n : ℕ) → pick (not a) 1 (pick (not b) 2 n) ≡ 0 → b ≡ true
-unfolding pick
-second-rule true true n e = refl
-second-rule true false n e = absurd (omega arith)
-second-rule false b n e = absurd (omega arith)
-
-second-of : (a b : Bool) → a ≡ false → (a || b) ≡ true → b ≡ true
-second-of true b e o = cc
-second-of false b e o = o
-
-module _ (r : List ℤ) (not-whole : eqZ (typeOf r) (pos 1) ≡ false) (head : headBroken r ≡ 0) (quadrants : (q : ℕ) → q < 4 → QuadrantRight r q)
-    (halves : HalvesAlike r) where
-  pieces : (q : ℕ) → q < 4 → subAsFirst r q ≡ true
-  pieces q h = quadrants q h .pieces
-
-  right2 : rule2 r ≡ true
-  unfolding headBroken
-  right2 = second-rule (rule1 r) (rule2 r) _ head
-
-  undivided : (n : ℕ) → eqb n 4 ≡ false → eqZ (typeOf r) (pos n) ≡ true → (q : ℕ) → q < 4 → eqZ (subTypeOf r q) (pos 0) ≡ true
-  unfolding rule2
-  undivided n not4 t =
-      below-true 4 (λ q. eqZ (subTypeOf r q) (pos 0))
-      (second-of (eqZ (typeOf r) (pos 4)) _ (ap (λ (z : ℤ). eqZ z (pos 4)) (eqZ-true (typeOf r) (pos n) t) ∙ not4) (both-true (allBelow 4 (λ q. between (pos 0) (pos 3) (subTypeOf r q))) (eqZ (typeOf r) (pos 4) || allBelow 4 (λ q. eqZ (subTypeOf r q) (pos 0))) right2 .1))
-
+module _ (r : List ℤ) (quarters : eqZ (typeOf r) (pos 4) ≡ true) (head : headBroken r ≡ 0) (quadrants : (q : ℕ) → q < 4 → QuadrantRight r q) where
   abbrev said : SubSplits
   said = record { a = subSplitOf (subTypeOf r 0); b = subSplitOf (subTypeOf r 1); c = subSplitOf (subTypeOf r 2); d = subSplitOf (subTypeOf r 3) }
 
-  by-type :
-      (t2 t3 : Bool) → eqZ (typeOf r) (pos 2) ≡ t2 → eqZ (typeOf r) (pos 3) ≡ t3 →
-      (b : ℕ) → b < 16 → motionOf r b ≡ motionOf r (firstBlockIn (pick t2 S16x8 (pick t3 S8x16 (Quarters said))) b)
-  unfolding pick
-  by-type true t3 e f b h = row-motion r pieces (undivided 2 refl e) (halves .rows e) b h
-  by-type false true e f b h = column-motion r pieces (undivided 3 refl f) (halves .columns f) b h
-  by-type false false e f b h =
-      sub-motion r pieces b h
-      ∙ ap (λ (s : SubSplit). motionOf r (subFirstBlock s b))
-      (sym (each (λ q. subSplitAt said q ≡ subSplitOf (subTypeOf r q)) refl refl refl refl (quadrantOf b) (omega arith)))
+  split : splitSaid r ≡ Quarters said
+  unfolding splitSaid
+  split =
+      let type = eqZ-true (typeOf r) (pos 4) quarters in
+      no _ _ (ap (λ (z : ℤ). eqZ z (pos 1)) type) ∙ (no _ _ (ap (λ (z : ℤ). eqZ z (pos 2)) type) ∙ no _ _ (ap (λ (z : ℤ). eqZ z (pos 3)) type))
 
-  right6 : rule6 r ≡ true
-  unfolding rule6 splitSaid
-  right6 =
-      or-right (isIntra r)
-      (ap (oneEach (motionOf r)) (no _ _ not-whole)
-      ∙ (sym (by-first-blocks (motionOf r) _) ∙ below-intro 16 _ (λ b h. motion-same _ _ (by-type _ _ refl refl b h))))
+  sub-at : (b : ℕ) → b < 16 → subSplitAt said (quadrantOf b) ≡ subSplitOf (subTypeOf r (quadrantOf b))
+  sub-at b h = each (λ q. subSplitAt said q ≡ subSplitOf (subTypeOf r q)) refl refl refl refl (quadrantOf b) (omega arith)
 
-  pub divided-formed : firstBroken narrow r ≡ 0
-  divided-formed = broken-none r head (vectors-all r ∙ below-intro 4 _ (λ q h. quadrants q h .vectors)) right6
+  pub quarters-formed : firstBroken narrow r ≡ 0
+  quarters-formed =
+      broken-none r head (vectors-all r ∙ below-intro 4 _ (λ q h. quadrants q h .vectors))
+      (one-motion-each r (Quarters said) split (λ b h.
+      sub-motion r (λ q h. quadrants q h .pieces) b h ∙ ap (λ (s : SubSplit). motionOf r (subFirstBlock s b)) (sym (sub-at b h))))
