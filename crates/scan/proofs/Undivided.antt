@@ -103,6 +103,15 @@ fours r repeated (suc i) k hk h =
     (alike-then r (4 * i + k + 4) (4 * i + k) k (alike r (4 * i + k + 4) (4 * i + k) (repeated (4 * i + k) (omega arith) (omega arith))) (fours r repeated i k hk (omega arith)))
 
 -- ---- The three types
+quadrant-below : (b : ℕ) → b < 16 → quadrantOf b < 4
+quadrant-below b h = omega arith
+
+row-quadrant : (b : ℕ) → b < 16 → quadrantOf b / 2 * 2 ≡ quadrantOf (b / 8 * 8)
+row-quadrant b h = omega arith
+
+column-quadrant : (b : ℕ) → b < 16 → quadrantOf b % 2 ≡ quadrantOf (b % 4 / 2 * 2)
+column-quadrant b h = omega arith
+
 module _ (r : List ℤ) (n : ℕ) (is : eqZ (typeOf r) (pos n) ≡ true) where
   type : typeOf r ≡ pos n
   type = eqZ-true (typeOf r) (pos n) is
@@ -127,7 +136,7 @@ module _ (r : List ℤ) (head : (rule2 r ≡ true) × (rule3 r ≡ true)) (right
   unfolding splitSaid
   whole-formed is s1 s2 s3 one repeated =
       by-type r 1 is S16x16 (yes _ _ is) refl refl
-      (λ b h. each (λ q. Referred r q 0) (λ l k. refl) (referred r 1 0 s1) (referred r 2 0 s2) (referred r 3 0 s3) (quadrantOf b) (omega arith))
+      (λ b h. each (λ q. Referred r q 0) (λ l k. refl) (referred r 1 0 s1) (referred r 2 0 s2) (referred r 3 0 s3) (quadrantOf b) (quadrant-below b h))
       (λ b h. subst (λ (d : ℕ). Alike r d 0) (zero-add b) (twos r 0 16 one repeated b h)) (λ b h. right0) head
 
   pub rows-formed :
@@ -139,9 +148,8 @@ module _ (r : List ℤ) (head : (rule2 r ≡ true) × (rule3 r ≡ true)) (right
   rows-formed is right8 s1 s3 upper upper-repeated lower lower-repeated =
       by-type r 2 is S16x8 (no _ _ (ap (λ (z : ℤ). eqZ z (pos 1)) (type r 2 is)) ∙ yes _ _ is) refl refl
       (λ b h.
-      let e : quadrantOf b / 2 * 2 ≡ quadrantOf (b / 8 * 8) = omega arith in
-      subst (Referred r (quadrantOf b)) e
-      (each (λ q. Referred r q (q / 2 * 2)) (λ l k. refl) (referred r 1 0 s1) (λ l k. refl) (referred r 3 2 s3) (quadrantOf b) (omega arith)))
+      subst (Referred r (quadrantOf b)) (row-quadrant b h)
+      (each (λ q. Referred r q (q / 2 * 2)) (λ l k. refl) (referred r 1 0 s1) (λ l k. refl) (referred r 3 2 s3) (quadrantOf b) (quadrant-below b h)))
       (λ b h.
       let half : 8 * (b / 8) ≡ b / 8 * 8 = omega arith in
       subst (Alike r b) half
@@ -158,9 +166,8 @@ module _ (r : List ℤ) (head : (rule2 r ≡ true) × (rule3 r ≡ true)) (right
   columns-formed is right2 s2 s3 left right repeated =
       by-type r 3 is S8x16 (no _ _ (ap (λ (z : ℤ). eqZ z (pos 1)) (type r 3 is)) ∙ (no _ _ (ap (λ (z : ℤ). eqZ z (pos 2)) (type r 3 is)) ∙ yes _ _ is)) refl refl
       (λ b h.
-      let e : quadrantOf b % 2 ≡ quadrantOf (b % 4 / 2 * 2) = omega arith in
-      subst (Referred r (quadrantOf b)) e
-      (each (λ q. Referred r q (q % 2)) (λ l k. refl) (λ l k. refl) (referred r 2 0 s2) (referred r 3 1 s3) (quadrantOf b) (omega arith)))
+      subst (Referred r (quadrantOf b)) (column-quadrant b h)
+      (each (λ q. Referred r q (q % 2)) (λ l k. refl) (λ l k. refl) (referred r 2 0 s2) (referred r 3 1 s3) (quadrantOf b) (quadrant-below b h)))
       (λ b h.
       let at : 4 * (b / 4) + b % 4 ≡ b = div-add-mod b 4 in
       alike-then r b (b % 4) (b % 4 / 2 * 2)
