@@ -1,7 +1,7 @@
 -- References, vectors and motions that are the same; rule 6 of a record whose blocks have the motion of their piece's first; a record that keeps all rules. Assumes nothing.
 use Prim.Native.Nat.{ℕ, _<_}
 use mathlib.Core.Path.{_≡_, refl, sym, ap, _∙_}
-use mathlib.Core.Bool.{Bool, true, not}
+use mathlib.Core.Bool.{true, not}
 use mathlib.Core.List.{List}
 use native.Mathlib.Omega.{arith}
 use lib.IntN.{ℤ}
@@ -33,10 +33,6 @@ module _ (r : List ℤ) where
   pub referred : (q e : ℕ) → sameReferences r q e ≡ true → Referred q e
   unfolding sameReferences
   referred q e s l h = eqZ-true _ _ (below-true 2 (λ l. eqZ (referenceOf r q l) (referenceOf r e l)) s l h)
-
-  pub referred-self : (q : ℕ) → sameReferences r q q ≡ true
-  unfolding sameReferences
-  referred-self q = below-intro 2 _ (λ l h. eqZ-refl (referenceOf r q l))
 
   -- blocks b and d have the same vectors
   abbrev pub Alike : ℕ → ℕ → Type 0

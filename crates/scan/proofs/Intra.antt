@@ -1,15 +1,14 @@
 -- A record of type 0 whose words are 0, and its references −1, is well formed. Assumes nothing.
 use Prim.Native.Nat.{ℕ, _+_, _*_, _<_}
 use mathlib.Core.Path.{_≡_, refl, sym, ap, _∙_}
-use mathlib.Core.Bool.{Bool, true, false, _||_}
+use mathlib.Core.Bool.{Bool, true, false}
 use mathlib.Core.List.{List}
 use native.Mathlib.Omega.{arith}
 use lib.IntN.{ℤ, pos}
-use Rattle.definitions.specs.Basics.{minus, eqZ, between, allBelow}
+use Rattle.definitions.specs.Basics.{minus, eqZ, between}
 use Rattle.definitions.specs.Blocks.{quadrantOf}
-use Rattle.definitions.specs.Record.{narrow, wordOf, typeOf, isIntra, referenceOf, used, vectorXOf, vectorYOf, vectorWord, rule1, rule2, rule3, rule4, rule5, rule6, firstBroken}
+use Rattle.definitions.specs.Record.{narrow, wordOf, typeOf, isIntra, referenceOf, used, vectorWord, rule1, rule3, rule5, rule6, firstBroken}
 use Rattle.definitions.proofs.Choices.{and-intro, or-left, eqZ-true, below-true, below-intro}
-use Rattle.definitions.proofs.Formed.{Rules}
 use Rattle.records.specs.Checking.{liesIn, allWithin}
 use Rattle.records.proofs.Ranges.{only, one-number, sub-types-zero, use-none}
 use Rattle.scan.proofs.Alike.{none-broken}

@@ -2,36 +2,28 @@
 use Prim.Native.Nat.{ℕ, _+_, _*_, _/_, _%_, _<_}
 use mathlib.Core.Path.{_≡_, refl, sym, ap, _∙_, subst}
 use mathlib.Core.Bool.{Bool, true, false, not, _&&_, _||_}
-use mathlib.Core.List.{List, [], _∷_}
-use native.Mathlib.Nat.{add-zero}
+use mathlib.Core.List.{List}
 use native.Mathlib.Omega.{arith}
-use lib.Dec.{eqb}
 use lib.IntN.{ℤ, pos}
-use lib.ListN.{getD}
 use Rattle.definitions.specs.declared.SubSplit.{SubSplit}
 use Rattle.definitions.specs.declared.SubSplit.the-variants.{S8x8, S8x4, S4x8, S4x4}
 use Rattle.definitions.specs.declared.SubSplits.{SubSplits}
-use Rattle.definitions.specs.declared.Split.{Split}
-use Rattle.definitions.specs.declared.Split.the-variants.{S16x16, S16x8, S8x16, S8x8 as Quarters}
-use Rattle.definitions.specs.Basics.{pick, eqZ, between, allBelow}
+use Rattle.definitions.specs.declared.Split.the-variants.{S8x8 as Quarters}
+use Rattle.definitions.specs.Basics.{pick, eqZ}
 use Rattle.definitions.specs.Blocks.{quadrantOf, inQuadrant, rasterOf}
-use Rattle.definitions.specs.Splits.{sameMotion, oneEach}
-use Rattle.definitions.specs.Record.{narrow, typeOf, subTypeOf, isIntra, wordOf, used, vectorWord, referenceOf, motionOf, subSplitOf, splitSaid, rule1, rule2, rule3, rule4, rule5, rule6, firstBroken}
-use Rattle.definitions.proofs.Choices.{yes, no, both-true, or-right, eqZ-true, below-true, below-intro, each}
-use Rattle.definitions.proofs.Motions.{motion-same, motion-true}
-use Rattle.definitions.proofs.Records.{each16, raster-quadrant, raster-is}
-use Rattle.records.specs.Checking.{blockWithin, headBroken, vectorsRight, subFirstBlock, subSplitAt, firstBlockIn, sameVectors}
+use Rattle.definitions.specs.Record.{narrow, typeOf, subTypeOf, wordOf, used, vectorWord, referenceOf, motionOf, subSplitOf, splitSaid, firstBroken}
+use Rattle.definitions.proofs.Choices.{no, both-true, eqZ-true, below-true, below-intro, each}
+use Rattle.definitions.proofs.Records.{raster-quadrant, raster-is}
+use Rattle.records.specs.Checking.{blockWithin, headBroken, vectorsRight, subFirstBlock, subSplitAt, sameVectors}
 use Rattle.records.proofs.Ranges.{vectors-all, quadrant-right}
-use Rattle.records.proofs.FirstBlocks.{by-first-blocks, firstPlace, sub-first-is}
+use Rattle.records.proofs.FirstBlocks.{firstPlace, sub-first-is}
 use Rattle.records.proofs.Verdicts.{broken-none}
 use Rattle.scan.specs.Quick.{firstOf, subAsFirst, QuadrantRight}
 use Rattle.scan.proofs.Alike.{Alike, alike, alike-same, alike-self, alike-back, alike-then, alike-motion, one-motion-each}
 
--- a test that is made only where t holds
-where-true : (a t : Bool) → (a || not t) ≡ true → t ≡ true → a ≡ true
-where-true true t e h = refl
-where-true false true e h = e
-where-true false false e h = h
+or-false : (a : Bool) → (a || false) ≡ true → a ≡ true
+or-false true e = refl
+or-false false e = e
 
 -- ---- The blocks of a quadrant
 module _ (r : List ℤ) (q : ℕ) (hq : q < 4) where
@@ -63,12 +55,12 @@ module _ (r : List ℤ) (q : ℕ) (hq : q < 4) where
         (t0 t1 t2 : Bool) → (rows || (not t0 && not t1)) ≡ true → (columns || (not t0 && not t2)) ≡ true →
         (k : ℕ) → k < 4 → AsPlace (pick t0 S8x8 (pick t1 S8x4 (pick t2 S4x8 S4x4))) k
     unfolding pick
-    by-sub true t1 t2 e f = as-8x8 (of-rows (where-true rows true e refl)) (of-columns (where-true columns true f refl))
-    by-sub false true t2 e f = as-8x4 (of-rows (where-true rows true e refl))
-    by-sub false false true e f = as-4x8 (of-columns (where-true columns true f refl))
+    by-sub true t1 t2 e f = as-8x8 (of-rows (or-false rows e)) (of-columns (or-false columns f))
+    by-sub false true t2 e f = as-8x4 (of-rows (or-false rows e))
+    by-sub false false true e f = as-4x8 (of-columns (or-false columns f))
     by-sub false false false e f = λ k h. alike-self r (B k)
 
-    pub by-sub-type :
+    by-sub-type :
         (rows || (not (eqZ (subTypeOf r q) (pos 0)) && not (eqZ (subTypeOf r q) (pos 1)))) ≡ true →
         (columns || (not (eqZ (subTypeOf r q) (pos 0)) && not (eqZ (subTypeOf r q) (pos 2)))) ≡ true → subAsFirst r q ≡ true
     unfolding subAsFirst
@@ -78,7 +70,7 @@ module _ (r : List ℤ) (q : ℕ) (hq : q < 4) where
         (rw (sub-first-is (motionOf r) q k hq h (subSplitOf (subTypeOf r q)))
         (by-sub (eqZ (subTypeOf r q) (pos 0)) (eqZ (subTypeOf r q) (pos 1)) (eqZ (subTypeOf r q) (pos 2)) e f k h)))
 
-  -- the same, from the tests of the words; i is the quadrant's first block
+  -- the tests of the words; i is the quadrant's first block
   module _ (i : ℕ) (at : i ≡ firstOf q) where
     b0 : B 0 ≡ i
     b0 = each (λ q. rasterOf q 0 ≡ firstOf q) refl refl refl refl q hq ∙ sym at

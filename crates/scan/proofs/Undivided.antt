@@ -1,5 +1,5 @@
 -- A record of type 1, 2 or 3 whose blocks have the motion of the first block of their piece, which is right, is well formed. Assumes nothing.
-use Prim.Native.Nat.{ℕ, zero, suc, _+_, _-_, _*_, _/_, _%_, _<_, _≤_}
+use Prim.Native.Nat.{ℕ, zero, suc, _+_, _*_, _/_, _%_, _<_, _≤_}
 use mathlib.Core.Path.{_≡_, refl, sym, ap, _∙_, subst}
 use mathlib.Core.Bool.{Bool, true, false, _&&_, _||_}
 use mathlib.Core.List.{List}
@@ -12,13 +12,13 @@ use Rattle.definitions.specs.declared.Split.{Split}
 use Rattle.definitions.specs.declared.Split.the-variants.{S16x16, S16x8, S8x16}
 use Rattle.definitions.specs.Basics.{eqZ, between}
 use Rattle.definitions.specs.Blocks.{quadrantOf, rasterOf}
-use Rattle.definitions.specs.Record.{narrow, wordOf, typeOf, isIntra, used, vectorWord, motionOf, splitSaid, rule1, rule2, rule3, rule4, rule5, rule6, firstBroken}
-use Rattle.definitions.proofs.Choices.{yes, no, both-true, and-intro, eqZ-true, below-intro, each}
+use Rattle.definitions.specs.Record.{narrow, wordOf, typeOf, isIntra, used, vectorWord, motionOf, splitSaid, rule1, rule2, rule3, rule4, rule5, firstBroken}
+use Rattle.definitions.proofs.Choices.{yes, no, both-true, eqZ-true, below-intro, each}
 use Rattle.definitions.proofs.Records.{raster-quadrant, raster-below}
 use Rattle.records.specs.Checking.{quadrantUsed, listRight, firstBlockIn, sameReferences, sameVectors, blockWithin}
 use Rattle.records.proofs.Ranges.{use-each}
 use Rattle.scan.specs.Quick.{BlockRight}
-use Rattle.scan.proofs.Alike.{none-broken, Referred, referred, referred-self, Alike, alike, alike-self, alike-then, alike-motion, one-motion-each}
+use Rattle.scan.proofs.Alike.{none-broken, Referred, referred, Alike, alike, alike-self, alike-then, alike-motion, one-motion-each}
 
 -- what holds at 0 and 1 holds at each index below 2
 either : (P : ℕ → Type 0) → P 0 → P 1 → (k : ℕ) → k < 2 → P k

@@ -1,4 +1,5 @@
-// A quick scan of motion records: it passes only well-formed ones, and nearly all of them. From the first that it does not pass, the full check goes on.
+// A quick scan of motion records, which passes only well-formed ones. From the first that it does not pass, the check of the crate records goes on.
+// Tests joined by `&` and `|` have no branch between them, and the compiler takes several words at once.
 ghost use mathlib.Core.Path.{_≡_};
 ghost use mathlib.Core.Bool.{true, false};
 ghost use Prim.Native.Nat.{ℕ, _+_, _*_, _≤_, _<_};
@@ -14,8 +15,8 @@ use records::check;
 use records::layout;
 use records::read::record_at;
 
-// Tests joined by `&` and `|` have no branch between them, and the compiler takes several words at once.
 // ---- Type 0, intra
+// No sub-type but 0, no reference but -1, no vector but 0.
 fn quick_intra(words: &[i16]) -> bool
     requires { ⌜ (length (now words) ≡ recordWords) × (isIntra (now words) ≡ true) ⌝ }
     ensures { λ t. ⌜ (t ≡ true → firstBroken narrow (now (words .entry)) ≡ 0) ⌝ }
@@ -160,6 +161,7 @@ fn quick_quadrant(words: &[i16], q: usize, i: usize) -> bool
         & same
 }
 
+// Rules 1 to 4, and each quadrant.
 fn quick_quarters(words: &[i16]) -> bool
     requires { ⌜ (length (now words) ≡ recordWords) × (eqZ (typeOf (now words)) (pos 4) ≡ true) ⌝ }
     ensures { λ t. ⌜ (t ≡ true → firstBroken narrow (now (words .entry)) ≡ 0) ⌝ }

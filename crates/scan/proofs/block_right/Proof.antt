@@ -7,11 +7,6 @@ use Rattle.scan.proofs.Undivided.{block-right as right-by-words}
 use borrow.Author.Needs.{needs}
 use Rattle.scan.proofs.block_right.Statement.{statement}
 use Rattle.scan.proofs.block_right.Tie as tie
-use Rattle.scan.proofs.block_right.Reads as reads
-use Rattle.scan.proofs.block_right.Lts as lts
-use Rattle.records.proofs.check.block_within.Reads as block-within-reads
-use Rattle.records.proofs.check.quadrant_used.Reads as quadrant-used-reads
-use Rattle.records.proofs.check.range_by.Reads as range-by-reads
 
 mul-quadrant : tie.Need-mul-quadrant
 mul-quadrant c = search needs

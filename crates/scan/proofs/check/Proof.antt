@@ -4,10 +4,6 @@ use Rattle.scan.proofs.Passed.{verdict-from}
 use borrow.Author.Needs.{needs}
 use Rattle.scan.proofs.check.Statement.{statement}
 use Rattle.scan.proofs.check.Tie as tie
-use Rattle.scan.proofs.check.Reads as reads
-use Rattle.scan.proofs.check.Lts as lts
-use Rattle.records.proofs.check.check.Reads as check-reads
-use Rattle.scan.proofs.first_not_quick.Reads as first-not-quick-reads
 
 first-not-quick-requires : tie.Need-first-not-quick-requires
 first-not-quick-requires c κs = search needs

@@ -8,10 +8,6 @@ use Rattle.definitions.specs.Record.{narrow, recordAt, firstBroken}
 use Rattle.scan.proofs.Passed.{one-more}
 use Rattle.scan.proofs.first_not_quick.Statement.{statement}
 use Rattle.scan.proofs.first_not_quick.Tie as tie
-use Rattle.scan.proofs.first_not_quick.Reads as reads
-use Rattle.scan.proofs.first_not_quick.Lts as lts
-use Rattle.records.proofs.read.record_at.Reads as record-at-reads
-use Rattle.scan.proofs.quick.Reads as quick-reads
 
 abbrev Inv-loop : tie.InvT-loop
 Inv-loop base from to a₀ a = (from ≤ a) × (a ≤ to) × ((k : ℕ) → from ≤ k → k < a → firstBroken narrow (recordAt base k) ≡ 0)

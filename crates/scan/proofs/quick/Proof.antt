@@ -7,13 +7,6 @@ use Rattle.records.proofs.Words.{word-is}
 use borrow.Author.Needs.{needs}
 use Rattle.scan.proofs.quick.Statement.{statement}
 use Rattle.scan.proofs.quick.Tie as tie
-use Rattle.scan.proofs.quick.Reads as reads
-use Rattle.scan.proofs.quick.Lts as lts
-use Rattle.scan.proofs.quick_columns.Reads as quick-columns-reads
-use Rattle.scan.proofs.quick_intra.Reads as quick-intra-reads
-use Rattle.scan.proofs.quick_quarters.Reads as quick-quarters-reads
-use Rattle.scan.proofs.quick_rows.Reads as quick-rows-reads
-use Rattle.scan.proofs.quick_whole.Reads as quick-whole-reads
 
 shared-slice-copy-out-kind : tie.Need-shared-slice-copy-out-kind
 shared-slice-copy-out-kind c = search needs

@@ -6,9 +6,6 @@ use Rattle.scan.proofs.Intra.{intra-formed}
 use borrow.Author.Needs.{needs}
 use Rattle.scan.proofs.quick_intra.Statement.{statement}
 use Rattle.scan.proofs.quick_intra.Tie as tie
-use Rattle.scan.proofs.quick_intra.Reads as reads
-use Rattle.scan.proofs.quick_intra.Lts as lts
-use Rattle.records.proofs.check.all_within.Reads as all-within-reads
 
 all-within-requires : tie.Need-all-within-requires
 all-within-requires c κs = search needs

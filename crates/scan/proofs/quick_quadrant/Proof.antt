@@ -7,11 +7,6 @@ use Rattle.scan.proofs.Quarters.{vectors-at}
 use borrow.Author.Needs.{needs}
 use Rattle.scan.proofs.quick_quadrant.Statement.{statement}
 use Rattle.scan.proofs.quick_quadrant.Tie as tie
-use Rattle.scan.proofs.quick_quadrant.Reads as reads
-use Rattle.scan.proofs.quick_quadrant.Lts as lts
-use Rattle.records.proofs.check.block_within.Reads as block-within-reads
-use Rattle.records.proofs.check.range_by.Reads as range-by-reads
-use Rattle.scan.proofs.same_in_quadrant.Reads as same-in-quadrant-reads
 
 mul-reference : tie.Need-mul-reference
 mul-reference c = search needs

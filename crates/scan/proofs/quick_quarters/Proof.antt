@@ -7,10 +7,6 @@ use Rattle.scan.proofs.Quarters.{quarters-formed}
 use borrow.Author.Needs.{needs}
 use Rattle.scan.proofs.quick_quarters.Statement.{statement}
 use Rattle.scan.proofs.quick_quarters.Tie as tie
-use Rattle.scan.proofs.quick_quarters.Reads as reads
-use Rattle.scan.proofs.quick_quarters.Lts as lts
-use Rattle.records.proofs.check.head_rule.Reads as head-rule-reads
-use Rattle.scan.proofs.quick_quadrant.Reads as quick-quadrant-reads
 
 head-rule-requires : tie.Need-head-rule-requires
 head-rule-requires c κs = search needs

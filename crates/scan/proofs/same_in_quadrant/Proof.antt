@@ -6,9 +6,6 @@ use Rattle.scan.proofs.Quarters.{quadrant-alike}
 use borrow.Author.Needs.{needs}
 use Rattle.scan.proofs.same_in_quadrant.Statement.{statement}
 use Rattle.scan.proofs.same_in_quadrant.Tie as tie
-use Rattle.scan.proofs.same_in_quadrant.Reads as reads
-use Rattle.scan.proofs.same_in_quadrant.Lts as lts
-use Rattle.records.proofs.check.same_vectors.Reads as same-vectors-reads
 
 add-sub : tie.Need-add-sub
 add-sub c = search needs

@@ -6,9 +6,6 @@ use Rattle.records.proofs.Ranges.{sub-types-zero, references}
 use borrow.Author.Needs.{needs}
 use Rattle.scan.proofs.undivided_head.Statement.{statement}
 use Rattle.scan.proofs.undivided_head.Tie as tie
-use Rattle.scan.proofs.undivided_head.Reads as reads
-use Rattle.scan.proofs.undivided_head.Lts as lts
-use Rattle.records.proofs.check.all_within.Reads as all-within-reads
 
 all-within-requires : tie.Need-all-within-requires
 all-within-requires c κs = search needs

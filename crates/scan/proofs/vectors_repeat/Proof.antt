@@ -9,9 +9,6 @@ use Rattle.records.specs.Checking.{sameVectors}
 use Rattle.scan.proofs.Passed.{one-more}
 use Rattle.scan.proofs.vectors_repeat.Statement.{statement}
 use Rattle.scan.proofs.vectors_repeat.Tie as tie
-use Rattle.scan.proofs.vectors_repeat.Reads as reads
-use Rattle.scan.proofs.vectors_repeat.Lts as lts
-use Rattle.records.proofs.check.same_vectors.Reads as same-vectors-reads
 
 abbrev Inv-loop : tie.InvT-loop
 Inv-loop words first end step same₀ b₀ same b = (first ≤ b) × (b ≤ 16) × (same ≡ true → (k : ℕ) → first ≤ k → k < b → sameVectors words (k + step) k ≡ true)
