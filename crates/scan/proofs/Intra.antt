@@ -59,5 +59,10 @@ module _ (r : List ℤ) (intra : isIntra r ≡ true) (subs : allWithin r 1 4 (on
   pub intra-formed : firstBroken narrow r ≡ 0
   intra-formed =
       none-broken r (record {
-        types = right1; sub-types = sub-types-zero r (ap (λ (z : ℤ). eqZ z (pos 4)) type) ∙ subs; references = right3;
-        lists = use-none r intra ∙ references; vectors = right5; pieces = right6 })
+        types = right1;
+        sub-types = sub-types-zero r (ap (λ (z : ℤ). eqZ z (pos 4)) type) ∙ subs;
+        references = right3;
+        lists = use-none r intra ∙ references;
+        vectors = right5;
+        pieces = right6;
+      })

@@ -80,8 +80,7 @@ fn quick_whole(words: &[i16]) -> bool
     }
     if !(check::same_references(words, 1, 0)
         & check::same_references(words, 2, 0)
-        & check::same_references(words, 3, 0))
-    {
+        & check::same_references(words, 3, 0)) {
         return false;
     }
     check::same_vectors(words, 1, 0) & vectors_repeat(words, 0, 16, 2)

@@ -71,7 +71,8 @@ returns c =
           ∙ vectors-at (start .args .words .now) (start .args .q) (search needs) (start .args .i) (start .pre .2)
           (liesIn (range0 .result)) (liesIn (range1 .result)) (range0 .ensures) (range1 .ensures))
           ∙ both .0;
-      pieces = same .ensures (both .1) }
+      pieces = same .ensures (both .1);
+    }
 
 pub quick-quadrant-spec : {M : Type 1} → statement M
 quick-quadrant-spec =
