@@ -54,7 +54,7 @@ module _ (m : ℕ → Motion) where
   abbrev asAt : (ℕ → ℕ) → ℕ → Bool
   asAt f b = sameMotion (m b) (m (f b))
 
-  abbrev firstPlace : SubSplit → ℕ → ℕ
+  abbrev pub firstPlace : SubSplit → ℕ → ℕ
   firstPlace S8x8 k = 0
   firstPlace S8x4 k = k / 2 * 2
   firstPlace S4x8 k = k % 2
@@ -69,7 +69,7 @@ module _ (m : ℕ → Motion) where
   in-quadrant i S4x8 = rw (add-zero i, same i, same (i + 1)) (simp (and-assoc, and-true))
   in-quadrant i S4x4 = rw (add-zero i, same i, same (i + 1), same (i + 4), same (i + 5))
 
-  sub-first-is : (q k : ℕ) → q < 4 → k < 4 → (s : SubSplit) → subFirstBlock s (rasterOf q k) ≡ rasterOf q (firstPlace s k)
+  pub sub-first-is : (q k : ℕ) → q < 4 → k < 4 → (s : SubSplit) → subFirstBlock s (rasterOf q k) ≡ rasterOf q (firstPlace s k)
   sub-first-is q k hq hk S8x8 = rw (raster-quadrant q k hq hk)
   sub-first-is q k hq hk S8x4 = rw (raster-quadrant q k hq hk, raster-within q k hq hk)
   sub-first-is q k hq hk S4x8 = rw (raster-quadrant q k hq hk, raster-within q k hq hk)

@@ -1,9 +1,9 @@
--- Laws of this crate's proofs; other crates cite Addresses and Undivided.
+-- Laws of this crate's proofs; other crates cite those that are pub.
 pub mod Addresses
 pub mod Undivided
-mod Words
+pub mod Words
 mod Searches
-mod Ranges
-mod FirstBlocks
-mod Verdicts
+pub mod Ranges
+pub mod FirstBlocks
+pub mod Verdicts
 mod Assembly

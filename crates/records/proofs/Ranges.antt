@@ -21,7 +21,7 @@ same-nat a b true true e f = sym (eq-eqb b a (le-antisymm (leb-true b a f) (leb-
 same-nat a b true false e f = sym (ne-eqb b a (λ h. omega (arith, leb-false b a f)))
 same-nat a b false u e f = sym (ne-eqb b a (λ h. omega (arith, leb-false a b e)))
 
-one-number : (c z : ℤ) → between c c z ≡ eqZ z c
+pub one-number : (c z : ℤ) → between c c z ≡ eqZ z c
 one-number (pos a) (pos b) = same-nat a b _ _ refl refl
 one-number (pos a) (negsuc b) = refl
 one-number (negsuc a) (pos b) = refl

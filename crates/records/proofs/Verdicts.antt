@@ -51,7 +51,7 @@ module _ (r : List ℤ) where
     broken-6 : rule5 narrow r ≡ true → rule6 r ≡ false → firstBroken narrow r ≡ 6
     broken-6 e5 e6 = by-tail ∙ (no _ _ (ap not e5) ∙ yes _ _ (ap not e6))
 
-    broken-none : rule5 narrow r ≡ true → rule6 r ≡ true → firstBroken narrow r ≡ 0
+    pub broken-none : rule5 narrow r ≡ true → rule6 r ≡ true → firstBroken narrow r ≡ 0
     broken-none e5 e6 = by-tail ∙ (no _ _ (ap not e5) ∙ no _ _ (ap not e6))
 
 -- ---- The verdict on the records from an address on
@@ -64,7 +64,7 @@ module _ (base : List ℤ) (a to : ℕ) where
   verdict-end h = yes _ _ refl ∙ sym (rw (addresses-end a to h))
 
   module _ (h : a < to) (r : List ℤ) (here : r ≡ recordAt base a) where
-    verdict-more : firstBroken narrow r ≡ 0 → verdict ≡ verdictOf (recordTests narrow base (addresses (a + 1) to))
+    pub verdict-more : firstBroken narrow r ≡ 0 → verdict ≡ verdictOf (recordTests narrow base (addresses (a + 1) to))
     unfolding recordTests
     verdict-more e = rw (addresses-more a to h, ← here) (no _ _ (ap (λ (n : ℕ). not (eqb n 0)) e))
 

@@ -17,7 +17,7 @@ use definitions::Refusal;
 use definitions::Verdict;
 
 // low..high, both included
-struct Range {
+pub struct Range {
     low: i16,
     high: i16,
 }
@@ -26,7 +26,7 @@ const TYPES: Range = Range { low: 0, high: 4 };
 
 const SUB_TYPES: Range = Range { low: 0, high: 3 };
 
-const REFERENCES: Range = Range {
+pub const REFERENCES: Range = Range {
     low: UNUSED,
     high: 31,
 };
@@ -36,12 +36,12 @@ const VECTORS: Range = Range {
     high: 8191,
 };
 
-const ONLY_UNUSED: Range = Range {
+pub const ONLY_UNUSED: Range = Range {
     low: UNUSED,
     high: UNUSED,
 };
 
-const ONLY_ZERO: Range = Range { low: 0, high: 0 };
+pub const ONLY_ZERO: Range = Range { low: 0, high: 0 };
 
 // ---- Rules 1 to 4: words 0 to 12
 // Both tests are made: `&` has no branch. So it is wherever words are tested by `&` below, and the compiler takes several at once.
@@ -54,7 +54,7 @@ fn word_within(words: &[i16], w: usize, range: Range) -> bool
 }
 
 // Count words from the first on are in the range.
-fn all_within(words: &[i16], first: usize, count: usize, range: Range) -> bool
+pub fn all_within(words: &[i16], first: usize, count: usize, range: Range) -> bool
     requires { ⌜ (first + count ≤ length (now words)) × (length (now words) ≡ recordWords) ⌝ }
     ensures { λ t. ⌜ t ≡ allWithin (now (words .entry)) first count range ⌝ }
 {
@@ -79,7 +79,7 @@ fn sub_types_right(words: &[i16]) -> bool
 }
 
 // Quadrant q has a used list.
-fn quadrant_used(words: &[i16], q: usize) -> bool
+pub fn quadrant_used(words: &[i16], q: usize) -> bool
     requires { ⌜ (length (now words) ≡ recordWords) × (q < 4) ⌝ }
     ensures { λ t. ⌜ t ≡ quadrantUsed (now (words .entry)) q ⌝ }
 {
@@ -117,7 +117,7 @@ fn usage_right(words: &[i16]) -> bool
 }
 
 // The first of rules 1 to 4 that is broken, or 0.
-fn head_rule(words: &[i16]) -> u32
+pub fn head_rule(words: &[i16]) -> u32
     requires { ⌜ length (now words) ≡ recordWords ⌝ }
     ensures { λ rule. ⌜ rule ≡ headBroken (now (words .entry)) ⌝ }
 {
@@ -138,7 +138,7 @@ fn head_rule(words: &[i16]) -> u32
 
 // ---- Rule 5: the vector words of a quadrant
 // The range that the reference at word w allows its vector words.
-fn range_by(words: &[i16], w: usize) -> Range
+pub fn range_by(words: &[i16], w: usize) -> Range
     requires { ⌜ (length (now words) ≡ recordWords) × (w < recordWords) ⌝ }
     ensures { λ range. ⌜ ((v : ℤ) → liesIn range v ≡ vectorWord narrow (used (wordOf (now (words .entry)) w)) v) ⌝ }
 {
@@ -149,7 +149,7 @@ fn range_by(words: &[i16], w: usize) -> Range
 }
 
 // A block's four vector words, from the first on: those of list 0 are in range0, those of list 1 in range1.
-fn block_within(words: &[i16], first: usize, range0: Range, range1: Range) -> bool
+pub fn block_within(words: &[i16], first: usize, range0: Range, range1: Range) -> bool
     requires { ⌜ (length (now words) ≡ recordWords) × (first + 4 ≤ recordWords) ⌝ }
     ensures { λ t. ⌜ t ≡ blockWithin (liesIn range0) (liesIn range1) (now (words .entry)) first ⌝ }
 {
@@ -224,7 +224,7 @@ fn same_word(words: &[i16], v: usize, w: usize) -> bool
 }
 
 // Quadrants q and e have the same references.
-fn same_references(words: &[i16], q: usize, e: usize) -> bool
+pub fn same_references(words: &[i16], q: usize, e: usize) -> bool
     requires { ⌜ (length (now words) ≡ recordWords) × (q < 4) × (e < 4) ⌝ }
     ensures { λ t. ⌜ t ≡ sameReferences (now (words .entry)) q e ⌝ }
 {
@@ -234,7 +234,7 @@ fn same_references(words: &[i16], q: usize, e: usize) -> bool
 }
 
 // Blocks b and d have the same vectors.
-fn same_vectors(words: &[i16], b: usize, d: usize) -> bool
+pub fn same_vectors(words: &[i16], b: usize, d: usize) -> bool
     requires { ⌜ (length (now words) ≡ recordWords) × (b < 16) × (d < 16) ⌝ }
     ensures { λ t. ⌜ t ≡ sameVectors (now (words .entry)) b d ⌝ }
 {

@@ -1,0 +1,6 @@
+-- Laws that the proofs of the functions cite.
+mod Alike
+mod Intra
+mod Undivided
+mod Quarters
+mod Passed

@@ -1,0 +1,62 @@
+-- `first_not_quick` meets its contract: the records passed are well formed. Assumes nothing.
+use Prim.Native.Nat.{ℕ, _-_, _<_, _≤_}
+use mathlib.Core.Path.{_≡_, sym, ap, _∙_}
+use native.Mathlib.Omega.{arith}
+use borrow.Author.Tests.{not-false}
+use borrow.Author.Needs.{needs}
+use Rattle.definitions.specs.Record.{narrow, recordAt, firstBroken}
+use Rattle.scan.proofs.Passed.{one-more}
+use Rattle.scan.proofs.first_not_quick.Statement.{statement}
+use Rattle.scan.proofs.first_not_quick.Tie as tie
+
+abbrev Inv-loop : tie.InvT-loop
+Inv-loop base from to a₀ a = (from ≤ a) × (a ≤ to) × ((k : ℕ) → from ≤ k → k < a → firstBroken narrow (recordAt base k) ≡ 0)
+
+abbrev μ-loop : tie.MeasureT-loop
+μ-loop base from to a₀ a = to - a
+
+loop-holds : tie.Need-loop-holds Inv-loop μ-loop
+loop-holds c = (search needs, search needs, λ k low high. absurd (omega arith))
+
+record-at-requires : tie.Need-record-at-requires Inv-loop μ-loop
+record-at-requires c κs = search needs
+
+quick-requires : tie.Need-quick-requires Inv-loop μ-loop
+quick-requires c κs = search needs
+
+returns : tie.Need-returns Inv-loop μ-loop
+returns c = c .before .before .before .before .loop .inv
+
+add-a : tie.Need-add-a Inv-loop μ-loop
+add-a c = search needs
+
+loop-less : tie.Need-loop-less Inv-loop μ-loop
+loop-less c = search needs
+
+loop-again : tie.Need-loop-again Inv-loop μ-loop
+loop-again c =
+    let base = c .before .before .before .before .before .args .base .now in
+    let l = c .before .before .before .before .loop in (
+      search needs,
+      search needs,
+      one-more (λ k. firstBroken narrow (recordAt base k) ≡ 0) (c .before .before .before .before .before .args .from) (l .a) (l .inv .2)
+          (ap (firstBroken narrow) (sym (c .before .before .record-at .ensures .0)) ∙ c .before .quick .ensures (not-false _ (c .if1 .left))),
+    )
+
+returns-2 : tie.Need-returns-2 Inv-loop μ-loop
+returns-2 c = c .before .loop .inv
+
+pub first-not-quick-spec : {M : Type 1} → statement M
+first-not-quick-spec =
+    tie.close
+    (tie.spec
+    Inv-loop
+    μ-loop
+    loop-holds
+    record-at-requires
+    quick-requires
+    returns
+    add-a
+    loop-less
+    loop-again
+    returns-2)
