@@ -1,5 +1,5 @@
-pub mod Paper
-pub mod Reading
-mod Making
+-- Laws that the proofs of the functions cite.
 mod Motions
+mod Saying
 mod Single
+pub mod Reading

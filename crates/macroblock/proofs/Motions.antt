@@ -1,31 +1,32 @@
--- The motions that the blocks read, their range, and what steps 1 to 4 make of them by quadrants. Assumes nothing.
-use Prim.Native.Nat.{ℕ, _+_, _-_, _<_}
+-- The motions that the blocks read: they can be merged and written, by quadrants and after steps 1 to 3. Assumes nothing.
+use Prim.Native.Nat.{ℕ, _+_, _*_, _/_, _%_, _-_, _<_}
 use mathlib.Core.Path.{_≡_, refl, sym, ap, subst, _∙_}
-use mathlib.Core.Bool.{Bool, true, false, _||_}
+use mathlib.Core.Bool.{Bool, true, false, not, _&&_, _||_}
 use mathlib.Core.List.{List, [], _∷_}
 use native.Mathlib.Omega.{arith}
 use lib.IntN.{ℤ, pos}
+use lib.Dec.{eqb}
 use lib.ListN.{getD}
-use Rattle.definitions.specs.declared.Axes.{Axes}
+use borrow.Author.Tests.{eqb-true}
 use Rattle.definitions.specs.declared.Prediction.{Prediction}
 use Rattle.definitions.specs.declared.Motion.{Motion}
-use Rattle.definitions.specs.declared.Split.{Split}
-use Rattle.definitions.specs.Basics.{minus, between, eqZ, four}
-use Rattle.definitions.specs.Geometry.{baseSize, macroblocks}
-use Rattle.definitions.specs.Record.{narrow, used, motionOf, vectorWord, laidOut}
-use Rattle.definitions.specs.Inheriting.{zeroMotion, at, clearOf, filled, merged, liveOf, copied, resolved, scaledMotion, motionAt, chosen}
-use Rattle.definitions.specs.Answer.{dividedBy}
-use Rattle.definitions.specs.Blocks.{rasterOf}
-use Rattle.definitions.proofs.Choices.{both-true, eqZ-true, each, four-at, four-same}
-use Rattle.definitions.proofs.Formed.{Vectors, vectors-of}
+use Rattle.motion.specs.declared.BlockMotion.{BlockMotion}
+use Rattle.gather.specs.declared.Spot.{Spot}
+use Rattle.definitions.specs.Basics.{allBelow, minus, between, eqZ, four, pick}
+use Rattle.definitions.specs.Blocks.{quadrantOf, rasterOf}
+use Rattle.definitions.specs.Inheriting.{at, clearOf, copied, copiedFrom, filled, liveOf, marked, merged, resolved, someOf, source, unused, zeroMotion}
+use Rattle.definitions.specs.Record.{isIntra, narrow, used, motionOf, recordAt, referenceOf, rule3, vectorWord}
+use Rattle.definitions.proofs.Choices.{below-true, both-true, eqZ-true, each, four-at, four-same}
+use Rattle.definitions.proofs.Formed.{Vectors, rules-of, vectors-of}
 use Rattle.definitions.proofs.Records.{raster-below}
-use Rattle.definitions.proofs.Scaling.{chosen-scaled}
-use Rattle.definitions.proofs.Steps.{Both, resolved-keeps, not-used}
+use Rattle.definitions.proofs.Sets.{bit-is}
+use Rattle.definitions.proofs.Steps.{Both, filled-keeps, filled-leaves, not-used, resolved-keeps, resolved-settled, settled-merged}
+use Rattle.motion.specs.ByValue.{AllReferring, AllWritable, Reference, motionIn, motionsIn, quadrantsIn, zeroBlock}
 use Rattle.motion.specs.Range.{InRange}
 use Rattle.quadrant.specs.Merging.{Empty, AllEmpty}
-use Rattle.gather.specs.Reads.{ReadableAt, blockAt, recordRead, motionRead, motionBy, setBy, gatheredBy}
-use Rattle.macroblock.specs.declared.AxisRead.{AxisRead}
-use Rattle.macroblock.specs.Made.{Ready, resolvedBy, motionsBy, inheritedBy}
+use Rattle.gather.specs.Reads.{QuadrantReadable, Readable, ReadableAt, acrossOf, addressAt, blockAt, blockFrom, downOf, gatheredBy, motionBy, motionRead, quadrantFrom, quadrantRead, recordRead, setBy}
+use Rattle.gather.proofs.Places.{place-in, spot-read}
+use Rattle.macroblock.specs.Quadrants.{Alike, Mergeable, plainAt}
 
 -- ---- a motion that is read
 zero-word : (t : Bool) (z : ℤ) → t ≡ false → (t || eqZ z (pos 0)) ≡ true → z ≡ pos 0
@@ -41,6 +42,11 @@ empty p a b u =
     let y = word (p .y) b in
     λ i. record { reference = r i; x = x i; y = y i }
 
+-- what is kept from a record that is read to the one that is written: a vector in range, a reference as rule 3 asks
+pub record Kept (p : Prediction) : Type 0 where
+  pub range : InRange p
+  pub reference : Reference (p .reference)
+
 module _ (width : ℕ) (base : List ℤ) (x y : ℕ) (r : ReadableAt width base x y) where
   abbrev block : ℕ
   block = blockAt x y
@@ -48,66 +54,220 @@ module _ (width : ℕ) (base : List ℤ) (x y : ℕ) (r : ReadableAt width base 
   vectors : (l : ℕ) → l < 2 → Vectors narrow (recordRead width base x y) block l
   vectors l h = vectors-of narrow (recordRead width base x y) (r .formed) block l (omega arith) h
 
-  pub read-range : Both InRange (motionRead width base x y)
+  reference-of : (l : ℕ) → l < 2 → Reference (referenceOf (recordRead width base x y) (quadrantOf block) l)
+  unfolding rule3
+  reference-of l h =
+      let rules = rules-of narrow (recordRead width base x y) (r .formed) in
+      below-true 2 (λ k. between (minus 1) (pos 31) (referenceOf (recordRead width base x y) (quadrantOf block) k))
+      (below-true 4 (λ q. allBelow 2 (λ k. between (minus 1) (pos 31) (referenceOf (recordRead width base x y) q k))) (rules .references) (quadrantOf block) (omega arith)) l h
+
+  pub read-kept : Both Kept (motionRead width base x y)
   unfolding motionRead motionOf
-  read-range =
+  read-kept =
       let a = vectors 0 (omega arith) in
       let b = vectors 1 (omega arith) in
-      (record { x = both-true _ _ (a .x) .0; y = both-true _ _ (a .y) .0 }, record { x = both-true _ _ (b .x) .0; y = both-true _ _ (b .y) .0 })
+      (record { range = record { x = both-true _ _ (a .x) .0; y = both-true _ _ (a .y) .0 }; reference = reference-of 0 (omega arith) },
+      record { range = record { x = both-true _ _ (b .x) .0; y = both-true _ _ (b .y) .0 }; reference = reference-of 1 (omega arith) })
 
   pub read-empty : Both Empty (motionRead width base x y)
   unfolding motionRead motionOf
   read-empty = (empty (motionRead width base x y .list0) (vectors 0 (omega arith) .x) (vectors 0 (omega arith) .y), empty (motionRead width base x y .list1) (vectors 1 (omega arith) .x) (vectors 1 (omega arith) .y))
 
--- the four of a quadrant
-pub four-empty : (a b c d : Motion) → Both Empty a → Both Empty b → Both Empty c → Both Empty d → AllEmpty (a ∷ b ∷ c ∷ d ∷ [])
-four-empty a b c d p q r s = each (λ k. Both Empty (getD (a ∷ b ∷ c ∷ d ∷ []) k zeroMotion)) p q r s
+-- ---- a quadrant, at two columns and two rows
+module _ (base : List ℤ) (left right upper lower : Spot) (ready : Mergeable base left right upper lower) where
+  abbrev read : List BlockMotion
+  read = quadrantFrom base left right upper lower
 
--- ---- the sixteen, after steps 1 to 3
-module _ (g : Axes) (h v : AxisRead) (base : List ℤ) (ready : Ready g h v base) where
-  abbrev width : ℕ
-  width = macroblocks (baseSize (g .horizontal))
+  -- where references stand in one place nothing is to merge
+  pub plain-merged : plainAt left right upper lower ≡ true → motionsIn read ≡ merged (motionsIn read)
+  plain-merged e =
+      let both = both-true _ _ e in
+      let p = eqb-true (left .references) (right .references) (both .0) in
+      let q = eqb-true (upper .references) (lower .references) (both .1) in
+      sym (settled-merged (motionsIn read) (record {
+        one0 = each _ refl (λ i. getD base (sym p i + upper .references) (pos 0)) (λ i. getD base (left .references + sym q i) (pos 0)) (λ i. getD base (sym p i + sym q i) (pos 0));
+        one1 = each _ refl (λ i. getD base (sym p i + upper .references + 1) (pos 0)) (λ i. getD base (left .references + sym q i + 1) (pos 0)) (λ i. getD base (sym p i + sym q i + 1) (pos 0));
+        zero0 = λ k h. ready .empty k h .0;
+        zero1 = λ k h. ready .empty k h .1;
+      }))
 
-  abbrev gathered : List (List Motion)
-  gathered = gatheredBy width (h .reads) (v .reads) base
+module _ (width : ℕ) (base : List ℤ) (x0 x1 y0 y1 : ℕ) (r : QuadrantReadable width base x0 x1 y0 y1) where
+  abbrev blocks : List BlockMotion
+  blocks = quadrantFrom base (acrossOf x0) (acrossOf x1) (downOf width y0) (downOf width y1)
 
-  abbrev readAt : ℕ → ℕ → Motion
-  readAt i j = motionRead width base (getD (h .reads) i 0) (getD (v .reads) j 0)
+  pub quadrant-is : motionsIn blocks ≡ quadrantRead width base x0 x1 y0 y1
+  quadrant-is = four-same (spot-read width base x0 y0) (spot-read width base x1 y0) (spot-read width base x0 y1) (spot-read width base x1 y1)
 
-  by-range : (i : ℕ) → i < 16 → Both InRange (motionBy width (h .reads) (v .reads) base i)
-  by-range i l = read-range width base _ _ (ready .readable i l)
+  -- of a block that is read, of the block as it is by value
+  empty-at : (x y : ℕ) → ReadableAt width base x y → Both Empty (motionIn (blockFrom base (acrossOf x) (downOf width y)))
+  empty-at x y a = subst (Both Empty) (sym (spot-read width base x y)) (read-empty width base x y a)
 
-  gathered-range : (q k : ℕ) → q < 4 → k < 4 → Both InRange (at gathered q k)
-  unfolding gatheredBy
-  gathered-range q k hq hk =
-      let quadrant : ℕ → List Motion = λ j. four (λ i. motionBy width (h .reads) (v .reads) base (rasterOf j i)) in
-      let e = ap (λ (l : List Motion). getD l k zeroMotion) (four-at quadrant [] q hq) ∙ four-at (λ i. motionBy width (h .reads) (v .reads) base (rasterOf q i)) zeroMotion k hk in
-      subst (Both InRange) (sym e) (by-range (rasterOf q k) (raster-below q k hq hk))
+  kept-at : (x y : ℕ) → ReadableAt width base x y → Both Kept (motionIn (blockFrom base (acrossOf x) (downOf width y)))
+  kept-at x y a = subst (Both Kept) (sym (spot-read width base x y)) (read-kept width base x y a)
 
-  pub resolved-range : (q k : ℕ) → q < 4 → k < 4 → Both InRange (at (resolvedBy g h v base) q k)
-  unfolding resolvedBy
-  resolved-range = resolved-keeps InRange (record { x = refl; y = refl }) (setBy width (h .reads) (v .reads) base) gathered gathered-range
+  pub mergeable : Mergeable base (acrossOf x0) (acrossOf x1) (downOf width y0) (downOf width y1)
+  mergeable =
+      let k00 = kept-at x0 y0 (r .0) in
+      let k10 = kept-at x1 y0 (r .1) in
+      let k01 = kept-at x0 y1 (r .2) in
+      let k11 = kept-at x1 y1 (r .3) in
+      record {
+        places = (place-in width base x0 y0 (r .0), place-in width base x1 y0 (r .1), place-in width base x0 y1 (r .2), place-in width base x1 y1 (r .3));
+        empty = each _ (empty-at x0 y0 (r .0)) (empty-at x1 y0 (r .1)) (empty-at x0 y1 (r .2)) (empty-at x1 y1 (r .3));
+        referring = each _ (k00 .0 .reference, k00 .1 .reference) (k10 .0 .reference, k10 .1 .reference) (k01 .0 .reference, k01 .1 .reference) (k11 .0 .reference, k11 .1 .reference);
+      }
 
-  -- by quadrants
-  abbrev made : ℕ → ℕ → ℕ → ℕ → List Motion
-  made set q i j = merged (filled (clearOf set q) (readAt i j ∷ readAt (i + 1) j ∷ readAt i (j + 1) ∷ readAt (i + 1) (j + 1) ∷ []))
+  -- at places that are these
+  module _ {left right upper lower : Spot} (p : left ≡ acrossOf x0) (q : right ≡ acrossOf x1) (s : upper ≡ downOf width y0) (t : lower ≡ downOf width y1) where
+    pub mergeable-at : Mergeable base left right upper lower
+    mergeable-at = rw (p, q, s, t) mergeable
 
-  pub quadrants-made : {set : ℕ} → set ≡ setBy width (h .reads) (v .reads) base → {a b c d : List Motion} {m : List (List Motion)}
-      → a ≡ made set 0 0 0 → b ≡ made set 1 2 0 → c ≡ made set 2 0 2 → d ≡ made set 3 2 2 → m ≡ copied (liveOf set) (a ∷ b ∷ c ∷ d ∷ []) → m ≡ resolvedBy g h v base
-  unfolding resolvedBy resolved gatheredBy
-  quadrants-made {set} e ea eb ec ed em =
-      em ∙ (ap (copied (liveOf set)) (four-same ea eb ec ed)
-      ∙ ap (λ (s : ℕ). copied (liveOf s) (four (λ q. merged (filled (clearOf s q) (getD gathered q []))))) e)
+    pub quadrant-at : motionsIn (quadrantFrom base left right upper lower) ≡ quadrantRead width base x0 x1 y0 y1
+    quadrant-at = (λ i. motionsIn (quadrantFrom base (p i) (q i) (s i) (t i))) ∙ quadrant-is
 
-  -- step 4, and the split chosen before it
-  pub scaled-split : {s : Split} {m : List (List Motion)} → m ≡ resolvedBy g h v base → s ≡ chosen m → s ≡ chosen (motionsBy g h v base)
-  unfolding motionsBy
-  scaled-split e f = f ∙ (ap chosen e ∙ sym (chosen-scaled g (ready .axes .horizontal .sized) (ready .axes .vertical .sized) (resolvedBy g h v base)))
+-- ---- the sixteen
+module _ (width : ℕ) (across down : List ℕ) (base : List ℤ) where
+  abbrev x : ℕ → ℕ
+  x i = getD across i 0
 
-  pub inherited-written : {s : Split} {m scaled : List (List Motion)} → m ≡ resolvedBy g h v base → s ≡ chosen m → scaled ≡ four (λ q. four (λ k. scaledMotion g (at m q k)))
-      → laidOut (dividedBy s (motionAt scaled)) ≡ inheritedBy g h v base
-  unfolding inheritedBy motionsBy
-  inherited-written e f es =
-      let p = scaled-split e f in
-      let q = es ∙ ap (λ (l : List (List Motion)). four (λ j. four (λ k. scaledMotion g (at l j k)))) e in
-      λ i. laidOut (dividedBy (p i) (motionAt (q i)))
+  abbrev y : ℕ → ℕ
+  y i = getD down i 0
+
+  -- the quadrant that begins at column i and row j
+  abbrev readFrom : ℕ → ℕ → List Motion
+  readFrom i j = quadrantRead width base (x i) (x (i + 1)) (y j) (y (j + 1))
+
+  -- without an intra block, the quadrants merged
+  unmarked : (q : ℕ) → q < 4 → (k : ℕ) → k < 4 → getD (clearOf 0 q) k false ≡ true
+  unfolding clearOf
+  unmarked =
+      each (λ q. (k : ℕ) → k < 4 → getD (clearOf 0 q) k false ≡ true) (each _ refl refl refl refl) (each _ refl refl refl refl) (each _ refl refl refl refl) (each _ refl refl refl refl)
+
+  unfilled : (q i j : ℕ) → q < 4 → merged (readFrom i j) ≡ merged (filled (clearOf 0 q) (readFrom i j))
+  unfilled q i j h = ap merged (sym (filled-leaves (clearOf 0 q) (readFrom i j) (unmarked q h)))
+
+  pub merged-only : {a b c d : List Motion} → a ≡ merged (readFrom 0 0) → b ≡ merged (readFrom 2 0) → c ≡ merged (readFrom 0 2) → d ≡ merged (readFrom 2 2)
+      → (a ∷ b ∷ c ∷ d ∷ []) ≡ resolved 0 (gatheredBy width across down base)
+  unfolding resolved copied copiedFrom liveOf someOf clearOf pick gatheredBy
+  merged-only a b c d =
+      four-same (a ∙ unfilled 0 0 0 (omega arith)) (b ∙ unfilled 1 2 0 (omega arith)) (c ∙ unfilled 2 0 2 (omega arith)) (d ∙ unfilled 3 2 2 (omega arith))
+
+  module _ (readable : Readable width across down base) where
+    pub readable-0 : QuadrantReadable width base (x 0) (x 1) (y 0) (y 1)
+    readable-0 = (readable 0 (omega arith), readable 1 (omega arith), readable 4 (omega arith), readable 5 (omega arith))
+
+    pub readable-1 : QuadrantReadable width base (x 2) (x 3) (y 0) (y 1)
+    readable-1 = (readable 2 (omega arith), readable 3 (omega arith), readable 6 (omega arith), readable 7 (omega arith))
+
+    pub readable-2 : QuadrantReadable width base (x 0) (x 1) (y 2) (y 3)
+    readable-2 = (readable 8 (omega arith), readable 9 (omega arith), readable 12 (omega arith), readable 13 (omega arith))
+
+    pub readable-3 : QuadrantReadable width base (x 2) (x 3) (y 2) (y 3)
+    readable-3 = (readable 10 (omega arith), readable 11 (omega arith), readable 14 (omega arith), readable 15 (omega arith))
+
+-- ---- step 1
+-- where all blocks are clear, or none is, nothing is filled
+module _ (clear : List Bool) (m : List Motion) where
+  pub filled-alike : Alike clear → filled clear m ≡ four (λ k. getD m k zeroMotion)
+  unfolding filled source pick
+  filled-alike a = by (getD clear 0 false) refl
+    where
+      by : (t : Bool) → getD clear 0 false ≡ t → filled clear m ≡ four (λ k. getD m k zeroMotion)
+      by true e = filled-leaves clear m (λ k h. a k h ∙ e)
+      by false e = rw (e, a 1 (omega arith) ∙ e, a 2 (omega arith) ∙ e, a 3 (omega arith) ∙ e)
+
+module _ (base : List ℤ) (left right upper lower : Spot) (ready : Mergeable base left right upper lower) (clear : List Bool) where
+  abbrev found : List Motion
+  found = motionsIn (quadrantFrom base left right upper lower)
+
+  pub made-plain : plainAt left right upper lower ≡ true → Alike clear → found ≡ merged (filled clear found)
+  made-plain p a = plain-merged base left right upper lower ready p ∙ ap merged (sym (filled-alike clear found a))
+
+  pub made-clear : (((getD clear 0 false && getD clear 1 false) && getD clear 2 false) && getD clear 3 false) ≡ true → merged found ≡ merged (filled clear found)
+  made-clear e =
+      let abc = both-true ((getD clear 0 false && getD clear 1 false) && getD clear 2 false) (getD clear 3 false) e in
+      let ab = both-true (getD clear 0 false && getD clear 1 false) (getD clear 2 false) (abc .0) in
+      let a = both-true (getD clear 0 false) (getD clear 1 false) (ab .0) in
+      ap merged (sym (filled-leaves clear found (each _ (a .0) (a .1) (ab .1) (abc .1))))
+
+  -- what was filled can be merged
+  abbrev Fit : Motion → Type 0
+  Fit m = Both Empty m × (Reference (m .list0 .reference) × Reference (m .list1 .reference))
+
+  fit : (k : ℕ) → k < 4 → Fit (getD (filled clear found) k zeroMotion)
+  fit = filled-keeps clear found Fit (λ k h. (ready .empty k h, subst (λ (m : Motion). Reference (m .list0 .reference) × Reference (m .list1 .reference)) (sym (four-at (λ j. motionIn (getD (quadrantFrom base left right upper lower) j zeroBlock)) zeroMotion k h)) (ready .referring k h)))
+
+  pub filled-mergeable : (r : List BlockMotion) → motionsIn r ≡ filled clear found → AllEmpty (motionsIn r) × AllReferring r
+  filled-mergeable r e =
+      let at-k : (k : ℕ) → k < 4 → Fit (getD (motionsIn r) k zeroMotion) = λ k h. subst (λ (m : List Motion). Fit (getD m k zeroMotion)) (sym e) (fit k h) in
+      (λ k h. at-k k h .0,
+      λ k h. subst (λ (m : Motion). Reference (m .list0 .reference) × Reference (m .list1 .reference)) (four-at (λ j. motionIn (getD r j zeroBlock)) zeroMotion k h) (at-k k h .1))
+
+-- ---- the sixteen, where some are intra
+-- places of references tell macroblocks apart
+same-across : (width x0 x1 y : ℕ) → acrossOf x0 .references ≡ acrossOf x1 .references → addressAt width x1 y ≡ addressAt width x0 y
+same-across width x0 x1 y e = let c : x1 / 4 ≡ x0 / 4 = omega arith in ap (λ (n : ℕ). y / 4 * width + n) c
+
+same-down : (width x y0 y1 : ℕ) → downOf width y0 .references ≡ downOf width y1 .references → addressAt width x y1 ≡ addressAt width x y0
+same-down width x y0 y1 e = omega arith
+
+module _ (width : ℕ) (across down : List ℕ) (base : List ℤ) {set : ℕ} (is : set ≡ setBy width across down base) where
+  abbrev addressOf : ℕ → ℕ
+  addressOf i = addressAt width (getD across (i % 4) 0) (getD down (i / 4) 0)
+
+  marked-is : (i : ℕ) → i < 16 → marked set i ≡ isIntra (recordAt base (addressOf i))
+  unfolding setBy
+  marked-is i h = ap (λ (n : ℕ). marked n i) is ∙ bit-is 16 (λ j. isIntra (recordAt base (addressOf j))) i h
+
+  clear-same : (i j : ℕ) → i < 16 → j < 16 → addressOf i ≡ addressOf j → not (marked set i) ≡ not (marked set j)
+  clear-same i j h l e = ap not (marked-is i h ∙ (ap (λ (a : ℕ). isIntra (recordAt base a)) e ∙ sym (marked-is j l)))
+
+  -- a plain quadrant that begins at column i and row j, which is the first of its blocks
+  module _ (i j : ℕ) {left right upper lower : Spot} (p : left ≡ acrossOf (getD across i 0)) (q : right ≡ acrossOf (getD across (i + 1) 0))
+      (s : upper ≡ downOf width (getD down j 0)) (t : lower ≡ downOf width (getD down (j + 1) 0)) (plain : plainAt left right upper lower ≡ true) where
+    columns-same : acrossOf (getD across i 0) .references ≡ acrossOf (getD across (i + 1) 0) .references
+    columns-same = ap (λ (l : Spot). l .references) (sym p) ∙ (eqb-true (left .references) (right .references) (both-true (eqb (left .references) (right .references)) (eqb (upper .references) (lower .references)) plain .0) ∙ ap (λ (l : Spot). l .references) q)
+
+    rows-same : downOf width (getD down j 0) .references ≡ downOf width (getD down (j + 1) 0) .references
+    rows-same = ap (λ (l : Spot). l .references) (sym s) ∙ (eqb-true (upper .references) (lower .references) (both-true (eqb (left .references) (right .references)) (eqb (upper .references) (lower .references)) plain .1) ∙ ap (λ (l : Spot). l .references) t)
+
+    pub right-same : (y : ℕ) → addressAt width (getD across (i + 1) 0) y ≡ addressAt width (getD across i 0) y
+    right-same y = same-across width _ _ y columns-same
+
+    pub lower-same : (x : ℕ) → addressAt width x (getD down (j + 1) 0) ≡ addressAt width x (getD down j 0)
+    lower-same x = same-down width x _ _ rows-same
+
+  module _ {a b c d : Spot} where
+    pub alike-0 : a ≡ acrossOf (getD across 0 0) → b ≡ acrossOf (getD across 1 0) → c ≡ downOf width (getD down 0 0) → d ≡ downOf width (getD down 1 0) → plainAt a b c d ≡ true → Alike (clearOf set 0)
+    unfolding clearOf
+    alike-0 p q s t e =
+        let r = right-same 0 0 p q s t e in
+        let l = lower-same 0 0 p q s t e in
+        each _ refl (clear-same 1 0 (omega arith) (omega arith) (r _)) (clear-same 4 0 (omega arith) (omega arith) (l _)) (clear-same 5 0 (omega arith) (omega arith) (r _ ∙ l _))
+
+    pub alike-1 : a ≡ acrossOf (getD across 2 0) → b ≡ acrossOf (getD across 3 0) → c ≡ downOf width (getD down 0 0) → d ≡ downOf width (getD down 1 0) → plainAt a b c d ≡ true → Alike (clearOf set 1)
+    unfolding clearOf
+    alike-1 p q s t e =
+        let r = right-same 2 0 p q s t e in
+        let l = lower-same 2 0 p q s t e in
+        each _ refl (clear-same 3 2 (omega arith) (omega arith) (r _)) (clear-same 6 2 (omega arith) (omega arith) (l _)) (clear-same 7 2 (omega arith) (omega arith) (r _ ∙ l _))
+
+    pub alike-2 : a ≡ acrossOf (getD across 0 0) → b ≡ acrossOf (getD across 1 0) → c ≡ downOf width (getD down 2 0) → d ≡ downOf width (getD down 3 0) → plainAt a b c d ≡ true → Alike (clearOf set 2)
+    unfolding clearOf
+    alike-2 p q s t e =
+        let r = right-same 0 2 p q s t e in
+        let l = lower-same 0 2 p q s t e in
+        each _ refl (clear-same 9 8 (omega arith) (omega arith) (r _)) (clear-same 12 8 (omega arith) (omega arith) (l _)) (clear-same 13 8 (omega arith) (omega arith) (r _ ∙ l _))
+
+    pub alike-3 : a ≡ acrossOf (getD across 2 0) → b ≡ acrossOf (getD across 3 0) → c ≡ downOf width (getD down 2 0) → d ≡ downOf width (getD down 3 0) → plainAt a b c d ≡ true → Alike (clearOf set 3)
+    unfolding clearOf
+    alike-3 p q s t e =
+        let r = right-same 2 2 p q s t e in
+        let l = lower-same 2 2 p q s t e in
+        each _ refl (clear-same 11 10 (omega arith) (omega arith) (r _)) (clear-same 14 10 (omega arith) (omega arith) (l _)) (clear-same 15 10 (omega arith) (omega arith) (r _ ∙ l _))
+
+  pub made-of-quadrants : {a b c d : List Motion} {m : List (List Motion)} → a ≡ merged (filled (clearOf set 0) (readFrom width across down base 0 0))
+      → b ≡ merged (filled (clearOf set 1) (readFrom width across down base 2 0)) → c ≡ merged (filled (clearOf set 2) (readFrom width across down base 0 2))
+      → d ≡ merged (filled (clearOf set 3) (readFrom width across down base 2 2)) → m ≡ copied (liveOf set) (a ∷ b ∷ c ∷ d ∷ []) → m ≡ resolved set (gatheredBy width across down base)
+  unfolding resolved gatheredBy
+  made-of-quadrants ea eb ec ed em = em ∙ ap (copied (liveOf set)) (four-same ea eb ec ed)

@@ -1,21 +1,20 @@
 -- Where one macroblock is read: the set is all or nothing, and one motion in the record is one motion for all blocks. Assumes nothing.
-use Prim.Native.Nat.{ℕ, _+_, _*_, _/_, _%_, _<_}
+use Prim.Native.Nat.{ℕ, _+_, _*_, _/_, _%_, _≤_, _<_}
+use native.Mathlib.Nat.{div-mul-le-self, le-antisymm, le-div-iff-mul-le, le-trans}
 use mathlib.Core.Path.{_≡_, refl, sym, ap, _∙_}
 use mathlib.Core.Bool.{Bool, true, false, _&&_, _||_}
 use mathlib.Core.List.{List, []}
 use mathlib.Core.Logic.{⊎-elim}
 use native.Mathlib.Omega.{arith}
 use lib.IntN.{ℤ, pos}
-use lib.ListN.{getD, replicate}
+use lib.ListN.{getD}
 use lib.Count.{ones, onesIn, ones-step}
 use borrow.Author.Tests.{eqb-true, le-leb}
-use Rattle.definitions.specs.declared.Axes.{Axes}
 use Rattle.definitions.specs.declared.Motion.{Motion}
 use Rattle.definitions.specs.declared.Split.the-variants.{S16x16}
-use Rattle.definitions.specs.Basics.{pick, eqZ, four}
-use Rattle.definitions.specs.Geometry.{baseSize, macroblocks}
-use Rattle.definitions.specs.Record.{recordAt, isIntra, typeOf, subTypeOf, motionOf, laidOut}
-use Rattle.definitions.specs.Inheriting.{zeroMotion, setOf, mostlyIntra, clearOf, filled, merged, copied, copiedFrom, liveOf, someOf, resolved, scaledMotion, motionAt, chosen}
+use Rattle.definitions.specs.Basics.{pick, eqZ, four, upTo}
+use Rattle.definitions.specs.Record.{allOne, recordAt, isIntra, typeOf, subTypeOf, motionOf, laidOut}
+use Rattle.definitions.specs.Inheriting.{zeroMotion, setOf, mostlyIntra, clearOf, filled, merged, copied, copiedFrom, liveOf, someOf, resolved, motionAt, chosen}
 use Rattle.definitions.specs.Answer.{dividedBy}
 use Rattle.definitions.specs.Blocks.{quadrantOf}
 use Rattle.definitions.proofs.Choices.{both-true, either-true, each, four-same, yes, no}
@@ -25,17 +24,21 @@ use Rattle.records.proofs.Undivided.{whole, undivided}
 use Rattle.definitions.proofs.Sameness.{set-same}
 use Rattle.definitions.proofs.Shapes.{samePairs, shapeOf, quadrantShape, shapesOf, splitOf, allWhole}
 use Rattle.definitions.proofs.Steps.{filled-leaves, settled-merged}
-use Rattle.gather.specs.Reads.{ReadableAt, blockAt, recordRead, motionRead, readBy, motionBy, setBy, gatheredBy}
-use Rattle.macroblock.specs.declared.AxisRead.{AxisRead}
-use Rattle.macroblock.specs.Made.{Ready, onePart, resolvedBy, motionsBy, inheritedBy}
+use Rattle.gather.specs.Reads.{ReadableAt, Rising, blockAt, recordRead, motionRead, readBy, motionBy, setBy, gatheredBy}
+use Rattle.macroblock.specs.declared.Fixed.{Fixed}
+use Rattle.macroblock.specs.Made.{Ready, inheritedInside, motionsInside, onePart, resolvedInside}
+use Rattle.motion.specs.Scales.{allScaled, motionScaled}
 use Rattle.macroblock.proofs.Motions.{read-empty}
 
-one-part : (d : ℕ) (reads : List ℕ) → onePart d reads ≡ true → (i : ℕ) → i < 4 → getD reads i 0 / d ≡ getD reads 0 0 / d
-unfolding onePart
-one-part d reads e =
-    let ab = both-true _ _ e in
-    let a = both-true _ _ (ab .0) in
-    each (λ i. getD reads i 0 / d ≡ getD reads 0 0 / d) refl (eqb-true _ _ (a .0)) (eqb-true _ _ (a .1)) (eqb-true _ _ (ab .1))
+div-rises : (d a b : ℕ) → 0 < d → a ≤ b → a / d ≤ b / d
+div-rises d a b p h = le-div-iff-mul-le p .1 (le-trans (div-mul-le-self a d) h)
+
+one-part : (d : ℕ) (x : List ℕ) → 0 < d → Rising x → onePart d x ≡ true → (i : ℕ) → i < 4 → getD x i 0 / d ≡ getD x 0 0 / d
+one-part d x p r e =
+    let last = eqb-true (getD x 3 0 / d) (getD x 0 0 / d) e in
+    let low : (n : ℕ) → getD x 0 0 ≤ n → n ≤ getD x 3 0 → n / d ≡ getD x 0 0 / d =
+    λ n a b. let top = div-rises d n (getD x 3 0) p b in let bottom = div-rises d (getD x 0 0) n p a in omega (arith, top, bottom, last) in
+    each (λ i. getD x i 0 / d ≡ getD x 0 0 / d) refl (low (getD x 1 0) (omega (arith, r)) (omega (arith, r))) (low (getD x 2 0) (omega (arith, r)) (omega (arith, r))) last
 
 -- the quadrant of the block with coordinates x and y, by their halves
 half-is : (u x : ℕ) → u / 2 ≡ x / 2 → u % 4 / 2 ≡ x % 4 / 2
@@ -83,15 +86,15 @@ pub mostly-none : mostlyIntra 0 ≡ false
 unfolding ones onesIn
 mostly-none = refl
 
-module _ (g : Axes) (h v : AxisRead) (base : List ℤ) (ready : Ready g h v base) (one : (onePart 4 (h .reads) && onePart 4 (v .reads)) ≡ true) where
+module _ (f : Fixed) (across down : List ℕ) (base : List ℤ) (ready : Ready f across down base) (one : (onePart 4 across && onePart 4 down) ≡ true) where
   abbrev width : ℕ
-  width = macroblocks (baseSize (g .horizontal))
+  width = f .width
 
   abbrev x : ℕ
-  x = getD (h .reads) 0 0
+  x = getD across 0 0
 
   abbrev y : ℕ
-  y = getD (v .reads) 0 0
+  y = getD down 0 0
 
   abbrev it : List ℤ
   it = recordRead width base x y
@@ -99,21 +102,21 @@ module _ (g : Axes) (h v : AxisRead) (base : List ℤ) (ready : Ready g h v base
   pub first-readable : ReadableAt width base x y
   first-readable = ready .readable 0 (omega arith)
 
-  same-read : (i : ℕ) → i < 16 → readBy width (h .reads) (v .reads) base i ≡ it
+  same-read : (i : ℕ) → i < 16 → readBy width across down base i ≡ it
   same-read i l =
-      let both = both-true (onePart 4 (h .reads)) (onePart 4 (v .reads)) one in
-      let p = one-part 4 (h .reads) (both .0) (i % 4) (omega arith) in
-      let q = one-part 4 (v .reads) (both .1) (i / 4) (omega arith) in
+      let both = both-true (onePart 4 across) (onePart 4 down) one in
+      let p = one-part 4 across (omega arith) (ready .columns) (both .0) (i % 4) (omega arith) in
+      let q = one-part 4 down (omega arith) (ready .rows) (both .1) (i / 4) (omega arith) in
       λ t. recordAt base (q t * width + p t)
 
-  set-is : setBy width (h .reads) (v .reads) base ≡ pick (isIntra it) 65535 0
+  set-is : setBy width across down base ≡ pick (isIntra it) 65535 0
   unfolding setBy
   set-is = set-same 16 _ (λ i. isIntra it) (λ i l. ap isIntra (same-read i l)) ∙ all-or-none (isIntra it)
 
-  pub set-all : isIntra it ≡ true → 65535 ≡ setBy width (h .reads) (v .reads) base
+  pub set-all : isIntra it ≡ true → 65535 ≡ setBy width across down base
   set-all e = sym (set-is ∙ yes _ _ e)
 
-  pub set-none : isIntra it ≡ false → 0 ≡ setBy width (h .reads) (v .reads) base
+  pub set-none : isIntra it ≡ false → 0 ≡ setBy width across down base
   set-none e = sym (set-is ∙ no _ _ e)
 
   -- ---- one motion
@@ -122,10 +125,10 @@ module _ (g : Axes) (h v : AxisRead) (base : List ℤ) (ready : Ready g h v base
     n = motionRead width base x y
 
     abbrev AllRead : Type 0
-    AllRead = (i : ℕ) → i < 16 → motionBy width (h .reads) (v .reads) base i ≡ n
+    AllRead = (i : ℕ) → i < 16 → motionBy width across down base i ≡ n
 
     abbrev blockOf : ℕ → ℕ
-    blockOf i = blockAt (getD (h .reads) (i % 4) 0) (getD (v .reads) (i / 4) 0)
+    blockOf i = blockAt (getD across (i % 4) 0) (getD down (i / 4) 0)
 
     abbrev block : ℕ
     block = blockAt x y
@@ -135,27 +138,27 @@ module _ (g : Axes) (h v : AxisRead) (base : List ℤ) (ready : Ready g h v base
     by-blocks e i l = ap (λ (r : List ℤ). motionOf r (blockOf i)) (same-read i l) ∙ e i l
 
     -- a record of type 1, or one quadrant read that is not divided
-    pub one-read : (eqZ (typeOf it) (pos 1) || ((onePart 2 (h .reads) && onePart 2 (v .reads)) && eqZ (subTypeOf it (quadrantOf block)) (pos 0))) ≡ true → AllRead
+    pub one-read : (eqZ (typeOf it) (pos 1) || ((onePart 2 across && onePart 2 down) && eqZ (subTypeOf it (quadrantOf block)) (pos 0))) ≡ true → AllRead
     one-read e =
         ⊎-elim
         (λ t. by-blocks (λ i l. whole it (first-readable .formed) not-intra (blockOf i) block (omega arith) (omega arith) t))
         (λ t.
-        let quarter = both-true (onePart 2 (h .reads) && onePart 2 (v .reads)) (eqZ (subTypeOf it (quadrantOf block)) (pos 0)) t in
-        let halves = both-true (onePart 2 (h .reads)) (onePart 2 (v .reads)) (quarter .0) in
+        let quarter = both-true (onePart 2 across && onePart 2 down) (eqZ (subTypeOf it (quadrantOf block)) (pos 0)) t in
+        let halves = both-true (onePart 2 across) (onePart 2 down) (quarter .0) in
         by-blocks (λ i l.
-        let p = one-part 2 (h .reads) (halves .0) (i % 4) (omega arith) in
-        let q = one-part 2 (v .reads) (halves .1) (i / 4) (omega arith) in
+        let p = one-part 2 across (omega arith) (ready .columns) (halves .0) (i % 4) (omega arith) in
+        let q = one-part 2 down (omega arith) (ready .rows) (halves .1) (i / 4) (omega arith) in
         undivided it (first-readable .formed) not-intra (blockOf i) block (omega arith) (omega arith) (same-quadrant _ _ x y p q) (quarter .1)))
-        (either-true (eqZ (typeOf it) (pos 1)) ((onePart 2 (h .reads) && onePart 2 (v .reads)) && eqZ (subTypeOf it (quadrantOf block)) (pos 0)) e)
+        (either-true (eqZ (typeOf it) (pos 1)) ((onePart 2 across && onePart 2 down) && eqZ (subTypeOf it (quadrantOf block)) (pos 0)) e)
 
     module _ (all : AllRead) where
       abbrev quadrant : List Motion
       quadrant = four (λ k. n)
 
-      gathered-is : gatheredBy width (h .reads) (v .reads) base ≡ four (λ q. quadrant)
+      gathered-is : gatheredBy width across down base ≡ four (λ q. quadrant)
       unfolding gatheredBy
       gathered-is =
-          let e : (i : ℕ) → i < 16 → motionBy width (h .reads) (v .reads) base i ≡ n = all in
+          let e : (i : ℕ) → i < 16 → motionBy width across down base i ≡ n = all in
           four-same
           (four-same (e 0 (omega arith)) (e 1 (omega arith)) (e 4 (omega arith)) (e 5 (omega arith)))
           (four-same (e 2 (omega arith)) (e 3 (omega arith)) (e 6 (omega arith)) (e 7 (omega arith)))
@@ -175,23 +178,27 @@ module _ (g : Axes) (h v : AxisRead) (base : List ℤ) (ready : Ready g h v base
       unchanged : (q : ℕ) → q < 4 → merged (filled (clearOf 0 q) quadrant) ≡ quadrant
       unchanged q l = ap merged (filled-leaves (clearOf 0 q) quadrant (none-marked q l)) ∙ settled
 
-      resolved-is : resolvedBy g h v base ≡ four (λ q. quadrant)
-      unfolding resolvedBy resolved copied copiedFrom liveOf someOf clearOf pick
+      resolved-is : resolvedInside f across down base ≡ four (λ q. quadrant)
+      unfolding resolvedInside resolved copied copiedFrom liveOf someOf clearOf pick
       resolved-is =
-          ap (λ (s : ℕ). resolved s (gatheredBy width (h .reads) (v .reads) base)) (sym (set-none not-intra))
+          ap (λ (s : ℕ). resolved s (gatheredBy width across down base)) (sym (set-none not-intra))
           ∙ (ap (resolved 0) gathered-is
           ∙ four-same (unchanged 0 (omega arith)) (unchanged 1 (omega arith)) (unchanged 2 (omega arith)) (unchanged 3 (omega arith)))
 
-      pub whole-motions : motionsBy g h v base ≡ four (λ q. four (λ k. scaledMotion g n))
-      unfolding motionsBy
-      whole-motions = ap (λ (m : List (List Motion)). four (λ q. four (λ k. scaledMotion g (getD (getD m q []) k zeroMotion)))) resolved-is
+      whole-motions : motionsInside f across down base ≡ four (λ q. four (λ k. motionScaled (f .scales) n))
+      unfolding motionsInside allScaled
+      whole-motions = ap (λ (m : List (List Motion)). four (λ q. four (λ k. motionScaled (f .scales) (getD (getD m q []) k zeroMotion)))) resolved-is
 
-      pub whole-split : S16x16 ≡ chosen (motionsBy g h v base)
-      whole-split = sym (ap chosen whole-motions ∙ (chosen-is (four (λ q. four (λ k. scaledMotion g n))) ∙ uniform (scaledMotion g n)))
+      whole-split : S16x16 ≡ chosen (motionsInside f across down base)
+      whole-split = sym (ap chosen whole-motions ∙ (chosen-is (four (λ q. four (λ k. motionScaled (f .scales) n))) ∙ uniform (motionScaled (f .scales) n)))
 
-      pub whole-written : {m : Motion} → m ≡ scaledMotion g n → laidOut (dividedBy S16x16 (motionAt (replicate 4 (replicate 4 m)))) ≡ inheritedBy g h v base
-      unfolding inheritedBy
-      whole-written e =
+      one-laid : (m : Motion) → laidOut (allOne 1 m) ≡ laidOut (dividedBy S16x16 (motionAt (four (λ q. four (λ k. m)))))
+      unfolding laidOut upTo
+      one-laid m = refl
+
+      pub whole-written : {m : Motion} → m ≡ motionScaled (f .scales) n → laidOut (allOne 1 m) ≡ inheritedInside f across down base
+      unfolding inheritedInside
+      whole-written {m} e =
           let p = whole-split in
           let q = ap (λ (m : Motion). four (λ j. four (λ k. m))) e ∙ sym whole-motions in
-          λ i. laidOut (dividedBy (p i) (motionAt (q i)))
+          one-laid m ∙ (λ i. laidOut (dividedBy (p i) (motionAt (q i))))

@@ -102,8 +102,8 @@ pub record Ready (f : Fixed) (across down : List ℕ) (base : List ℤ) : Type 0
   pub scales : AcceptedScales (f .scales)
   pub width : f .width ≤ 256
   pub readable : Readable (f .width) across down base
-  pub across : Rising across
-  pub down : Rising down
+  pub columns : Rising across
+  pub rows : Rising down
 
 abbrev pub Makeable : Fixed → AxisRead → AxisRead → List ℤ → Type 0
 Makeable f h v base = (h .inside && v .inside) ≡ true → Ready f (h .reads) (v .reads) base

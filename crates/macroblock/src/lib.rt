@@ -5,7 +5,7 @@ ghost use Rattle.definitions.specs.Inheriting.{clearOf, filled, merged, resolve
 ghost use Rattle.definitions.specs.Record.{recordWords, splitSaid, subSplitOf};
 ghost use Rattle.gather.specs.Reads.{Readable, gatheredBy, quadrantFrom, setBy};
 ghost use Rattle.macroblock.specs.Made.{Makeable, Ready, Small, answerBy, fixedOf, inheritedInside, nowhere, onePart, originBy, readIn, readOf, setInside, sortBy, sortInside, writtenBy, writtenInside};
-ghost use Rattle.macroblock.specs.Quadrants.{QuadrantReady, plainAt};
+ghost use Rattle.macroblock.specs.Quadrants.{Alike, Mergeable, plainAt};
 ghost use Rattle.motion.specs.ByValue.{motionsIn, quadrantsIn};
 ghost use lib.ListN.{length};
 ghost use mathlib.Core.Bool.{_&&_, true};
@@ -108,15 +108,55 @@ fn origin_of(h: AxisRead, v: AxisRead) -> Origin
     }
 }
 
-// The four blocks of a quadrant read one quadrant of a base macroblock: they have one reference in each list, and all of them or none read an intra macroblock.
+// ---- Steps 1 to 3
+// The four blocks of a quadrant read one quadrant of a base macroblock: their references stand in one place.
 fn is_plain(x0: Spot, x1: Spot, y0: Spot, y1: Spot) -> bool
     ensures { λ r. ⌜ r ≡ plainAt x0 x1 y0 y1 ⌝ }
 {
     (x0.references == x1.references) & (y0.references == y1.references)
 }
 
-// ---- Steps 1 to 3, where no macroblock that is read is intra: nothing is to fill and nothing to copy (`filled-leaves`, `copied-none`). A quadrant that is plain has nothing
-// to merge either (`settled-merged`), and is read as it stands.
+// Step 2 of a quadrant, at two columns and two rows. A plain one has one reference in each list: nothing is to merge (`settled-merged`), and it is read as it stands.
+fn quadrant_merged(base: &[i16], x0: Spot, x1: Spot, y0: Spot, y1: Spot) -> [BlockMotion; 4]
+    requires { ⌜ Mergeable (now base) x0 x1 y0 y1 ⌝ }
+    ensures { λ r. ⌜ motionsIn r ≡ merged (motionsIn (quadrantFrom (now (base .entry)) x0 x1 y0 y1)) ⌝ }
+{
+    if is_plain(x0, x1, y0, y1) {
+        return quadrant_read(base, x0, x1, y0, y1);
+    }
+    merge(quadrant_read(base, x0, x1, y0, y1))
+}
+
+// A quadrant of the macroblock, and the set of the blocks that read intra macroblocks.
+struct Quadrant {
+    set: u16,
+    q: usize,
+}
+
+// Steps 1 and 2 of a quadrant. Of a plain one all blocks are intra or none is, and nothing is to fill (`filled-alike`) or to merge; nor is where none is intra (`filled-leaves`).
+fn quadrant_made(
+    base: &[i16],
+    x0: Spot,
+    x1: Spot,
+    y0: Spot,
+    y1: Spot,
+    of: Quadrant,
+) -> [BlockMotion; 4]
+    requires { ⌜ (of .q < 4) × Mergeable (now base) x0 x1 y0 y1 × ((plainAt x0 x1 y0 y1 ≡ true → Alike (clearOf (of .set) (of .q)))) ⌝ }
+    ensures { λ r. ⌜ motionsIn r ≡ merged (filled (clearOf (of .set) (of .q)) (motionsIn (quadrantFrom (now (base .entry)) x0 x1 y0 y1))) ⌝ }
+{
+    let m = quadrant_read(base, x0, x1, y0, y1);
+    if is_plain(x0, x1, y0, y1) {
+        return m;
+    }
+    let clear = clear_of(of.set, of.q);
+    if clear[0] & clear[1] & clear[2] & clear[3] {
+        return merge(m);
+    }
+    merge(fill(clear, m))
+}
+
+// Where no macroblock that is read is intra: nothing is to fill, and nothing to copy.
 fn motions_merged(
     base: &[i16],
     width: usize,
@@ -134,57 +174,11 @@ fn motions_merged(
     let y1 = down_of(width, down[1]);
     let y2 = down_of(width, down[2]);
     let y3 = down_of(width, down[3]);
-    let a = if is_plain(x0, x1, y0, y1) {
-        quadrant_read(base, x0, x1, y0, y1)
-    } else {
-        merge(quadrant_read(base, x0, x1, y0, y1))
-    };
-    let b = if is_plain(x2, x3, y0, y1) {
-        quadrant_read(base, x2, x3, y0, y1)
-    } else {
-        merge(quadrant_read(base, x2, x3, y0, y1))
-    };
-    let c = if is_plain(x0, x1, y2, y3) {
-        quadrant_read(base, x0, x1, y2, y3)
-    } else {
-        merge(quadrant_read(base, x0, x1, y2, y3))
-    };
-    let d = if is_plain(x2, x3, y2, y3) {
-        quadrant_read(base, x2, x3, y2, y3)
-    } else {
-        merge(quadrant_read(base, x2, x3, y2, y3))
-    };
+    let a = quadrant_merged(base, x0, x1, y0, y1);
+    let b = quadrant_merged(base, x2, x3, y0, y1);
+    let c = quadrant_merged(base, x0, x1, y2, y3);
+    let d = quadrant_merged(base, x2, x3, y2, y3);
     [a, b, c, d]
-}
-
-// ---- Steps 1 to 3
-// A quadrant of the macroblock, and the set of the blocks that read intra macroblocks.
-struct Quadrant {
-    set: u16,
-    q: usize,
-}
-
-// Steps 1 and 2: the motions of a quadrant, whose columns read x0 and x1 and whose rows y0 and y1.
-fn quadrant_made(
-    base: &[i16],
-    x0: Spot,
-    x1: Spot,
-    y0: Spot,
-    y1: Spot,
-    of: Quadrant,
-) -> [BlockMotion; 4]
-    requires { ⌜ (of .q < 4) × QuadrantReady (now base) x0 x1 y0 y1 (clearOf (of .set) (of .q)) ⌝ }
-    ensures { λ r. ⌜ motionsIn r ≡ merged (filled (clearOf (of .set) (of .q)) (motionsIn (quadrantFrom (now (base .entry)) x0 x1 y0 y1))) ⌝ }
-{
-    let m = quadrant_read(base, x0, x1, y0, y1);
-    if is_plain(x0, x1, y0, y1) {
-        return m;
-    }
-    let clear = clear_of(of.set, of.q);
-    if clear[0] & clear[1] & clear[2] & clear[3] {
-        return merge(m);
-    }
-    merge(fill(clear, m))
 }
 
 // Where some macroblock that is read is intra.
@@ -338,12 +332,16 @@ pub fn make(base: &[i16], f: Fixed, h: AxisRead, v: AxisRead, out: &mut [i16]) -
 fn sub_split_of(word: i16) -> SubSplit
     ensures { λ r. ⌜ r ≡ subSplitOf word ⌝ }
 {
-    match word {
-        0 => SubSplit::S8x8,
-        1 => SubSplit::S8x4,
-        2 => SubSplit::S4x8,
-        _ => SubSplit::S4x4,
+    if word == 0 {
+        return SubSplit::S8x8;
     }
+    if word == 1 {
+        return SubSplit::S8x4;
+    }
+    if word == 2 {
+        return SubSplit::S4x8;
+    }
+    SubSplit::S4x4
 }
 
 // The split that a written record says.
@@ -351,18 +349,21 @@ fn split_said(out: &[i16]) -> Split
     requires { ⌜ length (now out) ≡ recordWords ⌝ }
     ensures { λ r. ⌜ r ≡ splitSaid (now (out .entry)) ⌝ }
 {
-    match out[0] {
-        1 => Split::S16x16,
-        2 => Split::S16x8,
-        3 => Split::S8x16,
-        _ => {
-            let a = sub_split_of(out[1]);
-            let b = sub_split_of(out[2]);
-            let c = sub_split_of(out[3]);
-            let d = sub_split_of(out[4]);
-            Split::S8x8(SubSplits { a, b, c, d })
-        }
+    let kind = out[0];
+    if kind == 1 {
+        return Split::S16x16;
     }
+    if kind == 2 {
+        return Split::S16x8;
+    }
+    if kind == 3 {
+        return Split::S8x16;
+    }
+    let a = sub_split_of(out[1]);
+    let b = sub_split_of(out[2]);
+    let c = sub_split_of(out[3]);
+    let d = sub_split_of(out[4]);
+    Split::S8x8(SubSplits { a, b, c, d })
 }
 
 pub fn answer(base: &[i16], f: Fixed, h: AxisRead, v: AxisRead, out: &mut [i16]) -> Answer

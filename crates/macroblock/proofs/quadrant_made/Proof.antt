@@ -1,10 +1,13 @@
 -- `macroblock::quadrant_made` meets its contract. Assumes nothing.
+use mathlib.Core.Path.{_≡_, sym, ap, subst, _∙_}
+use mathlib.Core.Bool.{Bool, true, false, _&&_}
+use lib.ListN.{getD}
 use mathlib.Core.List.{List}
-use mathlib.Core.Path.{ap, sym, subst, _∙_}
-use Rattle.definitions.specs.declared.Motion.{Motion}
+use Rattle.motion.specs.declared.BlockMotion.{BlockMotion}
 use Rattle.definitions.specs.Inheriting.{clearOf, filled, merged}
+use Rattle.motion.specs.ByValue.{AllReferring, motionsIn}
 use Rattle.quadrant.specs.Merging.{AllEmpty}
-use Rattle.macroblock.proofs.Motions.{read-empty, four-empty}
+use Rattle.macroblock.proofs.Motions.{filled-mergeable, made-clear, made-plain}
 use borrow.Author.Needs.{needs}
 use Rattle.macroblock.proofs.quadrant_made.Statement.{statement}
 use Rattle.macroblock.proofs.quadrant_made.Tie as tie
@@ -12,18 +15,74 @@ use Rattle.macroblock.proofs.quadrant_made.Tie as tie
 quadrant-read-requires : tie.Need-quadrant-read-requires
 quadrant-read-requires c κs = search needs
 
-resolve-requires : tie.Need-resolve-requires
-resolve-requires c κs =
-    let s = c .before in
-    let empty = read-empty (s .args .width) (s .args .base .now) in (
-      s .pre .2,
-      subst AllEmpty (sym (c .quadrant-read .ensures)) (four-empty _ _ _ _ (empty _ _ (s .pre .0 .0)) (empty _ _ (s .pre .0 .1)) (empty _ _ (s .pre .0 .2)) (empty _ _ (s .pre .0 .3))),
-    )
+is-plain-requires : tie.Need-is-plain-requires
+is-plain-requires c κs = search needs
 
 returns : tie.Need-returns
 returns c =
-    let a = c .before .before .args in
-    c .resolve .ensures ∙ ap (λ (m : List Motion). merged (filled (clearOf (a .of .set) (a .of .q)) m)) (c .before .quadrant-read .ensures)
+    let s = c .before .before .before in
+    let p = sym (c .before .is-plain .ensures) ∙ c .if1 .taken in
+    ap motionsIn (c .before .before .quadrant-read .ensures) ∙ made-plain (s .args .base .now) (s .args .x0) (s .args .x1) (s .args .y0) (s .args .y1) (s .pre .1) (clearOf (s .args .of .set) (s .args .of .q)) p (s .pre .2 p)
+
+clear-of-requires : tie.Need-clear-of-requires
+clear-of-requires c κs = search needs
+
+array-read-if2 : tie.Need-array-read-if2
+array-read-if2 c = search needs
+
+array-read-if2-2 : tie.Need-array-read-if2-2
+array-read-if2-2 c = search needs
+
+array-read-if2-3 : tie.Need-array-read-if2-3
+array-read-if2-3 c = search needs
+
+array-read-if2-4 : tie.Need-array-read-if2-4
+array-read-if2-4 c = search needs
+
+merge-requires : tie.Need-merge-requires
+merge-requires c κs =
+    let q = c .before .before .before .before in
+    let s = q .before in
+    let e = sym (q .quadrant-read .ensures) in
+    (subst (λ (m : List BlockMotion). AllEmpty (motionsIn m)) e (s .pre .1 .empty), subst AllReferring e (s .pre .1 .referring))
+
+returns-2 : tie.Need-returns-2
+returns-2 c =
+    let q = c .before .before .before .before .before in
+    let s = q .before in
+    c .merge .ensures
+    ∙ (ap (λ (m : List BlockMotion). merged (motionsIn m)) (q .quadrant-read .ensures)
+    ∙ made-clear (s .args .base .now) (s .args .x0) (s .args .x1) (s .args .y0) (s .args .y1) (s .pre .1) (clearOf (s .args .of .set) (s .args .of .q)) (subst (λ (l : List Bool). (((getD l 0 false && getD l 1 false) && getD l 2 false) && getD l 3 false) ≡ true) (c .before .before .clear-of .ensures) (c .before .if2 .taken)))
+
+fill-requires : tie.Need-fill-requires
+fill-requires c κs = search needs
+
+merge-requires-2 : tie.Need-merge-requires-2
+merge-requires-2 c κs =
+    let q = c .before .before .before .before .before in
+    let s = q .before in
+    filled-mergeable (s .args .base .now) (s .args .x0) (s .args .x1) (s .args .y0) (s .args .y1) (s .pre .1) (clearOf (s .args .of .set) (s .args .of .q)) (c .fill .result)
+    (c .fill .ensures ∙ (λ i. filled (c .before .before .clear-of .ensures i) (motionsIn (q .quadrant-read .ensures i))))
+
+returns-3 : tie.Need-returns-3
+returns-3 c =
+    let q = c .before .before .before .before .before .before in
+    c .merge2 .ensures ∙ ap merged (c .before .fill .ensures ∙ (λ i. filled (c .before .before .before .clear-of .ensures i) (motionsIn (q .quadrant-read .ensures i))))
 
 pub quadrant-made-spec : {M : Type 1} → statement M
-quadrant-made-spec = tie.close (tie.spec quadrant-read-requires resolve-requires returns)
+quadrant-made-spec =
+    tie.close
+    (tie.spec
+    quadrant-read-requires
+    is-plain-requires
+    returns
+    clear-of-requires
+    array-read-if2
+    array-read-if2-2
+    array-read-if2-3
+    array-read-if2-4
+    merge-requires
+    returns-2
+    fill-requires
+    merge-requires-2
+    returns-3)
