@@ -6,4 +6,4 @@ mod Searches
 mod Ranges
 mod FirstBlocks
 mod Verdicts
-mod Assembly
+mod Filled
