@@ -283,11 +283,10 @@ module _ (scale : ℕ) (low : 65536 ≤ scale) (high : scale ≤ 131072) where
   scaled-high m (pos n) h = leZ-yes (le→leb (sizeBy 32768 scale n) (2 * m) (omega (arith, size-high 32768 scale high (omega arith) n, leb→le n m (h .le))))
   scaled-high m (negsuc n) h = rw (below-by scale n low) (neg-pos (sizeBy 32767 scale (suc n)) (2 * m))
 
-  pub range-by : (limit : ℕ) (v : ℤ) → minus limit ≤ℤ v → v ≤ℤ pos (limit - 1) → (minus (2 * limit) ≤ℤ scaledBy scale v) × (scaledBy scale v ≤ℤ pos (2 * (limit - 1)))
-  range-by limit v l h = (scaled-low limit v l, scaled-high (limit - 1) v h)
-
 pub range : (b s limit : ℕ) (v : ℤ) → Sized b s → minus limit ≤ℤ v → v ≤ℤ pos (limit - 1) → (minus (2 * limit) ≤ℤ scaledWord b s v) × (scaledWord b s v ≤ℤ pos (2 * (limit - 1)))
-range b s limit v z low high = range-by (scaleOf b s) (scale-low b s z) (scale-high b s z) limit v low high
+range b s limit v z low high =
+    let k = scaleOf b s in
+    (scaled-low k (scale-low b s z) (scale-high b s z) limit v low, scaled-high k (scale-low b s z) (scale-high b s z) (limit - 1) v high)
 
 -- ---- two different words never scale to one
 trichotomy : (P : Type 0) (v w : ℤ) → (v <ℤ w → P) → (w <ℤ v → P) → (v ≡ w → P) → P
