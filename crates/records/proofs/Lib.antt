@@ -1,7 +1,7 @@
--- Laws of this crate's proofs; other crates cite Addresses and Undivided.
+-- Laws of this crate's proofs; other crates cite Addresses, Undivided and Words.
 pub mod Addresses
 pub mod Undivided
-mod Words
+pub mod Words
 mod Searches
 mod Ranges
 mod FirstBlocks

@@ -8,13 +8,15 @@ use lib.IntN.{ℤ, pos, negsuc, negℤ, natAbs, subℕ, _+ℤ_, _*ℤ_, +ℤ-ass
 use lib.Signed.{leZ, natAbs-le}
 use borrow.Author.Tests.{leb-true}
 use mir.Syntax.{Width, w16, w32}
-use mir.Val.{SFits, hbits}
+use mir.Val.{SFits, hbits, ofZ, toZ}
+use mir.Facts.{sfits-widen, toZ-ofZ}
 use Rattle.definitions.specs.Basics.{between, down, minus}
 use Rattle.definitions.specs.Inheriting.{scaledBy}
 use Rattle.definitions.specs.Record.{narrow}
 use Rattle.definitions.proofs.Choices.{both-true}
 use Rattle.definitions.proofs.Differences.{sub-cases, sub-neg, sub-pos, sub-shift}
 use Rattle.motion.specs.declared.Scale.{Scale}
+use Rattle.motion.specs.ByValue.{Reference}
 use Rattle.motion.specs.Scales.{AcceptedScale, scaleIn, scaledWith}
 use Rattle.motion.proofs.ByScales.{with-number}
 use Rattle.motion.proofs.Parts.{part-fits}
@@ -156,3 +158,29 @@ module _ (n : ℕ) (high : n ≤ 131072) (v : ℤ) (small : natAbs v ≤ narrow)
 
 pub fitting : (s : Scale) (v : ℤ) → AcceptedScale s → between (minus narrow) (pos (narrow - 1)) v ≡ true → Fitting s v
 fitting s v a e = subst (λ (t : Scale). Fitting t v) (sym (a .parts)) (in-parts (a .number) (a .high) v (size-word v e))
+
+-- ---- handed to scale_word and handed back
+module _ (v : ℤ) (e : between (minus narrow) (pos (narrow - 1)) v ≡ true) where
+  word-back : toZ w32 (ofZ w32 v) ≡ v
+  word-back = toZ-ofZ (by-size w32 v (omega (arith, size-word v e)))
+
+  pub handed : between (minus narrow) (pos (narrow - 1)) (toZ w32 (ofZ w32 v)) ≡ true
+  handed = rw word-back e
+
+  module _ (s : Scale) (a : AcceptedScale s) (r : ℤ) (is : r ≡ scaledWith s (toZ w32 (ofZ w32 v))) where
+    scaled-fits : SFits w16 (scaledWith s v)
+    scaled-fits = let f = fitting s v a e in subst (SFits w16) (f .is) (f .fits)
+
+    pub back : toZ w16 (ofZ w16 r) ≡ scaledWith s v
+    back = ap (λ (z : ℤ). toZ w16 (ofZ w16 z)) (is ∙ ap (scaledWith s) word-back) ∙ toZ-ofZ scaled-fits
+
+    pub back-fits : SFits w32 (toZ w16 (ofZ w16 r))
+    back-fits = rw back (sfits-widen tt scaled-fits)
+
+    pub back-wide : toZ w32 (ofZ w32 (toZ w16 (ofZ w16 r))) ≡ scaledWith s v
+    back-wide = toZ-ofZ back-fits ∙ back
+
+-- ---- a reference
+pub reference-fits : (r : ℤ) → Reference r → SFits w16 r
+reference-fits (pos n) e = let l = leb-true n 31 (both-true (leZ (minus 1) (pos n)) (leZ (pos n) (pos 31)) e .1) in record { sfits = omega arith }
+reference-fits (negsuc n) e = let l = leb-true n 0 (both-true (leZ (minus 1) (negsuc n)) (leZ (negsuc n) (pos 31)) e .0) in record { sfits = omega arith }
