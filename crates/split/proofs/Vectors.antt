@@ -15,13 +15,13 @@ use Rattle.definitions.proofs.Shapes.{cut, quadrantShape, samePairs, shapeOf}
 use Rattle.motion.specs.declared.BlockMotion.{BlockMotion}
 use Rattle.motion.specs.ByValue.{OneReference, motionIn, motionsIn, zeroBlock}
 
-abbrev pub sameVectors : BlockMotion → BlockMotion → Bool
+abbrev sameVectors : BlockMotion → BlockMotion → Bool
 sameVectors p q = (eqZ (p .x0) (q .x0) && eqZ (p .y0) (q .y0)) && (eqZ (p .x1) (q .x1) && eqZ (p .y1) (q .y1))
 
 equal : (a b c : ℤ) → a ≡ c → b ≡ c → eqZ a b ≡ true
 equal a b c e f = ap (eqZ a) (f ∙ sym e) ∙ eqZ-refl a
 
-number-is : (rows columns : Bool) → 3 - 2 * boolByte rows - boolByte columns ≡ subTypeNumber (cut rows columns)
+pub number-is : (rows columns : Bool) → 3 - 2 * boolByte rows - boolByte columns ≡ subTypeNumber (cut rows columns)
 number-is true true = refl
 number-is true false = refl
 number-is false true = refl

@@ -1,3 +1,4 @@
 -- Laws that the proofs of the functions cite.
 mod Choosing
 mod Rounded
+mod Compared

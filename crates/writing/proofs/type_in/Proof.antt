@@ -1,49 +1,41 @@
+-- `writing::type_in` meets its contract. Assumes nothing.
+use mathlib.Core.Bool.{_&&_}
+use native.Mathlib.Omega.{arith}
 use borrow.Author.Needs.{needs}
+use Rattle.split.proofs.Vectors.{number-fits}
+use Rattle.writing.proofs.Compared.{type-is}
 use Rattle.writing.proofs.type_in.Statement.{statement}
 use Rattle.writing.proofs.type_in.Tie as tie
-use Rattle.writing.proofs.type_in.Reads as reads
-use Rattle.writing.proofs.type_in.Lts as lts
-use Rattle.writing.proofs.same_in.Reads as same-in-reads
 
--- src/lib.rt:105:16
 same-in-requires : tie.Need-same-in-requires
 same-in-requires c κs = search needs
 
--- src/lib.rt:105:45
 same-in-requires-2 : tie.Need-same-in-requires-2
 same-in-requires-2 c κs = search needs
 
--- src/lib.rt:106:19
 same-in-requires-3 : tie.Need-same-in-requires-3
 same-in-requires-3 c κs = search needs
 
--- src/lib.rt:106:48
 same-in-requires-4 : tie.Need-same-in-requires-4
 same-in-requires-4 c κs = search needs
 
--- src/lib.rt:107:14
 cast-result : tie.Need-cast-result
 cast-result c = search needs
 
--- src/lib.rt:107:9
 mul-result : tie.Need-mul-result
-mul-result c = ?
+mul-result c = omega (arith, number-fits (c .before .before .before .same-in .result && c .before .before .same-in2 .result) (c .before .same-in3 .result && c .same-in4 .result) .0)
 
--- src/lib.rt:107:5
 sub-result : tie.Need-sub-result
-sub-result c = ?
+sub-result c = omega (arith, number-fits (c .before .before .before .same-in .result && c .before .before .same-in2 .result) (c .before .same-in3 .result && c .same-in4 .result) .0)
 
--- src/lib.rt:107:28
 cast-result-2 : tie.Need-cast-result-2
 cast-result-2 c = search needs
 
--- src/lib.rt:107:5
 sub-result-2 : tie.Need-sub-result-2
-sub-result-2 c = ?
+sub-result-2 c = omega (arith, number-fits (c .before .before .before .same-in .result && c .before .before .same-in2 .result) (c .before .same-in3 .result && c .same-in4 .result) .0, number-fits (c .before .before .before .same-in .result && c .before .before .same-in2 .result) (c .before .same-in3 .result && c .same-in4 .result) .1)
 
--- src/lib.rt:101:1
 returns : tie.Need-returns
-returns c = ?
+returns c = type-is (c .before .before .before .before .args .out .now) _ _ _ _ (c .before .before .before .same-in .ensures) (c .before .before .same-in2 .ensures) (c .before .same-in3 .ensures) (c .same-in4 .ensures)
 
 pub type-in-spec : {M : Type 1} → statement M
 type-in-spec =
