@@ -2,3 +2,4 @@
 mod Choosing
 mod Rounded
 mod Compared
+mod Placed
