@@ -3,3 +3,4 @@ mod Choosing
 mod Rounded
 mod Compared
 mod Placed
+mod Assembled
