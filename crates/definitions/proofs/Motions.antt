@@ -3,7 +3,7 @@ use mathlib.Core.Path.{_≡_, refl, sym, _∙_, ap}
 use mathlib.Core.Bool.{Bool, true, false, true≢false, _&&_}
 use lib.IntN.{ℤ}
 use lib.Dec.{eqb}
-use mir.Syntax.{w16}
+use mir.Syntax.{Width, w16}
 use mir.Val.{SFits, ofZ, toZ}
 use mir.Facts.{toZ-ofZ}
 use borrow.Author.Tests.{eq-eqb, ne-eqb}
@@ -13,16 +13,19 @@ use Rattle.definitions.specs.Basics.{eqZ}
 use Rattle.definitions.specs.Splits.{samePrediction, sameMotion}
 use Rattle.definitions.proofs.Choices.{both-true, and-intro, eqZ-true, eqZ-refl}
 
--- The machine compares the bits of two words.
-by-bits : (a b : ℤ) → SFits w16 a → SFits w16 b → (t : Bool) → eqZ a b ≡ t → eqb (ofZ w16 a) (ofZ w16 b) ≡ t
-by-bits a b fa fb true e = eq-eqb _ _ (ap (ofZ w16) (eqZ-true a b e))
-by-bits a b fa fb false e =
-    ne-eqb (ofZ w16 a) (ofZ w16 b)
-    (λ h. let same : a ≡ b = sym (toZ-ofZ fa) ∙ ap (toZ w16) h ∙ toZ-ofZ fb in
+-- The machine compares the bits of two numbers.
+by-bits : {w : Width} (a b : ℤ) → SFits w a → SFits w b → (t : Bool) → eqZ a b ≡ t → eqb (ofZ w a) (ofZ w b) ≡ t
+by-bits {w} a b fa fb true e = eq-eqb _ _ (ap (ofZ w) (eqZ-true a b e))
+by-bits {w} a b fa fb false e =
+    ne-eqb (ofZ w a) (ofZ w b)
+    (λ h. let same : a ≡ b = sym (toZ-ofZ fa) ∙ ap (toZ w) h ∙ toZ-ofZ fb in
     true≢false (sym (eqZ-refl a) ∙ ap (eqZ a) same ∙ e))
 
+pub bits-same : (w : Width) (a b : ℤ) → SFits w a → SFits w b → eqb (ofZ w a) (ofZ w b) ≡ eqZ a b
+bits-same w a b fa fb = by-bits a b fa fb (eqZ a b) refl
+
 pub word-same : (a b : ℤ) → SFits w16 a → SFits w16 b → eqb (ofZ w16 a) (ofZ w16 b) ≡ eqZ a b
-word-same a b fa fb = by-bits a b fa fb (eqZ a b) refl
+word-same = bits-same w16
 
 prediction-true : (p q : Prediction) → samePrediction p q ≡ true → p ≡ q
 unfolding samePrediction

@@ -5,10 +5,10 @@ use mathlib.Core.List.{List, [], _∷_}
 use native.Mathlib.Nat.{div-add-mod}
 use native.Mathlib.Omega.{arith}
 use lib.IntN.{ℤ, pos}
-use lib.ListN.{length, getD, take, drop, replicate, length-take, length-drop}
+use lib.ListN.{length, getD, take, drop, length-take, length-drop}
 use Rattle.definitions.specs.declared.Motion.{Motion}
 use Rattle.definitions.specs.Basics.{upTo}
-use Rattle.definitions.specs.Record.{recordWords, recordAt, typeOf, subTypeOf, referenceOf, vectorXOf, vectorYOf, motionOf, Contents, laidOut, allOne}
+use Rattle.definitions.specs.Record.{recordWords, recordAt, typeOf, subTypeOf, referenceOf, vectorXOf, vectorYOf, motionOf, Contents, laidOut}
 use Rattle.definitions.specs.Inheriting.{at, motionAt}
 use Rattle.definitions.specs.Blocks.{quadrantOf, inQuadrant, rasterOf}
 use Rattle.definitions.proofs.Choices.{each}
@@ -115,9 +115,3 @@ module _ (c : Contents) where
   laid-motion b h e f =
       let refs = laid-references (quadrantOf b) (omega arith) in
       motion-is (laidOut c) b (c .motion b) (refs .0 ∙ e, refs .1 ∙ f) (laid-vectors b h)
-
--- of four quadrants of four blocks, all with one motion, and no sub-types
-pub laid-alike : (kind : ℕ) (m : Motion)
-    → laidOut (record { kind = kind; sub = λ q. getD (replicate 4 0) q 0; motion = motionAt (replicate 4 (replicate 4 m)) }) ≡ laidOut (allOne kind m)
-unfolding laidOut upTo
-laid-alike kind m = refl

@@ -11,7 +11,7 @@ use lib.Signed.{_≤ℤ_, _<ℤ_, leZ-yes, ltZ-yes, <ℤ-irrefl}
 use Rattle.definitions.specs.Basics.{down, minus}
 use Rattle.definitions.specs.Accepted.{Sized}
 use Rattle.definitions.specs.Record.{narrow}
-use Rattle.definitions.specs.Inheriting.{scaleOf, scaledWord}
+use Rattle.definitions.specs.Inheriting.{scaleOf, scaledBy, scaledWord}
 use Rattle.definitions.specs.Why.{errorOf, NearestUp, firstRule}
 use Rattle.definitions.proofs.Differences.{sub-cases, sub-neg, pos-minus}
 
@@ -59,37 +59,43 @@ module _ (b s : ℕ) (z : Sized b s) where
   scale-over : s * 65536 + b / 2 < scaleOf b s * b + b
   scale-over = let hb : 0 < b = omega arith in lt-div-mul-add {a = s * 65536 + b / 2} hb
 
--- ---- the size of a scaled word. Below 0 the half is 1 less, so that a half goes up there too.
+-- ---- the size of a scaled word, by any scale of 65,536 or more. Below 0 the half is 1 less, so that a half goes up there too.
+abbrev sizeBy : ℕ → ℕ → ℕ → ℕ
+sizeBy half scale n = (n * scale + half) / 65536
+
 abbrev pub sizeOf : ℕ → ℕ → ℕ → ℕ → ℕ
-sizeOf half b s n = (n * scaleOf b s + half) / 65536
+sizeOf half b s n = sizeBy half (scaleOf b s) n
 
 neg-plus : (k h : ℕ) → h < k → negℤ (pos k) +ℤ pos h ≡ negsuc (k - suc h)
 neg-plus zero h l = absurd (omega arith)
 neg-plus (suc k) h l = sub-neg h (suc k) l
 
-pub below : (b s n : ℕ) → Sized b s → scaledWord b s (negsuc n) ≡ minus (sizeOf 32767 b s (suc n))
-below b s n z =
-    let k = suc n * scaleOf b s in
+below-by : (scale n : ℕ) → 65536 ≤ scale → scaledBy scale (negsuc n) ≡ minus (sizeBy 32767 scale (suc n))
+below-by scale n low =
+    let k = suc n * scale in
     let one : 1 ≤ suc n = omega arith in
-    let far : 65536 ≤ k = omega (arith, scale-low b s z, mul-le-mul-right (scaleOf b s) one) in
+    let far : 65536 ≤ k = omega (arith, mul-le-mul-right scale one) in
     let q : suc ((k - 32769) / 65536) ≡ (k + 32767) / 65536 = omega arith in
     ap (λ (x : ℤ). down x 65536) (neg-plus k 32768 (omega arith)) ∙ ap minus q
 
-module _ (half b s : ℕ) (z : Sized b s) where
-  size-rises : (m n : ℕ) → m < n → sizeOf half b s m < sizeOf half b s n
+pub below : (b s n : ℕ) → Sized b s → scaledWord b s (negsuc n) ≡ minus (sizeOf 32767 b s (suc n))
+below b s n z = below-by (scaleOf b s) n (scale-low b s z)
+
+module _ (half scale : ℕ) (low : 65536 ≤ scale) where
+  size-rises : (m n : ℕ) → m < n → sizeBy half scale m < sizeBy half scale n
   size-rises m n h =
       let hq : 0 < 65536 = omega arith in
-      let near = div-mul-le-self (m * scaleOf b s + half) 65536 in
-      le-div-iff-mul-le hq .1 (omega (arith, near, scale-low b s z, mul-le-mul-right (scaleOf b s) h))
+      let near = div-mul-le-self (m * scale + half) 65536 in
+      le-div-iff-mul-le hq .1 (omega (arith, near, mul-le-mul-right scale h))
 
-  size-positive : (n : ℕ) → 0 < sizeOf half b s (suc n)
+  size-positive : (n : ℕ) → 0 < sizeBy half scale (suc n)
   size-positive n = omega (arith, size-rises 0 (suc n) (omega arith))
 
-  size-high : half < 65536 → (n : ℕ) → sizeOf half b s n ≤ 2 * n
-  size-high h n =
-      let hq : 0 < 65536 = omega arith in
-      let l : sizeOf half b s n < 2 * n + 1 = div-lt-iff-lt-mul hq .1 (omega (arith, mul-le-mul-left n (scale-high b s z))) in
-      omega arith
+size-high : (half scale : ℕ) → scale ≤ 131072 → half < 65536 → (n : ℕ) → sizeBy half scale n ≤ 2 * n
+size-high half scale high h n =
+    let hq : 0 < 65536 = omega arith in
+    let l : sizeBy half scale n < 2 * n + 1 = div-lt-iff-lt-mul hq .1 (omega (arith, mul-le-mul-left n high)) in
+    omega arith
 
 -- ---- a larger word becomes a larger one
 minus-falls : (m n : ℕ) → m < n → minus n <ℤ minus m
@@ -102,12 +108,15 @@ minus-under : (m n : ℕ) → 0 < m → minus m <ℤ pos n
 minus-under zero n h = absurd (omega arith)
 minus-under (suc m) n h = ltZ-yes tt
 
+rising-by : (scale : ℕ) (v w : ℤ) → 65536 ≤ scale → v <ℤ w → scaledBy scale v <ℤ scaledBy scale w
+rising-by k (pos m) (pos n) z l = ltZ-yes (lt→ltb _ _ (size-rises 32768 k z m n (ltb→lt m n (l .lt))))
+rising-by k (pos m) (negsuc n) z l = absurd (l .lt)
+rising-by k (negsuc m) (pos n) z l = rw (below-by k m z) (minus-under (sizeBy 32767 k (suc m)) (sizeBy 32768 k n) (size-positive 32767 k z m))
+rising-by k (negsuc m) (negsuc n) z l =
+    rw (below-by k m z, below-by k n z) (minus-falls (sizeBy 32767 k (suc n)) (sizeBy 32767 k (suc m)) (size-rises 32767 k z (suc n) (suc m) (omega (arith, ltb→lt n m (l .lt)))))
+
 pub rising : (b s : ℕ) (v w : ℤ) → Sized b s → v <ℤ w → scaledWord b s v <ℤ scaledWord b s w
-rising b s (pos m) (pos n) z l = ltZ-yes (lt→ltb _ _ (size-rises 32768 b s z m n (ltb→lt m n (l .lt))))
-rising b s (pos m) (negsuc n) z l = absurd (l .lt)
-rising b s (negsuc m) (pos n) z l = rw (below b s m z) (minus-under (sizeOf 32767 b s (suc m)) (sizeOf 32768 b s n) (size-positive 32767 b s z m))
-rising b s (negsuc m) (negsuc n) z l =
-    rw (below b s m z, below b s n z) (minus-falls (sizeOf 32767 b s (suc n)) (sizeOf 32767 b s (suc m)) (size-rises 32767 b s z (suc n) (suc m) (omega (arith, ltb→lt n m (l .lt)))))
+rising b s v w z l = rising-by (scaleOf b s) v w (scale-low b s z) l
 
 -- ---- the error of two that are not below 0
 apart-by : (P : ℕ → Type 0) (m n : ℕ) → (m < n → P (n - m)) → (n ≤ m → P (m - n)) → P (natAbs (pos m -ℤ pos n))
@@ -264,17 +273,20 @@ low-size : (m n : ℕ) → minus m ≤ℤ negsuc n → suc n ≤ m
 low-size zero n h = absurd (h .le)
 low-size (suc m) n h = omega (arith, leb→le n m (h .le))
 
-scaled-low : (b s m : ℕ) (v : ℤ) → Sized b s → minus m ≤ℤ v → minus (2 * m) ≤ℤ scaledWord b s v
-scaled-low b s m (pos n) z h = neg-pos (2 * m) (sizeOf 32768 b s n)
-scaled-low b s m (negsuc n) z h =
-    rw (below b s n z) (neg-low (2 * m) (sizeOf 32767 b s (suc n)) (omega (arith, size-high 32767 b s z (omega arith) (suc n), low-size m n h)))
+module _ (scale : ℕ) (low : 65536 ≤ scale) (high : scale ≤ 131072) where
+  scaled-low : (m : ℕ) (v : ℤ) → minus m ≤ℤ v → minus (2 * m) ≤ℤ scaledBy scale v
+  scaled-low m (pos n) h = neg-pos (2 * m) (sizeBy 32768 scale n)
+  scaled-low m (negsuc n) h =
+      rw (below-by scale n low) (neg-low (2 * m) (sizeBy 32767 scale (suc n)) (omega (arith, size-high 32767 scale high (omega arith) (suc n), low-size m n h)))
 
-scaled-high : (b s m : ℕ) (v : ℤ) → Sized b s → v ≤ℤ pos m → scaledWord b s v ≤ℤ pos (2 * m)
-scaled-high b s m (pos n) z h = leZ-yes (le→leb (sizeOf 32768 b s n) (2 * m) (omega (arith, size-high 32768 b s z (omega arith) n, leb→le n m (h .le))))
-scaled-high b s m (negsuc n) z h = rw (below b s n z) (neg-pos (sizeOf 32767 b s (suc n)) (2 * m))
+  scaled-high : (m : ℕ) (v : ℤ) → v ≤ℤ pos m → scaledBy scale v ≤ℤ pos (2 * m)
+  scaled-high m (pos n) h = leZ-yes (le→leb (sizeBy 32768 scale n) (2 * m) (omega (arith, size-high 32768 scale high (omega arith) n, leb→le n m (h .le))))
+  scaled-high m (negsuc n) h = rw (below-by scale n low) (neg-pos (sizeBy 32767 scale (suc n)) (2 * m))
 
 pub range : (b s limit : ℕ) (v : ℤ) → Sized b s → minus limit ≤ℤ v → v ≤ℤ pos (limit - 1) → (minus (2 * limit) ≤ℤ scaledWord b s v) × (scaledWord b s v ≤ℤ pos (2 * (limit - 1)))
-range b s limit v z low high = (scaled-low b s limit v z low, scaled-high b s (limit - 1) v z high)
+range b s limit v z low high =
+    let k = scaleOf b s in
+    (scaled-low k (scale-low b s z) (scale-high b s z) limit v low, scaled-high k (scale-low b s z) (scale-high b s z) (limit - 1) v high)
 
 -- ---- two different words never scale to one
 trichotomy : (P : Type 0) (v w : ℤ) → (v <ℤ w → P) → (w <ℤ v → P) → (v ≡ w → P) → P
@@ -293,9 +305,12 @@ trichotomy P (negsuc m) (negsuc n) f g h = by (ltb m n) (ltb n m) refl refl
     by false true e k = f (ltZ-yes (lt→ltb n m (ltb-true n m k)))
     by false false e k = h (ap negsuc (le-antisymm (ltb-false n m k) (ltb-false m n e)))
 
-pub word-apart : (b s : ℕ) (v w : ℤ) → Sized b s → scaledWord b s v ≡ scaledWord b s w → v ≡ w
-word-apart b s v w z e =
+pub number-apart : (scale : ℕ) (v w : ℤ) → 65536 ≤ scale → scaledBy scale v ≡ scaledBy scale w → v ≡ w
+number-apart k v w z e =
     trichotomy (v ≡ w) v w
-    (λ l. absurd (<ℤ-irrefl (subst (λ (x : ℤ). scaledWord b s v <ℤ x) (sym e) (rising b s v w z l))))
-    (λ l. absurd (<ℤ-irrefl (subst (λ (x : ℤ). scaledWord b s w <ℤ x) e (rising b s w v z l))))
+    (λ l. absurd (<ℤ-irrefl (subst (λ (x : ℤ). scaledBy k v <ℤ x) (sym e) (rising-by k v w z l))))
+    (λ l. absurd (<ℤ-irrefl (subst (λ (x : ℤ). scaledBy k w <ℤ x) e (rising-by k w v z l))))
     (λ q. q)
+
+pub word-apart : (b s : ℕ) (v w : ℤ) → Sized b s → scaledWord b s v ≡ scaledWord b s w → v ≡ w
+word-apart b s v w z e = number-apart (scaleOf b s) v w (scale-low b s z) e

@@ -65,9 +65,10 @@ module _ (width : ℕ) (base : List ℤ) (x y : ℕ) (r : ReadableAt width base 
   unfolding motionRead motionOf
   read-kept =
       let a = vectors 0 (omega arith) in
-      let b = vectors 1 (omega arith) in
-      (record { range = record { x = both-true _ _ (a .x) .0; y = both-true _ _ (a .y) .0 }; reference = reference-of 0 (omega arith) },
-      record { range = record { x = both-true _ _ (b .x) .0; y = both-true _ _ (b .y) .0 }; reference = reference-of 1 (omega arith) })
+      let b = vectors 1 (omega arith) in (
+        record { range = record { x = both-true _ _ (a .x) .0; y = both-true _ _ (a .y) .0 }; reference = reference-of 0 (omega arith) },
+        record { range = record { x = both-true _ _ (b .x) .0; y = both-true _ _ (b .y) .0 }; reference = reference-of 1 (omega arith) },
+      )
 
   pub read-empty : Both Empty (motionRead width base x y)
   unfolding motionRead motionOf
@@ -199,9 +200,10 @@ module _ (base : List ℤ) (left right upper lower : Spot) (ready : Mergeable ba
 
   pub filled-mergeable : (r : List BlockMotion) → motionsIn r ≡ filled clear found → AllEmpty (motionsIn r) × AllReferring r
   filled-mergeable r e =
-      let at-k : (k : ℕ) → k < 4 → Fit (getD (motionsIn r) k zeroMotion) = λ k h. subst (λ (m : List Motion). Fit (getD m k zeroMotion)) (sym e) (fit k h) in
-      (λ k h. at-k k h .0,
-      λ k h. subst (λ (m : Motion). Reference (m .list0 .reference) × Reference (m .list1 .reference)) (four-at (λ j. motionIn (getD r j zeroBlock)) zeroMotion k h) (at-k k h .1))
+      let at-k : (k : ℕ) → k < 4 → Fit (getD (motionsIn r) k zeroMotion) = λ k h. subst (λ (m : List Motion). Fit (getD m k zeroMotion)) (sym e) (fit k h) in (
+        λ k h. at-k k h .0,
+        λ k h. subst (λ (m : Motion). Reference (m .list0 .reference) × Reference (m .list1 .reference)) (four-at (λ j. motionIn (getD r j zeroBlock)) zeroMotion k h) (at-k k h .1),
+      )
 
 -- ---- the sixteen, where some are intra
 -- places of references tell macroblocks apart

@@ -1,3 +1,3 @@
--- Laws that the proofs of the functions cite.
-mod Parts
+-- Laws that the proofs of the functions cite, here and in the crates above.
+pub mod Parts
 pub mod ByScales

@@ -1,4 +1,4 @@
--- A scale in two parts is the scale, and the parts of an accepted one fit sixteen bits. Assumes nothing.
+-- A scale in two parts is the scale, and its parts fit sixteen bits. Assumes nothing.
 use Prim.Native.Nat.{ℕ, suc, _+_, _*_, _-_, _/_, _≤_, _<_, _^_}
 use mathlib.Core.Path.{_≡_, ap, _∙_}
 use native.Mathlib.Omega.{arith}
@@ -16,6 +16,9 @@ number-is n =
     sub-cases (λ z. pos (w * 65536) +ℤ z ≡ pos n) n (65536 * w)
     (λ l. sub-pos (w * 65536) (suc (65536 * w - suc n)) (omega arith) ∙ ap pos (let e : w * 65536 - suc (65536 * w - suc n) ≡ n = omega arith in e))
     (λ l. ap pos (let e : w * 65536 + (n - 65536 * w) ≡ n = omega arith in e))
+
+pub part-fits : (n : ℕ) → SFits w16 (subℕ n (65536 * ((n + 32768) / 65536)))
+part-fits n = sub-cases (SFits w16) n (65536 * ((n + 32768) / 65536)) (λ l. record { sfits = omega arith }) (λ l. record { sfits = omega arith })
 
 -- the parts of n, as they are computed: each step fits
 module _ (n : ℕ) (high : n ≤ 131072) where
@@ -40,13 +43,9 @@ module _ (n : ℕ) (high : n ≤ 131072) where
       let b : toZ w32 (ofZ w32 (pos 65536 *ℤ toZ w32 whole)) ≡ pos (65536 * whole) = toZ-ofZ product-fits ∙ product-is in
       (λ i. a i -ℤ b i) ∙ pos-minus n (65536 * whole)
 
-  part-fits : SFits w16 (subℕ n (65536 * whole))
-  unfolding whole
-  part-fits = sub-cases (SFits w16) n (65536 * whole) (λ l. record { sfits = omega arith }) (λ l. record { sfits = omega arith })
-
   pub difference-fits : SFits w32 (toZ w32 n -ℤ toZ w32 (ofZ w32 (pos 65536 *ℤ toZ w32 ((n + 32768) / 65536))))
   unfolding whole
-  difference-fits = rw difference-is (sfits-widen tt part-fits)
+  difference-fits = rw difference-is (sfits-widen tt (part-fits n))
 
   back : toZ w32 (ofZ w32 (toZ w32 n -ℤ toZ w32 (ofZ w32 (pos 65536 *ℤ toZ w32 whole)))) ≡ subℕ n (65536 * whole)
   unfolding whole
@@ -54,14 +53,14 @@ module _ (n : ℕ) (high : n ≤ 131072) where
 
   pub part-back : SFits w16 (toZ w32 (ofZ w32 (toZ w32 n -ℤ toZ w32 (ofZ w32 (pos 65536 *ℤ toZ w32 ((n + 32768) / 65536))))))
   unfolding whole
-  part-back = rw back part-fits
+  part-back = rw back (part-fits n)
 
   pub made : (w : ℕ) (p : ℤ) → w ≡ (n + 32768) / 65536
-    → p ≡ toZ w32 (ofZ w32 (toZ w32 n -ℤ toZ w32 (ofZ w32 (pos 65536 *ℤ toZ w32 ((n + 32768) / 65536)))))
-    → _≡_ {A = Scale} (record { whole = toZ w16 w; part = toZ w16 (ofZ w16 p) }) (scaleIn n)
+      → p ≡ toZ w32 (ofZ w32 (toZ w32 n -ℤ toZ w32 (ofZ w32 (pos 65536 *ℤ toZ w32 ((n + 32768) / 65536)))))
+      → _≡_ {A = Scale} (record { whole = toZ w16 w; part = toZ w16 (ofZ w16 p) }) (scaleIn n)
   unfolding whole
   made w p e f =
       let h = whole-high in
       let a : toZ w16 w ≡ pos whole = ap (toZ w16) e ∙ toZ-pos w16 {n = whole} (omega arith) in
-      let b : toZ w16 (ofZ w16 p) ≡ subℕ n (65536 * whole) = ap (λ (z : ℤ). toZ w16 (ofZ w16 z)) (f ∙ back) ∙ toZ-ofZ part-fits in
+      let b : toZ w16 (ofZ w16 p) ≡ subℕ n (65536 * whole) = ap (λ (z : ℤ). toZ w16 (ofZ w16 z)) (f ∙ back) ∙ toZ-ofZ (part-fits n) in
       λ i. record { whole = a i; part = b i }

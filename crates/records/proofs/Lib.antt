@@ -6,4 +6,4 @@ mod Searches
 pub mod Ranges
 pub mod FirstBlocks
 pub mod Verdicts
-mod Assembly
+mod Filled

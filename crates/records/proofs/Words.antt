@@ -1,9 +1,10 @@
--- What the machine's comparisons of two words tell of the words. Assumes nothing.
+-- What the machine's comparisons of two words tell of the words, and numbers that are cut to words. Assumes nothing.
 use mathlib.Core.Path.{_≡_, sym, _∙_}
 use mathlib.Core.Bool.{true, false}
 use lib.IntN.{ℤ}
-use mir.Syntax.{w16}
-use mir.Val.{SFits, ofZ}
+use mir.Facts.{sfits-widen, toZ-ofZ}
+use mir.Syntax.{w16, w32}
+use mir.Val.{SFits, ofZ, toZ}
 use borrow.Author.Tests.{eq-eqb, ne-eqb}
 use Rattle.definitions.specs.Basics.{eqZ}
 use Rattle.definitions.proofs.Motions.{word-same}
@@ -14,3 +15,11 @@ module _ (a b : ℤ) (fa : SFits w16 a) (fb : SFits w16 b) where
 
   pub word-is-not : (ofZ w16 a ≡ ofZ w16 b → ⊥) → eqZ a b ≡ false
   word-is-not ne = sym (word-same a b fa fb) ∙ ne-eqb _ _ ne
+
+-- A number of sixteen bits that is held in 32 is cut to itself.
+module _ (z : ℤ) (f : SFits w16 z) where
+  pub held : SFits w16 (toZ w32 (ofZ w32 z))
+  held = rw (toZ-ofZ (sfits-widen {w′ = w32} tt f)) f
+
+  pub narrowed : toZ w16 (ofZ w16 (toZ w32 (ofZ w32 z))) ≡ z
+  narrowed = toZ-ofZ held ∙ toZ-ofZ (sfits-widen {w′ = w32} tt f)

@@ -1,3 +1,2 @@
 -- The definitions that only this crate's contracts cite.
 pub mod Checking
-pub mod Writing

@@ -87,7 +87,10 @@ fn put_quadrant(out: &mut [i16], s: Scales, r: usize, k: usize, m: [BlockMotion;
 
 // ---- Step 5
 // Two quadrants have one motion each: whether it is the same. Their references stand at words r and t, the vectors of their first blocks at k and j.
-fn same_in(out: &[i16], r: usize, t: usize, k: usize, j: usize) -> bool {
+fn same_in(out: &[i16], r: usize, t: usize, k: usize, j: usize) -> bool
+    requires { ⌜ (length (now out) ≡ recordWords) × (r + 2 ≤ recordWords) × (t + 2 ≤ recordWords) × (k + 4 ≤ recordWords) × (j + 4 ≤ recordWords) ⌝ }
+    ensures { λ same. ⌜ same ≡ wordsSame (now (out .entry)) r t k j ⌝ }
+{
     (out[r] == out[t])
         & (out[r + 1] == out[t + 1])
         & (out[k] == out[j])

@@ -1,0 +1,107 @@
+-- `writing::write_made` meets its contract: four quadrants are put into the record, and then the types. Assumes nothing.
+use mathlib.Core.Logic.{⊎-elim}
+use mathlib.Core.Path.{_∙_}
+use native.Mathlib.Omega.{arith}
+use borrow.Author.Needs.{needs}
+use Rattle.definitions.specs.Inheriting.{chosen}
+use Rattle.motion.specs.ByValue.{quadrantsIn}
+use Rattle.motion.specs.Scales.{allScaled}
+use Rattle.writing.proofs.Assembled.{assembled, type-written}
+use Rattle.writing.proofs.Choosing.{Said, chosen-quarters, chosen-whole}
+use Rattle.writing.proofs.write_made.Statement.{statement}
+use Rattle.writing.proofs.write_made.Tie as tie
+
+array-copy-out-put-quadrant : tie.Need-array-copy-out-put-quadrant
+array-copy-out-put-quadrant c = search needs
+
+put-quadrant-requires : tie.Need-put-quadrant-requires
+put-quadrant-requires c κs = let s = c .before .before in (search needs, omega arith, omega arith, s .pre .1, s .pre .2 0 (omega arith))
+
+array-copy-out-put-quadrant-2 : tie.Need-array-copy-out-put-quadrant-2
+array-copy-out-put-quadrant-2 c = search needs
+
+put-quadrant-requires-2 : tie.Need-put-quadrant-requires-2
+put-quadrant-requires-2 c κs = let s = c .before .before .before .before .before .before in (search needs, omega arith, omega arith, s .pre .1, s .pre .2 1 (omega arith))
+
+array-copy-out-put-quadrant-3 : tie.Need-array-copy-out-put-quadrant-3
+array-copy-out-put-quadrant-3 c = search needs
+
+put-quadrant-requires-3 : tie.Need-put-quadrant-requires-3
+put-quadrant-requires-3 c κs = let s = c .before .before .before .before .before .before .before .before .before .before in (search needs, omega arith, omega arith, s .pre .1, s .pre .2 2 (omega arith))
+
+array-copy-out-put-quadrant-4 : tie.Need-array-copy-out-put-quadrant-4
+array-copy-out-put-quadrant-4 c = search needs
+
+put-quadrant-requires-4 : tie.Need-put-quadrant-requires-4
+put-quadrant-requires-4 c κs = let s = c .before .before .before .before .before .before .before .before .before .before .before .before .before .before in (search needs, omega arith, omega arith, s .pre .1, s .pre .2 3 (omega arith))
+
+add-if1 : tie.Need-add-if1
+add-if1 c = search needs
+
+add-if1-2 : tie.Need-add-if1-2
+add-if1-2 c = search needs
+
+add-if1-3 : tie.Need-add-if1-3
+add-if1-3 c = search needs
+
+type-in-requires : tie.Need-type-in-requires
+type-in-requires c κs = search needs
+
+sub-put-types : tie.Need-sub-put-types
+sub-put-types c = search needs
+
+part-put-types-start : tie.Need-part-put-types-start
+part-put-types-start c = search needs
+
+part-put-types-end : tie.Need-part-put-types-end
+part-put-types-end c = search needs
+
+put-types-requires : tie.Need-put-types-requires
+put-types-requires c κs = search needs
+
+same-length : tie.Need-same-length
+same-length c = search needs
+
+returns : tie.Need-returns
+returns c =
+    let s = c .before .before .before .before .before .before .before .before .before .before .before .before .before .before .before .before .before .before .before .before in
+    let g = s .args in
+    let m = quadrantsIn (g .t3) in
+    let one = c .before .before .before .before .before .before .before .before .before .before .before .before .before .before .before .before .before .put-quadrant in
+    let two = c .before .before .before .before .before .before .before .before .before .before .before .before .before .put-quadrant2 in
+    let three = c .before .before .before .before .before .before .before .before .before .put-quadrant3 in
+    let four = c .before .before .before .before .before .put-quadrant4 in
+    let if1 = c .before .before .before .if1 in
+    let said : Said (chosen (allScaled (g .s) m)) (if1 .kind) (one .result) (two .result) (three .result) (four .result) =
+    ⊎-elim
+    (λ w. chosen-whole (g .s) (s .pre .1) m (one .result) (two .result) (three .result) (four .result) (one .ensures .1 .0) (two .ensures .1 .0) (three .ensures .1 .0) (four .ensures .1 .0)
+    (if1 .kind) (w .0 .taken)
+    (w .3 ∙ (w .2 .ensures .0 ∙ type-written (g .s) m (g .out .now) (s .pre .0) (one .last .0) (two .last .0) (three .last .0) (four .last .0) (one .ensures .0) (two .ensures .0) (three .ensures .0) (four .ensures .0))))
+    (λ w. chosen-quarters (g .s) (s .pre .1) m (one .result) (two .result) (three .result) (four .result) (one .ensures .1 .0) (two .ensures .1 .0) (three .ensures .1 .0) (four .ensures .1 .0)
+    (if1 .kind) (w .0 .left) (w .1))
+    (if1 .came) in
+    assembled (g .s) m (g .out .now) (s .pre .0) (one .last .0) (two .last .0) (three .last .0) (four .last .0) (one .ensures .0) (two .ensures .0) (three .ensures .0) (four .ensures .0)
+    (c .before .put-types .last .0) _ (if1 .kind) (one .result) (two .result) (three .result) (four .result) (c .before .put-types .ensures) said
+
+pub write-made-spec : {M : Type 1} → statement M
+write-made-spec =
+    tie.close
+    (tie.spec
+    array-copy-out-put-quadrant
+    put-quadrant-requires
+    array-copy-out-put-quadrant-2
+    put-quadrant-requires-2
+    array-copy-out-put-quadrant-3
+    put-quadrant-requires-3
+    array-copy-out-put-quadrant-4
+    put-quadrant-requires-4
+    add-if1
+    add-if1-2
+    add-if1-3
+    type-in-requires
+    sub-put-types
+    part-put-types-start
+    part-put-types-end
+    put-types-requires
+    same-length
+    returns)
