@@ -56,8 +56,8 @@ module _ (n : ℕ) (high : n ≤ 131072) where
   part-back = rw back (part-fits n)
 
   pub made : (w : ℕ) (p : ℤ) → w ≡ (n + 32768) / 65536
-    → p ≡ toZ w32 (ofZ w32 (toZ w32 n -ℤ toZ w32 (ofZ w32 (pos 65536 *ℤ toZ w32 ((n + 32768) / 65536)))))
-    → _≡_ {A = Scale} (record { whole = toZ w16 w; part = toZ w16 (ofZ w16 p) }) (scaleIn n)
+      → p ≡ toZ w32 (ofZ w32 (toZ w32 n -ℤ toZ w32 (ofZ w32 (pos 65536 *ℤ toZ w32 ((n + 32768) / 65536)))))
+      → _≡_ {A = Scale} (record { whole = toZ w16 w; part = toZ w16 (ofZ w16 p) }) (scaleIn n)
   unfolding whole
   made w p e f =
       let h = whole-high in

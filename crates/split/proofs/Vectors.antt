@@ -40,8 +40,8 @@ module _ (m : List BlockMotion) (one : OneReference m) where
   same-motion j k h l = rw (equal _ _ _ (one j h .0) (one k l .0), equal _ _ _ (one j h .1) (one k l .1))
 
   pub sub-type-is : (a b c d : Bool) → a ≡ sameVectors (getD m 0 zeroBlock) (getD m 1 zeroBlock) → b ≡ sameVectors (getD m 2 zeroBlock) (getD m 3 zeroBlock)
-    → c ≡ sameVectors (getD m 0 zeroBlock) (getD m 2 zeroBlock) → d ≡ sameVectors (getD m 1 zeroBlock) (getD m 3 zeroBlock)
-    → (3 - 2 * boolByte (a && b) - boolByte (c && d) ≡ subTypeNumber (quadrantShape (motionsIn m))) × (3 - 2 * boolByte (a && b) - boolByte (c && d) ≤ 3)
+      → c ≡ sameVectors (getD m 0 zeroBlock) (getD m 2 zeroBlock) → d ≡ sameVectors (getD m 1 zeroBlock) (getD m 3 zeroBlock)
+      → (3 - 2 * boolByte (a && b) - boolByte (c && d) ≡ subTypeNumber (quadrantShape (motionsIn m))) × (3 - 2 * boolByte (a && b) - boolByte (c && d) ≤ 3)
   unfolding quadrantShape shapeOf samePairs
   sub-type-is a b c d ea eb ec ed =
       let ra = ea ∙ sym (same-motion 0 1 (omega arith) (omega arith)) in

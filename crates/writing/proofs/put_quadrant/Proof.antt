@@ -29,7 +29,7 @@ array-copy-out-put-references : tie.Need-array-copy-out-put-references
 array-copy-out-put-references c = search needs
 
 put-references-requires : tie.Need-put-references-requires
-put-references-requires c κs = 
+put-references-requires c κs =
     let s = c .before .before in
     let g = s .args in
     (part-long (g .out .now) (g .r) (g .r + 2 - g .r) 2 (omega arith) (omega (arith, s .pre .0)), s .pre .4 .blocks 0 (omega arith) .referring)
@@ -56,7 +56,7 @@ array-copy-out-put-pair-2 : tie.Need-array-copy-out-put-pair-2
 array-copy-out-put-pair-2 c = search needs
 
 put-pair-requires : tie.Need-put-pair-requires
-put-pair-requires c κs = 
+put-pair-requires c κs =
     let s = c .before .before .before .before .before .before .before in
     let g = s .args in
     (part-long _ (g .k) (g .k + 8 - g .k) 8 (omega arith) (omega (arith, c .before .before .before .out .given .1, s .pre .0)), s .pre .3, s .pre .4 .blocks 0 (omega arith), s .pre .4 .blocks 1 (omega arith))
@@ -83,7 +83,7 @@ array-copy-out-put-pair-4 : tie.Need-array-copy-out-put-pair-4
 array-copy-out-put-pair-4 c = search needs
 
 put-pair-requires-2 : tie.Need-put-pair-requires-2
-put-pair-requires-2 c κs = 
+put-pair-requires-2 c κs =
     let s = c .before .before .before .before .before .before .before .before .before .before .before .before in
     let g = s .args in
     (part-long _ (g .k + 16) (g .k + 16 + 8 - (g .k + 16)) 8 (omega arith) (omega (arith, c .before .before .before .out2 .given .1, c .before .before .before .before .before .before .before .before .out .given .1, s .pre .0)), s .pre .3, s .pre .4 .blocks 2 (omega arith), s .pre .4 .blocks 3 (omega arith))
@@ -95,14 +95,16 @@ same-length : tie.Need-same-length
 same-length c = search needs
 
 returns : tie.Need-returns
-returns c = 
+returns c =
     let s = c .before .before .before .before .before .before .before .before .before .before .before .before .before .before .before in
-    let g = s .args in
-    (quadrant-put (g .s) (motionsIn (g .t5)) (g .out .now) (g .r) (g .k) (s .pre .0) (s .pre .1) (s .pre .2)
-    (c .before .before .before .before .before .before .before .before .before .before .before .before .put-references .last .0) (c .before .before .before .before .before .before .before .put-pair .last .0) (c .before .before .put-pair2 .last .0)
-    (g .r + 2 - g .r) (g .k + 8 - g .k) (g .k + 16 + 8 - (g .k + 16))
-    (c .before .before .before .before .before .before .before .before .before .before .before .before .put-references .ensures) (c .before .before .before .before .before .before .before .put-pair .ensures) (c .before .before .put-pair2 .ensures)
-    (omega arith) (omega arith) (omega arith), c .sub-type-of .ensures)
+    let g = s .args in (
+      quadrant-put (g .s) (motionsIn (g .t5)) (g .out .now) (g .r) (g .k) (s .pre .0) (s .pre .1) (s .pre .2)
+          (c .before .before .before .before .before .before .before .before .before .before .before .before .put-references .last .0) (c .before .before .before .before .before .before .before .put-pair .last .0) (c .before .before .put-pair2 .last .0)
+          (g .r + 2 - g .r) (g .k + 8 - g .k) (g .k + 16 + 8 - (g .k + 16))
+          (c .before .before .before .before .before .before .before .before .before .before .before .before .put-references .ensures) (c .before .before .before .before .before .before .before .put-pair .ensures) (c .before .before .put-pair2 .ensures)
+          (omega arith) (omega arith) (omega arith),
+      c .sub-type-of .ensures,
+    )
 
 pub put-quadrant-spec : {M : Type 1} → statement M
 put-quadrant-spec =

@@ -26,7 +26,7 @@ same-length : tie.Need-same-length
 same-length c = search needs
 
 returns : tie.Need-returns
-returns c = 
+returns c =
     let s = c .before .before .before .before in
     let m = s .args .m in
     let r0 = narrowed (m .r0) (reference-fits (m .r0) (s .pre .1 .0)) in

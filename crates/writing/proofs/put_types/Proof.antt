@@ -46,7 +46,7 @@ same-length : tie.Need-same-length
 same-length c = search needs
 
 returns : tie.Need-returns
-returns c = 
+returns c =
     let x = c .args in
     let f = c .fits in
     let t0 : toZ w16 (x .kind) ≡ pos (x .kind) = toZ-pos w16 {n = x .kind} (omega (arith, f .kind)) in

@@ -106,7 +106,7 @@ shared-slice-copy-out-result-12 c = search needs
 
 returns : tie.Need-returns
 unfolding wordsSame
-returns c = 
+returns c =
     let a = c .before .before .before .before .before .before .before .before .before .before .before .before .args in
     let word = wordOf (a .out .now) in
     let e0 = word-same (word (a .r)) (word (a .t)) (search needs) (search needs) in

@@ -31,7 +31,7 @@ cast-t10 : tie.Need-cast-t10
 cast-t10 c = let s = c .before .before .before .before .before .before .before .before in back-fits (s .args .m .y1) (s .pre .1 .vectors .1 .y) (s .args .s .vertical) (s .pre .0 .vertical) (c .scale-word4 .result) (c .scale-word4 .ensures)
 
 returns : tie.Need-returns
-returns c = 
+returns c =
     let s = c .before .before .before .before .before .before .before .before .before in
     let m = s .args .m in
     let v = s .pre .1 .vectors in
