@@ -1,8 +1,8 @@
 -- A scale in two parts is the scale, and its parts fit sixteen bits. Assumes nothing.
-use Prim.Native.Nat.{ℕ, suc, _+_, _*_, _-_, _/_, _≤_, _<_, _^_}
+use Prim.Native.Nat.{ℕ, suc, _+_, _*_, _-_, _/_, _≤_}
 use mathlib.Core.Path.{_≡_, ap, _∙_}
 use native.Mathlib.Omega.{arith}
-use lib.IntN.{ℤ, pos, negsuc, subℕ, _+ℤ_, _-ℤ_, _*ℤ_}
+use lib.IntN.{ℤ, pos, subℕ, _+ℤ_, _-ℤ_, _*ℤ_}
 use mir.Facts.{sfits-widen, toZ-ofZ, toZ-pos}
 use mir.Syntax.{w16, w32}
 use mir.Val.{SFits, ofZ, toZ}

@@ -2,10 +2,10 @@
 use mathlib.Core.Path.{_≡_, sym, _∙_}
 use mathlib.Core.Bool.{true, false}
 use lib.IntN.{ℤ}
+use borrow.Author.Tests.{eq-eqb, ne-eqb}
 use mir.Facts.{sfits-widen, toZ-ofZ}
 use mir.Syntax.{w16, w32}
 use mir.Val.{SFits, ofZ, toZ}
-use borrow.Author.Tests.{eq-eqb, ne-eqb}
 use Rattle.definitions.specs.Basics.{eqZ}
 use Rattle.definitions.proofs.Motions.{word-same}
 

@@ -1,5 +1,4 @@
 // Writing a motion record of one motion.
-ghost use Prim.Native.Nat.{_<_};
 ghost use mathlib.Core.Path.{_≡_};
 ghost use lib.ListN.{length};
 ghost use Rattle.definitions.specs.Answer.{withoutMotion};

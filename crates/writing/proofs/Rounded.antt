@@ -174,11 +174,8 @@ module _ (v : ℤ) (e : between (minus narrow) (pos (narrow - 1)) v ≡ true) wh
     pub back : toZ w16 (ofZ w16 r) ≡ scaledWith s v
     back = ap (λ (z : ℤ). toZ w16 (ofZ w16 z)) (is ∙ ap (scaledWith s) word-back) ∙ toZ-ofZ scaled-fits
 
-    pub back-fits : SFits w32 (toZ w16 (ofZ w16 r))
-    back-fits = rw back (sfits-widen tt scaled-fits)
-
     pub back-wide : toZ w32 (ofZ w32 (toZ w16 (ofZ w16 r))) ≡ scaledWith s v
-    back-wide = toZ-ofZ back-fits ∙ back
+    back-wide = rw back (toZ-ofZ (sfits-widen tt scaled-fits))
 
 -- ---- a reference
 pub reference-fits : (r : ℤ) → Reference r → SFits w16 r

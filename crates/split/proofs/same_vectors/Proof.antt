@@ -1,8 +1,8 @@
 -- `split::same_vectors` meets its contract. Assumes nothing.
 use mathlib.Core.Path.{_∙_}
 use mathlib.Core.Bool.{_&&_, and-assoc}
-use mir.Syntax.{w32}
 use borrow.Author.Needs.{needs}
+use mir.Syntax.{w32}
 use Rattle.definitions.specs.Basics.{eqZ}
 use Rattle.definitions.proofs.Motions.{bits-same}
 use Rattle.split.proofs.same_vectors.Statement.{statement}

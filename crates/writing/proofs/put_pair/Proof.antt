@@ -3,11 +3,11 @@ use mathlib.Core.List.{[], _∷_}
 use mathlib.Core.Path.{_∙_}
 use native.Mathlib.Omega.{arith}
 use lib.ListN.{length-set}
+use borrow.Author.Needs.{needs}
 use mir.Syntax.{w16}
 use mir.Val.{ofZ, toZ}
 use Rattle.definitions.proofs.Parts.{stored-all}
 use Rattle.writing.proofs.Rounded.{back, handed}
-use borrow.Author.Needs.{needs}
 use Rattle.writing.proofs.put_pair.Statement.{statement}
 use Rattle.writing.proofs.put_pair.Tie as tie
 

@@ -1,6 +1,7 @@
 -- `writing::put_quadrant` meets its contract: three parts of the record are lent in turn. Assumes nothing.
 use Prim.Native.Nat.{_+_, _-_}
 use native.Mathlib.Omega.{arith}
+use lib.Dec.{lit<}
 use borrow.Author.Needs.{needs}
 use Rattle.motion.specs.ByValue.{motionsIn}
 use Rattle.writing.proofs.Placed.{part-long, quadrant-put}
@@ -32,7 +33,7 @@ put-references-requires : tie.Need-put-references-requires
 put-references-requires c κs =
     let s = c .before .before in
     let g = s .args in
-    (part-long (g .out .now) (g .r) (g .r + 2 - g .r) 2 (omega arith) (omega (arith, s .pre .0)), s .pre .4 .blocks 0 (omega arith) .referring)
+    (part-long (g .out .now) (g .r) (g .r + 2 - g .r) 2 (omega arith) (omega (arith, s .pre .0)), s .pre .4 .blocks _ (lit< tt) .referring)
 
 add-put-pair : tie.Need-add-put-pair
 add-put-pair c = search needs
@@ -59,7 +60,7 @@ put-pair-requires : tie.Need-put-pair-requires
 put-pair-requires c κs =
     let s = c .before .before .before .before .before .before .before in
     let g = s .args in
-    (part-long _ (g .k) (g .k + 8 - g .k) 8 (omega arith) (omega (arith, c .before .before .before .out .given .1, s .pre .0)), s .pre .3, s .pre .4 .blocks 0 (omega arith), s .pre .4 .blocks 1 (omega arith))
+    (part-long _ (g .k) (g .k + 8 - g .k) 8 (omega arith) (omega (arith, c .before .before .before .out .given .1, s .pre .0)), s .pre .3, s .pre .4 .blocks _ (lit< tt), s .pre .4 .blocks _ (lit< tt))
 
 add-put-pair-2 : tie.Need-add-put-pair-2
 add-put-pair-2 c = search needs
@@ -86,7 +87,7 @@ put-pair-requires-2 : tie.Need-put-pair-requires-2
 put-pair-requires-2 c κs =
     let s = c .before .before .before .before .before .before .before .before .before .before .before .before in
     let g = s .args in
-    (part-long _ (g .k + 16) (g .k + 16 + 8 - (g .k + 16)) 8 (omega arith) (omega (arith, c .before .before .before .out2 .given .1, c .before .before .before .before .before .before .before .before .out .given .1, s .pre .0)), s .pre .3, s .pre .4 .blocks 2 (omega arith), s .pre .4 .blocks 3 (omega arith))
+    (part-long _ (g .k + 16) (g .k + 16 + 8 - (g .k + 16)) 8 (omega arith) (omega (arith, c .before .before .before .out2 .given .1, c .before .before .before .before .before .before .before .before .out .given .1, s .pre .0)), s .pre .3, s .pre .4 .blocks _ (lit< tt), s .pre .4 .blocks _ (lit< tt))
 
 sub-type-of-requires : tie.Need-sub-type-of-requires
 sub-type-of-requires c κs = search needs

@@ -1,12 +1,12 @@
 -- `writing::put_references` meets its contract: two words stored one after the other. Assumes nothing.
 use mathlib.Core.List.{[], _∷_}
 use mathlib.Core.Path.{_∙_}
+use borrow.Author.Needs.{needs}
 use mir.Syntax.{w16, w32}
 use mir.Val.{ofZ, toZ}
 use Rattle.definitions.proofs.Parts.{stored-all}
 use Rattle.records.proofs.Words.{held, narrowed}
 use Rattle.writing.proofs.Rounded.{reference-fits}
-use borrow.Author.Needs.{needs}
 use Rattle.writing.proofs.put_references.Statement.{statement}
 use Rattle.writing.proofs.put_references.Tie as tie
 

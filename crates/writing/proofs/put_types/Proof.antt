@@ -4,11 +4,11 @@ use mathlib.Core.Path.{_≡_, _∙_}
 use native.Mathlib.Omega.{arith}
 use lib.IntN.{pos}
 use lib.ListN.{length-set}
+use borrow.Author.Needs.{needs}
 use mir.Facts.{toZ-pos}
 use mir.Syntax.{w16}
 use mir.Val.{toZ}
 use Rattle.definitions.proofs.Parts.{stored-all}
-use borrow.Author.Needs.{needs}
 use Rattle.writing.proofs.put_types.Statement.{statement}
 use Rattle.writing.proofs.put_types.Tie as tie
 

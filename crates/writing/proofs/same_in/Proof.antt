@@ -1,10 +1,10 @@
 -- `writing::same_in` meets its contract. Assumes nothing.
 use Prim.Native.Nat.{_+_}
 use mathlib.Core.Bool.{_&&_}
+use borrow.Author.Needs.{needs}
 use Rattle.definitions.specs.Record.{wordOf}
 use Rattle.definitions.proofs.Motions.{word-same}
 use Rattle.writing.specs.Words.{wordsSame}
-use borrow.Author.Needs.{needs}
 use Rattle.writing.proofs.same_in.Statement.{statement}
 use Rattle.writing.proofs.same_in.Tie as tie
 

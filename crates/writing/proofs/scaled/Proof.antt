@@ -1,8 +1,8 @@
 -- `writing::scaled` meets its contract. Assumes nothing.
-use mir.Facts.{sfits-widen, toZ-ofZ}
-use mir.Syntax.{w32}
-use Rattle.writing.proofs.Rounded.{back-fits, back-wide, reference-fits}
 use borrow.Author.Needs.{needs}
+use mir.Facts.{fits-ofZ, sfits-toZ, sfits-widen, toZ-ofZ}
+use mir.Syntax.{w32}
+use Rattle.writing.proofs.Rounded.{back-wide, reference-fits}
 use Rattle.writing.proofs.scaled.Statement.{statement}
 use Rattle.writing.proofs.scaled.Tie as tie
 
@@ -10,25 +10,25 @@ scale-word-requires : tie.Need-scale-word-requires
 scale-word-requires c κs = search needs
 
 cast-t4 : tie.Need-cast-t4
-cast-t4 c = let s = c .before .before in back-fits (s .args .m .x0) (s .pre .1 .vectors .0 .x) (s .args .s .horizontal) (s .pre .0 .horizontal) (c .scale-word .result) (c .scale-word .ensures)
+cast-t4 c = sfits-widen tt (sfits-toZ (fits-ofZ {z = c .scale-word .result} (search needs)))
 
 scale-word-requires-2 : tie.Need-scale-word-requires-2
 scale-word-requires-2 c κs = search needs
 
 cast-t6 : tie.Need-cast-t6
-cast-t6 c = let s = c .before .before .before .before in back-fits (s .args .m .y0) (s .pre .1 .vectors .0 .y) (s .args .s .vertical) (s .pre .0 .vertical) (c .scale-word2 .result) (c .scale-word2 .ensures)
+cast-t6 c = sfits-widen tt (sfits-toZ (fits-ofZ {z = c .scale-word2 .result} (search needs)))
 
 scale-word-requires-3 : tie.Need-scale-word-requires-3
 scale-word-requires-3 c κs = search needs
 
 cast-t8 : tie.Need-cast-t8
-cast-t8 c = let s = c .before .before .before .before .before .before in back-fits (s .args .m .x1) (s .pre .1 .vectors .1 .x) (s .args .s .horizontal) (s .pre .0 .horizontal) (c .scale-word3 .result) (c .scale-word3 .ensures)
+cast-t8 c = sfits-widen tt (sfits-toZ (fits-ofZ {z = c .scale-word3 .result} (search needs)))
 
 scale-word-requires-4 : tie.Need-scale-word-requires-4
 scale-word-requires-4 c κs = search needs
 
 cast-t10 : tie.Need-cast-t10
-cast-t10 c = let s = c .before .before .before .before .before .before .before .before in back-fits (s .args .m .y1) (s .pre .1 .vectors .1 .y) (s .args .s .vertical) (s .pre .0 .vertical) (c .scale-word4 .result) (c .scale-word4 .ensures)
+cast-t10 c = sfits-widen tt (sfits-toZ (fits-ofZ {z = c .scale-word4 .result} (search needs)))
 
 returns : tie.Need-returns
 returns c =

@@ -2,6 +2,7 @@
 use mathlib.Core.Logic.{⊎-elim}
 use mathlib.Core.Path.{_∙_}
 use native.Mathlib.Omega.{arith}
+use lib.Dec.{lit<}
 use borrow.Author.Needs.{needs}
 use Rattle.definitions.specs.Inheriting.{chosen}
 use Rattle.motion.specs.ByValue.{quadrantsIn}
@@ -15,25 +16,25 @@ array-copy-out-put-quadrant : tie.Need-array-copy-out-put-quadrant
 array-copy-out-put-quadrant c = search needs
 
 put-quadrant-requires : tie.Need-put-quadrant-requires
-put-quadrant-requires c κs = let s = c .before .before in (search needs, omega arith, omega arith, s .pre .1, s .pre .2 0 (omega arith))
+put-quadrant-requires c κs = let s = c .before .before in (search needs, omega arith, omega arith, s .pre .1, s .pre .2 _ (lit< tt))
 
 array-copy-out-put-quadrant-2 : tie.Need-array-copy-out-put-quadrant-2
 array-copy-out-put-quadrant-2 c = search needs
 
 put-quadrant-requires-2 : tie.Need-put-quadrant-requires-2
-put-quadrant-requires-2 c κs = let s = c .before .before .before .before .before .before in (search needs, omega arith, omega arith, s .pre .1, s .pre .2 1 (omega arith))
+put-quadrant-requires-2 c κs = let s = c .before .before .before .before .before .before in (search needs, omega arith, omega arith, s .pre .1, s .pre .2 _ (lit< tt))
 
 array-copy-out-put-quadrant-3 : tie.Need-array-copy-out-put-quadrant-3
 array-copy-out-put-quadrant-3 c = search needs
 
 put-quadrant-requires-3 : tie.Need-put-quadrant-requires-3
-put-quadrant-requires-3 c κs = let s = c .before .before .before .before .before .before .before .before .before .before in (search needs, omega arith, omega arith, s .pre .1, s .pre .2 2 (omega arith))
+put-quadrant-requires-3 c κs = let s = c .before .before .before .before .before .before .before .before .before .before in (search needs, omega arith, omega arith, s .pre .1, s .pre .2 _ (lit< tt))
 
 array-copy-out-put-quadrant-4 : tie.Need-array-copy-out-put-quadrant-4
 array-copy-out-put-quadrant-4 c = search needs
 
 put-quadrant-requires-4 : tie.Need-put-quadrant-requires-4
-put-quadrant-requires-4 c κs = let s = c .before .before .before .before .before .before .before .before .before .before .before .before .before .before in (search needs, omega arith, omega arith, s .pre .1, s .pre .2 3 (omega arith))
+put-quadrant-requires-4 c κs = let s = c .before .before .before .before .before .before .before .before .before .before .before .before .before .before in (search needs, omega arith, omega arith, s .pre .1, s .pre .2 _ (lit< tt))
 
 add-if1 : tie.Need-add-if1
 add-if1 c = search needs

@@ -3,10 +3,10 @@ use Prim.Native.Nat.{_-_, _%_, _≤_}
 use mathlib.Core.Path.{_≡_, refl, sym, _∙_}
 use native.Mathlib.Omega.{arith}
 use lib.ListN.{length-set}
+use borrow.Author.Needs.{needs}
 use mir.Facts.{toZ-pos}
 use mir.Syntax.{w16}
 use mir.Val.{toZ}
-use borrow.Author.Needs.{needs}
 use Rattle.definitions.specs.Record.{allOne, laidOut}
 use Rattle.records.proofs.Filled.{Filled, filled-all, filled-references, filled-sub-type, filled-type, filled-vectors}
 use Rattle.records.proofs.Words.{held, narrowed}
