@@ -319,10 +319,12 @@ pub fn make(base: &[i16], f: Fixed, h: AxisRead, v: AxisRead, out: &mut [i16]) -
     ensures written { λ r. ⌜ now (out .exit) ≡ writtenBy f h v (now (base .entry)) ⌝ }
 {
     if h.inside & v.inside {
-        if is_one(h.reads) & is_one(v.reads) {
-            return make_of_one(base, f, h.reads, v.reads, out);
+        let across = h.reads;
+        let down = v.reads;
+        if is_one(across) & is_one(down) {
+            return make_of_one(base, f, across, down, out);
         }
-        return make_of_more(base, f, h.reads, v.reads, out);
+        return make_of_more(base, f, across, down, out);
     }
     write_unused(out, OUTSIDE);
     Sort::Outside

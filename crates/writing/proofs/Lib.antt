@@ -1,6 +1,6 @@
 -- Laws that the proofs of the functions cite.
 mod Choosing
-mod Rounded
+pub mod Rounded
 mod Compared
 mod Placed
 mod Assembled

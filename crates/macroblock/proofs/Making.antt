@@ -1,0 +1,181 @@
+-- The cases of what is made of a macroblock. Assumes nothing.
+use Prim.Native.Nat.{ℕ, _-_, _<_}
+use mathlib.Core.Path.{_≡_, refl, sym, ap, subst, _∙_}
+use mathlib.Core.Bool.{Bool, true, false, true≢false, _&&_, _||_}
+use mathlib.Core.List.{List, []}
+use native.Mathlib.Omega.{arith}
+use lib.IntN.{ℤ, pos}
+use lib.ListN.{getD}
+use Rattle.definitions.specs.declared.Motion.{Motion}
+use Rattle.definitions.specs.declared.Prediction.{Prediction}
+use Rattle.motion.specs.declared.BlockMotion.{BlockMotion}
+use Rattle.gather.specs.declared.Corners.{Corners}
+use Rattle.macroblock.specs.declared.AxisRead.{AxisRead}
+use Rattle.macroblock.specs.declared.Fixed.{Fixed}
+use Rattle.macroblock.specs.declared.Sort.{Sort}
+use Rattle.macroblock.specs.declared.Sort.the-variants.{Inherited, Intra, Outside}
+use Rattle.definitions.specs.Basics.{between, four, minus, pick}
+use Rattle.definitions.specs.Blocks.{rasterOf}
+use Rattle.definitions.specs.Record.{laidOut, narrow, splitSaid}
+use Rattle.definitions.specs.Inheriting.{at, chosen, mostlyIntra, motionAt, resolved, unused, zeroMotion}
+use Rattle.definitions.specs.Answer.{dividedBy, withoutMotion}
+use Rattle.definitions.proofs.Choices.{both-false, four-at, no, pick-cases, yes}
+use Rattle.definitions.proofs.Promises.{split-said}
+use Rattle.definitions.proofs.Records.{raster-below}
+use Rattle.definitions.proofs.Steps.{Both, resolved-keeps, resolved-settled}
+use Rattle.motion.specs.ByValue.{AllWritable, InWords, Writable, motionIn, motionsIn, quadrantsIn, zeroBlock}
+use Rattle.motion.specs.declared.Scale.{Scale}
+use Rattle.motion.specs.declared.Scales.{Scales}
+use Rattle.motion.specs.Scales.{AcceptedScale, AcceptedScales, allScaled, motionScaled, scaledWith}
+use Rattle.writing.proofs.Rounded.{fitting, reference-fits}
+use mir.Syntax.{w16}
+use mir.Val.{SFits}
+use Rattle.gather.specs.Reads.{Readable, ReadableAt, Rising, beside, bitOf, cornersBy, gatheredBy, motionBy, motionRead, rowAmong, setAmong, setBy}
+use Rattle.gather.proofs.Sets.{set-corners}
+use Rattle.macroblock.specs.Made.{answerBy, answerFor, inheritedInside, motionsInside, originBy, resolvedInside, setInside, sortBy, sortInside, writtenBy, writtenInside}
+use Rattle.macroblock.proofs.Motions.{Kept, read-kept}
+
+-- ---- what steps 1 to 3 leave can be written
+module _ (width : ℕ) (across down : List ℕ) (base : List ℤ) (readable : Readable width across down base) where
+  abbrev gathered : List (List Motion)
+  gathered = gatheredBy width across down base
+
+  gathered-kept : (q k : ℕ) → q < 4 → k < 4 → Both Kept (at gathered q k)
+  unfolding gatheredBy
+  gathered-kept q k hq hk =
+      let quadrant : ℕ → List Motion = λ j. four (λ i. motionBy width across down base (rasterOf j i)) in
+      let e = ap (λ (l : List Motion). getD l k zeroMotion) (four-at quadrant [] q hq) ∙ four-at (λ i. motionBy width across down base (rasterOf q i)) zeroMotion k hk in
+      subst (Both Kept) (sym e) (read-kept width base _ _ (readable (rasterOf q k) (raster-below q k hq hk)))
+
+  kept : (set q k : ℕ) → q < 4 → k < 4 → Both Kept (at (resolved set gathered) q k)
+  kept set = resolved-keeps Kept (record { range = record { x = refl; y = refl }; reference = refl }) set gathered gathered-kept
+
+  pub writable : (set : ℕ) (m : List (List BlockMotion)) → quadrantsIn m ≡ resolved set gathered → AllWritable m
+  writable set m e q hq =
+      let here : getD (quadrantsIn m) q [] ≡ motionsIn (getD m q []) = four-at (λ j. motionsIn (getD m j [])) [] q hq in
+      let block : (k : ℕ) → k < 4 → getD (getD (quadrantsIn m) q []) k zeroMotion ≡ motionIn (getD (getD m q []) k zeroBlock) =
+      λ k hk. ap (λ (l : List Motion). getD l k zeroMotion) here ∙ four-at (λ j. motionIn (getD (getD m q []) j zeroBlock)) zeroMotion k hk in
+      let all : (k : ℕ) → k < 4 → Both Kept (motionIn (getD (getD m q []) k zeroBlock)) =
+      λ k hk. subst (Both Kept) (block k hk) (subst (λ (l : List (List Motion)). Both Kept (at l q k)) (sym e) (kept set q k hq hk)) in
+      let settled = resolved-settled set gathered q hq in
+      let same : (k : ℕ) → getD (getD (quadrantsIn m) q []) k zeroMotion ≡ getD (getD (resolved set gathered) q []) k zeroMotion = λ k. ap (λ (l : List (List Motion)). getD (getD l q []) k zeroMotion) e in
+      record {
+        blocks = λ k hk. record { referring = (all k hk .0 .reference, all k hk .1 .reference); vectors = (all k hk .0 .range, all k hk .1 .range) };
+        one = λ k hk. (
+          ap (λ (n : Motion). n .list0 .reference) (sym (block k hk) ∙ same k) ∙ (settled .one0 k hk ∙ ap (λ (n : Motion). n .list0 .reference) (sym (same 0) ∙ block 0 (omega arith))),
+          ap (λ (n : Motion). n .list1 .reference) (sym (block k hk) ∙ same k) ∙ (settled .one1 k hk ∙ ap (λ (n : Motion). n .list1 .reference) (sym (same 0) ∙ block 0 (omega arith))),
+        );
+      }
+
+-- ---- bits of which none is set
+no-bit : bitOf false ≡ 0
+unfolding pick
+no-bit = refl
+
+either : (x : List ℕ) (i n : ℕ) → beside x i n n ≡ n
+either x i n = pick-cases (λ (k : ℕ). k ≡ n) _ n n (λ t. refl) (λ t. refl)
+
+-- ---- inside
+module _ (f : Fixed) (across down : List ℕ) (base : List ℤ) where
+  -- what a function hands back and leaves in its words
+  abbrev Gives : Sort → List ℤ → Type 0
+  Gives s words = (s ≡ sortInside f across down base) × (words ≡ writtenInside f across down base)
+
+  module _ {set : ℕ} (is : set ≡ setInside f across down base) where
+    pub made-intra : mostlyIntra set ≡ true → {words : List ℤ} → words ≡ withoutMotion 0 → Gives Intra words
+    unfolding sortInside writtenInside
+    made-intra t w = let m = ap mostlyIntra (sym is) ∙ t in (sym (yes _ _ m), w ∙ sym (yes _ _ m))
+
+    pub made-inherited : mostlyIntra set ≡ false → {words : List ℤ} → words ≡ inheritedInside f across down base → Gives Inherited words
+    unfolding sortInside writtenInside
+    made-inherited t w = let m = ap mostlyIntra (sym is) ∙ t in (sym (no _ _ m), w ∙ sym (no _ _ m))
+
+    pub inherited-written : {m : List (List Motion)} → m ≡ resolved set (gatheredBy (f .width) across down base)
+        → laidOut (dividedBy (chosen (allScaled (f .scales) m)) (motionAt (allScaled (f .scales) m))) ≡ inheritedInside f across down base
+    unfolding inheritedInside motionsInside resolvedInside
+    inherited-written e =
+        let p = e ∙ ap (λ (s : ℕ). resolved s (gatheredBy (f .width) across down base)) is in
+        λ i. laidOut (dividedBy (chosen (allScaled (f .scales) (p i))) (motionAt (allScaled (f .scales) (p i))))
+
+  -- the set by the corners
+  module _ (a : Rising across) (d : Rising down) {c : Corners} (corners : c ≡ cornersBy (f .width) across down base) where
+    pub set-is : {set : ℕ} → set ≡ setAmong c across down → set ≡ setInside f across down base
+    set-is e = e ∙ (ap (λ (k : Corners). setAmong k across down) corners ∙ set-corners (f .width) across down base a d)
+
+    clear-corners : Corners
+    clear-corners = record { first = false; right = false; below = false; diagonal = false }
+
+    none-set : setAmong clear-corners across down ≡ 0
+    unfolding clear-corners setAmong rowAmong
+    none-set = rw (no-bit, either across 1 0, either across 2 0, either across 3 0, either down 1 0, either down 2 0, either down 3 0)
+
+    pub no-corner : (((c .first || c .right) || c .below) || c .diagonal) ≡ false → 0 ≡ setInside f across down base
+    unfolding clear-corners
+    no-corner e =
+        let abc = both-false ((c .first || c .right) || c .below) (c .diagonal) e in
+        let ab = both-false (c .first || c .right) (c .below) (abc .0) in
+        let a = both-false (c .first) (c .right) (ab .0) in
+        let clear : c ≡ clear-corners = λ i. record { first = a .0 i; right = a .1 i; below = ab .1 i; diagonal = abc .1 i } in
+        set-is (sym (ap (λ (k : Corners). setAmong k across down) clear ∙ none-set))
+
+-- ---- a motion that is scaled fits its words
+module _ (s : Scales) (m r : BlockMotion) (accepted : AcceptedScales s) (writable-m : Writable m) (is : motionIn r ≡ motionScaled s (motionIn m)) where
+  word-fits : (t : Scale) (v : ℤ) → AcceptedScale t → between (minus narrow) (pos (narrow - 1)) v ≡ true → SFits w16 (scaledWith t v)
+  word-fits t v a h = let p = fitting t v a h in subst (SFits w16) (p .is) (p .fits)
+
+  handed : (f : Motion → ℤ) → SFits w16 (f (motionScaled s (motionIn m))) → SFits w16 (f (motionIn r))
+  handed f h = subst (SFits w16) (sym (ap f is)) h
+
+  pub scaled-words : InWords r
+  scaled-words =
+      let v = writable-m .vectors in
+      record {
+        r0 = handed (λ n. n .list0 .reference) (reference-fits (m .r0) (writable-m .referring .0));
+        r1 = handed (λ n. n .list1 .reference) (reference-fits (m .r1) (writable-m .referring .1));
+        x0 = handed (λ n. n .list0 .x) (word-fits (s .horizontal) (m .x0) (accepted .horizontal) (v .0 .x));
+        y0 = handed (λ n. n .list0 .y) (word-fits (s .vertical) (m .y0) (accepted .vertical) (v .0 .y));
+        x1 = handed (λ n. n .list1 .x) (word-fits (s .horizontal) (m .x1) (accepted .horizontal) (v .1 .x));
+        y1 = handed (λ n. n .list1 .y) (word-fits (s .vertical) (m .y1) (accepted .vertical) (v .1 .y));
+      }
+
+-- a block that is read can be written
+pub read-writable : (width : ℕ) (base : List ℤ) (x y : ℕ) (m : BlockMotion) → ReadableAt width base x y → motionIn m ≡ motionRead width base x y → Writable m
+read-writable width base x y m r e =
+    let k = subst (Both Kept) (sym e) (read-kept width base x y r) in
+    record { referring = (k .0 .reference, k .1 .reference); vectors = (k .0 .range, k .1 .range) }
+
+-- ---- in or out of the window
+module _ (f : Fixed) (h v : AxisRead) (base : List ℤ) where
+  abbrev GivesAny : Sort → List ℤ → Type 0
+  GivesAny s words = (s ≡ sortBy f h v base) × (words ≡ writtenBy f h v base)
+
+  pub placed-in : (h .inside && v .inside) ≡ true → {s : Sort} {words : List ℤ} → s ≡ sortInside f (h .reads) (v .reads) base → words ≡ writtenInside f (h .reads) (v .reads) base → GivesAny s words
+  unfolding sortBy writtenBy
+  placed-in e p q = (p ∙ sym (yes _ _ e), q ∙ sym (yes _ _ e))
+
+  pub placed-out : (h .inside && v .inside) ≡ false → {words : List ℤ} → words ≡ withoutMotion 5 → GivesAny Outside words
+  unfolding sortBy writtenBy
+  placed-out e q = (sym (no _ _ e), q ∙ sym (no _ _ e))
+
+-- ---- the answer, and where it inherits the split that its record says
+inherits : Sort → Bool
+inherits Inherited = true
+inherits Intra = false
+inherits Outside = false
+
+told : (t u : Bool) (a b c : List ℤ) → inherits (pick t (pick u Intra Inherited) Outside) ≡ true → pick t (pick u a b) c ≡ b
+unfolding inherits pick
+told true true a b c e = absurd (true≢false (sym e))
+told true false a b c e = refl
+told false u a b c e = absurd (true≢false (sym e))
+
+module _ (f : Fixed) (h v : AxisRead) (base : List ℤ) where
+  pub answered : {s : Sort} → s ≡ sortBy f h v base → answerFor s (originBy h v) (motionsInside f (h .reads) (v .reads) base) ≡ answerBy f h v base
+  unfolding answerBy
+  answered e = ap (λ (s : Sort). answerFor s (originBy h v) (motionsInside f (h .reads) (v .reads) base)) e
+
+  pub split-is : Inherited ≡ sortBy f h v base → {words : List ℤ} → words ≡ writtenBy f h v base → splitSaid words ≡ chosen (motionsInside f (h .reads) (v .reads) base)
+  unfolding inherits sortBy writtenBy sortInside writtenInside inheritedInside
+  split-is e w =
+      let M = motionsInside f (h .reads) (v .reads) base in
+      ap splitSaid (w ∙ told (h .inside && v .inside) (mostlyIntra (setInside f (h .reads) (v .reads) base)) _ _ _ (ap inherits (sym e))) ∙ split-said (chosen M) (motionAt M)

@@ -1,0 +1,103 @@
+-- What is made by the axes' readings is what document 01 makes. Assumes nothing.
+use Prim.Native.Nat.{ℕ}
+use mathlib.Core.Path.{_≡_, refl, sym, ap, _∙_}
+use mathlib.Core.Bool.{Bool, true, false, and-false, _&&_}
+use mathlib.Core.List.{List, []}
+use lib.IntN.{ℤ}
+use Rattle.definitions.specs.declared.Axes.{Axes}
+use Rattle.definitions.specs.declared.Answer.{Answer}
+use Rattle.definitions.specs.declared.Answer.the-variants.{Inherited, Intra, Outside}
+use Rattle.definitions.specs.declared.Motion.{Motion}
+use Rattle.definitions.specs.declared.Origin.{Origin}
+use Rattle.macroblock.specs.declared.AxisRead.{AxisRead}
+use Rattle.macroblock.specs.declared.Fixed.{Fixed}
+use Rattle.macroblock.specs.declared.Sort.{Sort}
+use Rattle.macroblock.specs.declared.Sort.the-variants.{Inherited as SortInherited, Intra as SortIntra, Outside as SortOutside}
+use Rattle.definitions.specs.Basics.{pick}
+use Rattle.definitions.specs.Geometry.{insideAxis, inside, sampleOf}
+use Rattle.definitions.specs.BlockMap.{stepOf, addressRead, blockRead}
+use Rattle.definitions.specs.Inheriting.{chosen, gathered, inheritedMotions, intraSet, mostlyIntra, motionAt, resolved}
+use Rattle.definitions.specs.Record.{laidOut}
+use Rattle.definitions.specs.Answer.{Made, answerOf, dividedBy, madeOf, originAt, withoutMotion, writtenFor}
+use Rattle.definitions.proofs.Choices.{yes, no, and-intro}
+use Rattle.definitions.proofs.Answers.{made-outside}
+use Rattle.motion.proofs.ByScales.{all-by-scales}
+use Rattle.gather.specs.Reads.{motionRead, setBy, gatheredBy}
+use Rattle.macroblock.specs.Made.{answerBy, answerFor, fixedOf, inheritedInside, madeBy, motionsInside, nowhere, originBy, readIn, readOf, resolvedInside, setInside, sortBy, sortInside, writtenBy, writtenInside}
+
+-- an answer and its record, where it is intra (u) or inherits
+inside-answer : (u : Bool) (o : Origin) (m : List (List Motion)) → pick u (Intra o) (Inherited o (chosen m)) ≡ answerFor (pick u SortIntra SortInherited) o m
+unfolding pick
+inside-answer true o m = refl
+inside-answer false o m = refl
+
+inside-written : (u : Bool) (o : Origin) (m : List (List Motion)) → writtenFor (pick u (Intra o) (Inherited o (chosen m))) m ≡ pick u (withoutMotion 0) (laidOut (dividedBy (chosen m) (motionAt m)))
+unfolding pick writtenFor
+inside-written true o m = refl
+inside-written false o m = refl
+
+module _ (g : Axes) (column row : ℕ) (base : List ℤ) where
+  abbrev hor : AxisRead
+  hor = readIn (stepOf (g .horizontal) (sampleOf column))
+
+  abbrev ver : AxisRead
+  ver = readIn (stepOf (g .vertical) (sampleOf row))
+
+  abbrev made : List (List Motion)
+  made = motionsInside (fixedOf g) (hor .reads) (ver .reads) base
+
+  abbrev set : ℕ
+  set = setInside (fixedOf g) (hor .reads) (ver .reads) base
+
+  motions-same : inheritedMotions g base column row ≡ made
+  unfolding inheritedMotions intraSet gathered addressRead blockRead motionsInside resolvedInside setBy gatheredBy motionRead
+  motions-same = sym (all-by-scales g refl (resolvedInside (fixedOf g) (hor .reads) (ver .reads) base))
+
+  answer-same : inside g column row ≡ true → answerOf g base column row ≡ pick (mostlyIntra set) (Intra (originBy hor ver)) (Inherited (originBy hor ver) (chosen made))
+  unfolding answerOf originAt intraSet addressRead setBy
+  answer-same e = yes _ _ e ∙ ap (λ (m : List (List Motion)). pick (mostlyIntra set) (Intra (originBy hor ver)) (Inherited (originBy hor ver) (chosen m))) motions-same
+
+  pub made-by : inside g column row ≡ true → madeOf g base column row ≡ madeBy (fixedOf g) hor ver base
+  unfolding madeOf madeBy answerBy writtenBy sortBy sortInside writtenInside inheritedInside
+  made-by e =
+      let p = answer-same e in
+      let q = motions-same in
+      let sort = yes {t = hor .inside && ver .inside} (pick (mostlyIntra set) SortIntra SortInherited) SortOutside refl in
+      let written = yes {t = hor .inside && ver .inside} (pick (mostlyIntra set) (withoutMotion 0) (laidOut (dividedBy (chosen made) (motionAt made)))) (withoutMotion 5) refl in
+      (λ i. record { answer = p i; written = writtenFor (p i) (q i) })
+      ∙ ((λ i. record { answer = inside-answer (mostlyIntra set) (originBy hor ver) made i; written = inside-written (mostlyIntra set) (originBy hor ver) made i })
+      ∙ (λ i. record { answer = answerFor (sym sort i) (originBy hor ver) made; written = sym written i }))
+
+-- in or out of the window
+module _ (g : Axes) (column row : ℕ) (base : List ℤ) where
+  abbrev across : AxisRead
+  across = readOf (g .horizontal) column
+
+  abbrev down : AxisRead
+  down = readOf (g .vertical) row
+
+  abbrev nothing : Made
+  nothing = record { answer = Outside; written = writtenFor Outside [] }
+
+  out-made : (h v : AxisRead) → (h .inside && v .inside) ≡ false → nothing ≡ madeBy (fixedOf g) h v base
+  unfolding madeBy answerBy sortBy writtenBy writtenFor
+  out-made h v e =
+      let sort = no (sortInside (fixedOf g) (h .reads) (v .reads) base) SortOutside e in
+      let written = no (writtenInside (fixedOf g) (h .reads) (v .reads) base) (withoutMotion 5) e in
+      λ i. record { answer = answerFor (sym sort i) (originBy h v) (motionsInside (fixedOf g) (h .reads) (v .reads) base); written = sym written i }
+
+  by-window : (a b : Bool) → insideAxis (g .horizontal) (sampleOf column) ≡ a → insideAxis (g .vertical) (sampleOf row) ≡ b → madeOf g base column row ≡ madeBy (fixedOf g) across down base
+  unfolding readOf
+  by-window true true p q =
+      let x : across ≡ hor g column row base = yes _ _ p in
+      let y : down ≡ ver g column row base = yes _ _ q in
+      made-by g column row base (and-intro p q) ∙ sym (λ i. madeBy (fixedOf g) (x i) (y i) base)
+  by-window true false p q =
+      let y : down ≡ nowhere = no _ _ q in
+      made-outside g base column row (rw (p, q)) ∙ (out-made across nowhere (and-false (across .inside)) ∙ sym (λ i. madeBy (fixedOf g) across (y i) base))
+  by-window false b p q =
+      let x : across ≡ nowhere = no _ _ p in
+      made-outside g base column row (rw p) ∙ (out-made nowhere down refl ∙ sym (λ i. madeBy (fixedOf g) (x i) down base))
+
+  pub placed-by : madeOf g base column row ≡ madeBy (fixedOf g) across down base
+  placed-by = by-window (insideAxis (g .horizontal) (sampleOf column)) (insideAxis (g .vertical) (sampleOf row)) refl refl
