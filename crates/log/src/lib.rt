@@ -22,7 +22,7 @@ use geometry::Checked;
 use geometry::Geometry;
 use log_lines::put_line;
 use log_picture::picture_lines;
-use records::check::check;
+use scan::check;
 use sync_text::TEXT_WORDS;
 use sync_text::read_text;
 

@@ -36,7 +36,7 @@ use macroblock::axis_read;
 use macroblock::fixed_of;
 use macroblock::make;
 use macroblock::read_nowhere;
-use records::check::check;
+use scan::check;
 
 // The horizontal axis at each column of the picture; 256 is the most.
 fn column_reads(a: Axis) -> [AxisRead; 256]

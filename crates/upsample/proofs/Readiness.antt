@@ -1,6 +1,6 @@
 -- A macroblock inside an accepted geometry: the records that it names lie in the base, and where those are well formed it can be made. Assumes nothing.
 use Prim.Native.Nat.{ℕ, _+_, _*_, _≤_, _<_}
-use mathlib.Core.Path.{_≡_, sym, subst, _∙_}
+use mathlib.Core.Path.{_≡_, refl, sym, subst, _∙_}
 use mathlib.Core.Bool.{true, false, _&&_}
 use mathlib.Core.List.{List, [], List·Memᴰ}
 use native.Mathlib.Nat.{mul-le-mul-right}
@@ -20,8 +20,9 @@ use Rattle.definitions.proofs.Accepted.{across-inside, down-inside}
 use Rattle.definitions.proofs.Addresses.{address-named, address-below}
 use Rattle.definitions.proofs.Map.{f-below}
 use Rattle.macroblock.specs.declared.AxisRead.{AxisRead}
-use Rattle.macroblock.specs.Made.{originBy, readIn, readOf, Ready}
-use Rattle.macroblock.proofs.Reading.{read-says}
+use Rattle.macroblock.specs.Made.{fixedOf, originBy, readIn, readOf, Ready}
+use Rattle.macroblock.proofs.Reading.{read-says, step-rises}
+use Rattle.motion.proofs.ByScales.{accepted}
 use Rattle.common.specs.Bases.{BaseRight}
 use Rattle.upsample.specs.Staged.{InBase}
 use Rattle.common.proofs.Sizes.{base-small}
@@ -53,12 +54,16 @@ module _ (g : Axes) (base : List ℤ) (right : BaseRight g base) (column row : �
         let b = right .axes .vertical .sized .base-high in
         omega (arith, f-below (baseSize (g .vertical)) (scaledSize (g .vertical)) (cOf (g .vertical) (sampleOf row)) down-in)
 
-    ready : ((a : ℕ) → List·Memᴰ a (addressesOf g (originAt g column row)) → wellFormed narrow (recordAt base a) ≡ true) → Ready g hor ver base
+    ready : ((a : ℕ) → List·Memᴰ a (addressesOf g (originAt g column row)) → wellFormed narrow (recordAt base a) ≡ true) → Ready (fixedOf g) (hor .reads) (ver .reads) base
     unfolding addressRead
     ready formed =
+        let within = both-true (insideAxis (g .horizontal) (sampleOf column)) (insideAxis (g .vertical) (sampleOf row)) e in
         let named : (i : ℕ) → i < 16 → List·Memᴰ (addressRead g column row i) (addressesOf g (originAt g column row)) = address-named g column row across-in down-in in
         record {
-          axes = right .axes;
+          scales = accepted g refl (right .axes);
+          width = omega (arith, right .axes .horizontal .sized .base-high);
+          columns = step-rises (g .horizontal) column (right .axes .horizontal) (within .0);
+          rows = step-rises (g .vertical) row (right .axes .vertical) (within .1);
           readable = λ i h. record { low = named-in _ (named i h) .1; fits = named-in _ (named i h) .0; formed = formed _ (named i h) };
         }
 
@@ -69,7 +74,7 @@ module _ (g : Axes) (base : List ℤ) (right : BaseRight g base) (column row : �
     pub named-below : (h .inside && v .inside) ≡ true → InBase base (addressesOf g (originBy h v))
     pub named : (h .inside && v .inside) ≡ true → addressesRead g column row ≡ addressesOf g (originBy h v)
     pub unnamed : (h .inside && v .inside) ≡ false → addressesRead g column row ≡ []
-    pub made-ready : (h .inside && v .inside) ≡ true → ((a : ℕ) → List·Memᴰ a (addressesRead g column row) → wellFormed narrow (recordAt base a) ≡ true) → Ready g h v base
+    pub made-ready : (h .inside && v .inside) ≡ true → ((a : ℕ) → List·Memᴰ a (addressesRead g column row) → wellFormed narrow (recordAt base a) ≡ true) → Ready (fixedOf g) (h .reads) (v .reads) base
 
   known : Known (readOf (g .horizontal) column) (readOf (g .vertical) row)
   unfolding readOf addressesRead originAt
@@ -87,7 +92,7 @@ module _ (g : Axes) (base : List ℤ) (right : BaseRight g base) (column row : �
         named-below = λ t. to (λ h v. InBase base (addressesOf g (originBy h v))) (sym says ∙ t) (named-in (sym says ∙ t));
         named = λ t. let e = sym says ∙ t in yes _ _ e ∙ (λ i. addressesOf g (originBy (sym (x e) i) (sym (y e) i)));
         unnamed = λ t. no _ _ (sym says ∙ t);
-        made-ready = λ t f. let e = sym says ∙ t in to (λ h v. Ready g h v base) e (ready e (λ a m. f a (subst (List·Memᴰ a) (sym (yes _ _ e)) m)));
+        made-ready = λ t f. let e = sym says ∙ t in to (λ h v. Ready (fixedOf g) (h .reads) (v .reads) base) e (ready e (λ a m. f a (subst (List·Memᴰ a) (sym (yes _ _ e)) m)));
       }
 
   pub known-of : (h v : AxisRead) → h ≡ readOf (g .horizontal) column → v ≡ readOf (g .vertical) row → Known h v

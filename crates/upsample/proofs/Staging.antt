@@ -23,7 +23,7 @@ use Rattle.definitions.specs.Raster.{baseCount}
 use Rattle.definitions.proofs.Choices.{yes, no}
 use Rattle.definitions.proofs.Verdicts.{then-verdict, refused-first}
 use Rattle.macroblock.specs.declared.AxisRead.{AxisRead}
-use Rattle.macroblock.specs.Made.{readOf, madeBy}
+use Rattle.macroblock.specs.Made.{answerBy, fixedOf, madeBy, readOf, writtenBy}
 use Rattle.macroblock.proofs.Paper.{placed-by}
 use Rattle.upsample.specs.Staged.{axesTests, axesCall, sizedCall}
 
@@ -55,10 +55,10 @@ module _ (g : Axes) (base : List ℤ) (column row : ℕ) (words : List ℤ) wher
   sized-refused r e = handed _ _ _ (ap (λ (v : Verdict). byVerdict v Declined words answers) e)
 
   pub sized-answered : verdict ≡ Accepted → (h v : AxisRead) → h ≡ readOf (g .horizontal) column → v ≡ readOf (g .vertical) row → (answer : Answer) (written : List ℤ)
-      → answer ≡ madeBy g h v base .answer → written ≡ madeBy g h v base .written → Handed (Answered answer) written (sizedCall g base column row words)
-  unfolding sizedCall
+      → answer ≡ answerBy (fixedOf g) h v base → written ≡ writtenBy (fixedOf g) h v base → Handed (Answered answer) written (sizedCall g base column row words)
+  unfolding sizedCall madeBy
   sized-answered e h v p q answer written a w =
-      let m : madeBy g h v base ≡ made = (λ i. madeBy g (p i) (q i) base) ∙ sym (placed-by g column row base) in
+      let m : madeBy (fixedOf g) h v base ≡ made = (λ i. madeBy (fixedOf g) (p i) (q i) base) ∙ sym (placed-by g column row base) in
       let x : answer ≡ made .answer = a ∙ ap (λ (k : Made). k .answer) m in
       let y : written ≡ made .written = w ∙ ap (λ (k : Made). k .written) m in
       handed _ _ _ (ap (λ (u : Verdict). byVerdict u Declined words answers) e ∙ (λ i. record { reply = Answered (sym x i); words = sym y i }))

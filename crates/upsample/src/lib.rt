@@ -29,7 +29,7 @@ use macroblock::AxisRead;
 use macroblock::answer;
 use macroblock::axis_read;
 use macroblock::fixed_of;
-use records::check::check;
+use scan::check;
 
 // ---- The records that a macroblock reads
 // One row of them: one column, or two next to each other.

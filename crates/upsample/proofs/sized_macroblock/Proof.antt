@@ -7,13 +7,15 @@ use Rattle.definitions.specs.Refusals.{verdictOf, recordTests, addressesRead}
 use mathlib.Core.Bool.{true≢false}
 use Prim.Native.Nat.{ℕ}
 use mathlib.Core.List.{List}
-use mathlib.Core.Path.{_≡_, sym, ap, _∙_}
+use mathlib.Core.Path.{_≡_, sym, ap, subst, _∙_}
+use Rattle.macroblock.specs.declared.Fixed.{Fixed}
+use Rattle.macroblock.specs.Made.{Ready, answerBy, writtenBy}
 use borrow.Author.Needs.{needs}
 use Rattle.upsample.proofs.sized_macroblock.Statement.{statement}
 use Rattle.upsample.proofs.sized_macroblock.Tie as tie
 
-scales-of-requires : tie.Need-scales-of-requires
-scales-of-requires c κs = search needs
+fixed-of-requires : tie.Need-fixed-of-requires
+fixed-of-requires c κs = search needs
 
 axis-read-requires : tie.Need-axis-read-requires
 axis-read-requires c κs = search needs
@@ -43,13 +45,14 @@ check-read-requires c κs =
 enum-told : tie.Need-enum-told
 enum-told c = search needs
 
-make-requires : tie.Need-make-requires
-make-requires c κs =
+answer-requires : tie.Need-answer-requires
+answer-requires c κs =
     let a = c .before .before .before .before .before .before .before .before .before in
     let s = a .before in
-    let k = known (c .before .before .before .before .before .before .before) in
+    let r = c .before .before .before .before .before .before .before in
+    let k = known r in
     let e = checked-is (c .before .before .before) ∙ c .before .enum-told .given .1 in
-    (λ t. k .made-ready t (all-formed narrow (s .args .base .now) (addressesRead (s .args .g) (s .args .column) (s .args .row)) e), s .pre .1, a .scales-of .ensures)
+    (λ t. subst (λ (f : Fixed). Ready f (r .before .axis-read .result .reads) (r .axis-read2 .result .reads) (s .args .base .now)) (sym (a .fixed-of .ensures)) (k .made-ready t (all-formed narrow (s .args .base .now) (addressesRead (s .args .g) (s .args .column) (s .args .row)) e)), s .pre .1)
 
 enum-known-r : tie.Need-enum-known-r
 enum-known-r c = search needs
@@ -62,15 +65,15 @@ returns c =
     let a = c .before .before .before .before .before .before .before .before .before in
     let s = a .before .before .before in
     let e = checked-is (c .before .before .before .before .before) ∙ c .before .before .before .enum-told .given .1 in
-    sized-answered (s .args .g) (s .args .base .now) (s .args .column) (s .args .row) (s .args .out .now) e (a .before .axis-read .result) (a .axis-read2 .result) (a .before .axis-read .ensures) (a .axis-read2 .ensures) _ _ (c .before .make .ensures .0) (c .before .make .ensures .1)
+    sized-answered (s .args .g) (s .args .base .now) (s .args .column) (s .args .row) (s .args .out .now) e (a .before .axis-read .result) (a .axis-read2 .result) (a .before .axis-read .ensures) (a .axis-read2 .ensures) _ _ (c .before .answer .ensures .0 ∙ ap (λ (f : Fixed). answerBy f (a .before .axis-read .result) (a .axis-read2 .result) (s .args .base .now)) (a .before .before .fixed-of .ensures)) (c .before .answer .ensures .1 ∙ ap (λ (f : Fixed). writtenBy f (a .before .axis-read .result) (a .axis-read2 .result) (s .args .base .now)) (a .before .before .fixed-of .ensures))
 
 returns-2 : tie.Need-returns-2
 returns-2 c =
     let s = c .before .before .before .before .before .before .before .before .before .before in
     sized-refused (s .args .g) (s .args .base .now) (s .args .column) (s .args .row) (s .args .out .now) (c .before .r .given .0 .0) (checked-is (c .before .before .before) ∙ c .before .r .given .1)
 
-make-requires-2 : tie.Need-make-requires-2
-make-requires-2 c κs = (λ t. absurd (true≢false (sym t ∙ c .before .if1 .left)), c .before .before .before .before .before .before .before .pre .1, c .before .before .before .before .before .before .scales-of .ensures)
+answer-requires-2 : tie.Need-answer-requires-2
+answer-requires-2 c κs = (λ t. absurd (true≢false (sym t ∙ c .before .if1 .left)), c .before .before .before .before .before .before .before .pre .1)
 
 same-length-2 : tie.Need-same-length-2
 same-length-2 c = search needs
@@ -80,22 +83,22 @@ returns-3 c =
     let a = c .before .before .before .before .before .before in
     let s = a .before .before .before in
     let e = ap (λ (l : List ℕ). verdictOf (recordTests narrow (s .args .base .now) l)) (known a .unnamed (c .before .before .before .if1 .left)) in
-    sized-answered (s .args .g) (s .args .base .now) (s .args .column) (s .args .row) (s .args .out .now) (none-read (s .args .base .now) e) (a .before .axis-read .result) (a .axis-read2 .result) (a .before .axis-read .ensures) (a .axis-read2 .ensures) _ _ (c .before .make2 .ensures .0) (c .before .make2 .ensures .1)
+    sized-answered (s .args .g) (s .args .base .now) (s .args .column) (s .args .row) (s .args .out .now) (none-read (s .args .base .now) e) (a .before .axis-read .result) (a .axis-read2 .result) (a .before .axis-read .ensures) (a .axis-read2 .ensures) _ _ (c .before .answer2 .ensures .0 ∙ ap (λ (f : Fixed). answerBy f (a .before .axis-read .result) (a .axis-read2 .result) (s .args .base .now)) (a .before .before .fixed-of .ensures)) (c .before .answer2 .ensures .1 ∙ ap (λ (f : Fixed). writtenBy f (a .before .axis-read .result) (a .axis-read2 .result) (s .args .base .now)) (a .before .before .fixed-of .ensures))
 
 pub sized-macroblock-spec : {M : Type 1} → statement M
 sized-macroblock-spec =
     tie.close
     (tie.spec
-    scales-of-requires
+    fixed-of-requires
     axis-read-requires
     axis-read-requires-2
     check-read-requires
     enum-told
-    make-requires
+    answer-requires
     enum-known-r
     same-length
     returns
     returns-2
-    make-requires-2
+    answer-requires-2
     same-length-2
     returns-3)
