@@ -23,7 +23,7 @@ use Rattle.definitions.proofs.Choices.{yes, no, and-intro}
 use Rattle.definitions.proofs.Answers.{made-outside}
 use Rattle.motion.proofs.ByScales.{all-by-scales}
 use Rattle.gather.specs.Reads.{motionRead, setBy, gatheredBy}
-use Rattle.macroblock.specs.Made.{answerBy, answerFor, fixedOf, inheritedInside, madeBy, motionsInside, nowhere, originBy, readIn, readOf, resolvedInside, setInside, sortBy, sortInside, writtenBy, writtenInside}
+use Rattle.macroblock.specs.Made.{answerBy, answerFor, fixedOf, inheritedInside, madeBy, motionsInside, nowhere, originBy, readIn, readOf, resolvedInside, setInside, sortBy, sortInside, sortOf, writtenBy, writtenInside}
 
 -- an answer and its record, where it is intra (u) or inherits
 inside-answer : (u : Bool) (o : Origin) (m : List (List Motion)) → pick u (Intra o) (Inherited o (chosen m)) ≡ answerFor (pick u SortIntra SortInherited) o m
@@ -101,3 +101,13 @@ module _ (g : Axes) (column row : ℕ) (base : List ℤ) where
 
   pub placed-by : madeOf g base column row ≡ madeBy (fixedOf g) across down base
   placed-by = by-window (insideAxis (g .horizontal) (sampleOf column)) (insideAxis (g .vertical) (sampleOf row)) refl refl
+
+-- the sort is that of the answer
+answer-sort : (s : Sort) (o : Origin) (m : List (List Motion)) → s ≡ sortOf (answerFor s o m)
+answer-sort SortInherited o m = refl
+answer-sort SortIntra o m = refl
+answer-sort SortOutside o m = refl
+
+pub sort-is : (f : Fixed) (h v : AxisRead) (base : List ℤ) → sortBy f h v base ≡ sortOf (madeBy f h v base .answer)
+unfolding madeBy answerBy
+sort-is f h v base = answer-sort (sortBy f h v base) (originBy h v) (motionsInside f (h .reads) (v .reads) base)

@@ -90,6 +90,11 @@ answerFor SortOutside o m = Outside
 answerFor SortIntra o m = Intra o
 answerFor SortInherited o m = Inherited o (chosen m)
 
+abbrev pub sortOf : Answer → Sort
+sortOf Outside = SortOutside
+sortOf (Intra o) = SortIntra
+sortOf (Inherited o s) = SortInherited
+
 unfoldable pub answerBy : Fixed → AxisRead → AxisRead → List ℤ → Answer
 answerBy f h v base = answerFor (sortBy f h v base) (originBy h v) (motionsInside f (h .reads) (v .reads) base)
 

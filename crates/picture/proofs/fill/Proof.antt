@@ -1,7 +1,7 @@
 -- `picture::fill` meets its contract. Assumes nothing.
 use Prim.Native.Nat.{ℕ, _+_, _-_, _*_, _<_, _≤_}
 use mathlib.Core.List.{_++_}
-use mathlib.Core.Path.{_≡_, sym, ap, _∙_}
+use mathlib.Core.Path.{_≡_, refl, sym, ap, subst, _∙_}
 use native.Mathlib.Omega.{arith}
 use lib.ListN.{length, getD, drop, length-take, length-drop}
 use Rattle.definitions.specs.Basics.{upTo}
@@ -11,7 +11,9 @@ use Rattle.definitions.specs.Calls.{madeAt, countsOf}
 use Rattle.definitions.specs.Raster.{fullCount}
 use Rattle.definitions.proofs.Demand.{made-length}
 use Rattle.definitions.proofs.Parts.{parts, parts-none, parts-all, part-back}
-use Rattle.macroblock.specs.Made.{readOf}
+use Rattle.macroblock.specs.declared.Fixed.{Fixed}
+use Rattle.macroblock.specs.Made.{Makeable, fixedOf, madeBy, readOf, sortOf, writtenBy}
+use Rattle.macroblock.proofs.Paper.{sort-is}
 use Rattle.picture.specs.Reads.{noRead}
 use Rattle.common.proofs.Located.{row-below}
 use Rattle.common.proofs.Counted.{counts-none, counts-next, counts-low}
@@ -22,15 +24,15 @@ use Rattle.picture.proofs.fill.Statement.{statement}
 use Rattle.picture.proofs.fill.Tie as tie
 
 abbrev Inv-loop : tie.InvT-loop
-Inv-loop g base out₀ scales columns width total counts₀ at₀ v₀ a₀ out counts at v a =
+Inv-loop g base out₀ fixed columns width total counts₀ at₀ v₀ a₀ out counts at v a =
     (a ≤ total) × (length out ≡ recordWords * total) × (out ≡ parts a (λ k. madeAt g base k .written) ++ drop (recordWords * a) out₀) × (counts ≡ countsOf (upTo a (madeAt g base)))
     × (at .row * width + at .column ≡ a) × (at .column < width) × (0 < at .column → v ≡ readOf (g .vertical) (at .row))
 
 abbrev μ-loop : tie.MeasureT-loop
-μ-loop g base out₀ scales columns width total counts₀ at₀ v₀ a₀ out counts at v a = total - a
+μ-loop g base out₀ fixed columns width total counts₀ at₀ v₀ a₀ out counts at v a = total - a
 
-scales-of-requires : tie.Need-scales-of-requires Inv-loop μ-loop
-scales-of-requires c κs = search needs
+fixed-of-requires : tie.Need-fixed-of-requires Inv-loop μ-loop
+fixed-of-requires c κs = search needs
 
 column-reads-requires : tie.Need-column-reads-requires Inv-loop μ-loop
 column-reads-requires c κs = search needs
@@ -93,10 +95,13 @@ make-requires : tie.Need-make-requires Inv-loop μ-loop
 make-requires c κs =
     let l = c .before .before .before .before .before in
     let s = c .before .before .before .before .before .before .before .before .before .before .before in
-    (makeable (s .args .g) (l .loop .at .column) (l .loop .at .row) (s .args .base .now) (s .pre .0) _ _ (column-there (c .before .before .before .before)) (c .before .row-read .ensures), simp (length-take, length-drop) (omega arith), c .before .before .before .before .before .before .before .before .before .before .scales-of .ensures)
+    let h = getD (c .before .before .before .before .before .before .before .before .before .column-reads .result) (l .loop .at .column) noRead in
+    let v = c .before .row-read .result in
+    (subst (λ (f : Fixed). Makeable f h v (s .args .base .now)) (sym (c .before .before .before .before .before .before .before .before .before .before .fixed-of .ensures))
+    (makeable (s .args .g) (l .loop .at .column) (l .loop .at .row) (s .args .base .now) (s .pre .0) h v (column-there (c .before .before .before .before)) (c .before .row-read .ensures)), simp (length-take, length-drop) (omega arith))
 
-count-requires : tie.Need-count-requires Inv-loop μ-loop
-count-requires c κs =
+count-sort-requires : tie.Need-count-sort-requires Inv-loop μ-loop
+count-sort-requires c κs =
     let l = c .before .before .before .before .before .before .before in
     let s = c .before .before .before .before .before .before .before .before .before .before .before .before .before in
     omega (arith, counts-low (madeAt (s .args .g) (s .args .base .now)) (l .loop .a) (l .loop .counts) (l .loop .inv .3), c .before .before .before .before .before .before .before .before .before .full-count .ensures .1, c .before .before .before .before .before .before .loop-test)
@@ -111,17 +116,23 @@ loop-less : tie.Need-loop-less Inv-loop μ-loop
 loop-less c = search needs
 
 loop-again : tie.Need-loop-again Inv-loop μ-loop
+unfolding madeBy
 loop-again c =
     let l = c .before .before .before .before .before .before .before .before .before in
     let s = c .before .before .before .before .before .before .before .before .before .before .before .before .before .before .before in
     let f = madeAt (s .args .g) (s .args .base .now) in
     let n = l .loop .a in
-    let m = made-there (s .args .g) (l .loop .at .column) (l .loop .at .row) (s .args .base .now) (s .pre .0) _ _ (column-there (c .before .before .before .before .before .before .before .before)) (c .before .before .before .before .before .row-read .ensures) n (l .loop .inv .5) (l .loop .inv .4) in
-    let p = c .before .before .before .make in (
+    let h = getD (c .before .before .before .before .before .before .before .before .before .before .before .before .before .column-reads .result) (l .loop .at .column) noRead in
+    let v = c .before .before .before .before .before .row-read .result in
+    let fixed = c .before .before .before .before .before .before .before .before .before .before .before .before .before .before .fixed-of .ensures in
+    let m = (λ i. madeBy (fixed i) h v (s .args .base .now)) ∙ made-there (s .args .g) (l .loop .at .column) (l .loop .at .row) (s .args .base .now) (s .pre .0) h v (column-there (c .before .before .before .before .before .before .before .before)) (c .before .before .before .before .before .row-read .ensures) n (l .loop .inv .5) (l .loop .inv .4) in
+    let p = c .before .before .before .make in
+    let sort = p .ensures .0 ∙ (sort-is _ h v (s .args .base .now) ∙ ap (λ (k : Made). sortOf (k .answer)) m) in
+    (
       omega (arith, c .before .before .before .before .before .before .before .before .loop-test),
       c .before .before .out .given .1 ∙ l .loop .inv .1,
-      part-back (λ k. f k .written) recordWords (made-length (s .args .g) (s .args .base .now)) (s .args .out .now) (l .loop .out) (p .last .1 .1 .1 .1 .1 .0) n (77 * n + 77 - 77 * n) (omega arith) (l .loop .inv .2) (p .ensures .1 ∙ ap (λ (k : Made). k .written) m),
-      counts-next f n (l .loop .counts) (c .before .count .result) (p .result) (l .loop .inv .3) (p .ensures .0 ∙ ap (λ (k : Made). k .answer) m) (c .before .count .ensures),
+      part-back (λ k. f k .written) recordWords (made-length (s .args .g) (s .args .base .now)) (s .args .out .now) (l .loop .out) (p .last .1 .1 .1 .1 .0) n (77 * n + 77 - 77 * n) (omega arith) (l .loop .inv .2) (p .ensures .1 ∙ ap (λ (k : Made). k .written) m),
+      counts-next f n (l .loop .counts) (c .before .count-sort .result) (f n .answer) (l .loop .inv .3) refl (c .before .count-sort .ensures (f n .answer) sort),
       c .next .ensures .0 ∙ ap (λ (k : ℕ). k + 1) (l .loop .inv .4),
       c .next .ensures .1 .0,
       λ h. c .before .before .before .before .before .row-read .ensures ∙ ap (readOf (s .args .g .vertical)) (sym (c .next .ensures .1 .1 h)),
@@ -147,7 +158,7 @@ fill-spec =
     (tie.spec
     Inv-loop
     μ-loop
-    scales-of-requires
+    fixed-of-requires
     column-reads-requires
     full-count-requires
     read-nowhere-requires
@@ -163,7 +174,7 @@ fill-spec =
     part-make-start
     part-make-end
     make-requires
-    count-requires
+    count-sort-requires
     next-requires
     add-a
     loop-less
