@@ -5,7 +5,7 @@ ghost use Rattle.definitions.specs.Log.{answerPieces, lineOf, logBytes, mbWord,
 ghost use Rattle.log_lines.specs.Put.{Put};
 ghost use Rattle.common.specs.Bases.{BaseFormed};
 ghost use Rattle.definitions.specs.Record.{narrow};
-ghost use Rattle.motion.specs.Scales.{scalesOf};
+ghost use Rattle.macroblock.specs.Made.{fixedOf};
 ghost use lib.ListN.{length};
 ghost use mathlib.Core.List.{[], _∷_};
 ghost use mathlib.Core.Path.{_≡_};
@@ -65,7 +65,7 @@ fn sync_line(out: &mut [u8], at: usize, total: u32, c: Counts) -> usize
 // ---- The picture
 // The answer at a column and row of the picture. Its words are not logged.
 fn answer_at(g: Axes, fixed: Fixed, base: &[i16], column: u32, row: u32) -> Answer
-    requires { ⌜ BaseFormed narrow g (now base) × (column < 256) × (row < 256) × (scales ≡ scalesOf g) ⌝ }
+    requires { ⌜ BaseFormed narrow g (now base) × (column < 256) × (row < 256) × (fixed ≡ fixedOf g) ⌝ }
     ensures { λ r. ⌜ r ≡ madeOf g (now (base .entry)) column row .answer ⌝ }
 {
     let h = axis_read(g.horizontal, column);

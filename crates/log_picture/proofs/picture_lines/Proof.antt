@@ -15,13 +15,13 @@ use Rattle.log_picture.proofs.picture_lines.Statement.{statement}
 use Rattle.log_picture.proofs.picture_lines.Tie as tie
 
 abbrev Inv-loop : tie.InvT-loop
-Inv-loop g base out₀ scales total counts₀ at₀ a₀ out counts at a = (a ≤ total) × Put out₀ 0 (firstLines g base a) out at × (counts ≡ countsOf (upTo a (madeAt g base)))
+Inv-loop g base out₀ fixed total counts₀ at₀ a₀ out counts at a = (a ≤ total) × Put out₀ 0 (firstLines g base a) out at × (counts ≡ countsOf (upTo a (madeAt g base)))
 
 abbrev μ-loop : tie.MeasureT-loop
-μ-loop g base out₀ scales total counts₀ at₀ a₀ out counts at a = total - a
+μ-loop g base out₀ fixed total counts₀ at₀ a₀ out counts at a = total - a
 
-scales-of-requires : tie.Need-scales-of-requires Inv-loop μ-loop
-scales-of-requires c κs = search needs
+fixed-of-requires : tie.Need-fixed-of-requires Inv-loop μ-loop
+fixed-of-requires c κs = search needs
 
 full-count-requires : tie.Need-full-count-requires Inv-loop μ-loop
 full-count-requires c κs = c .before .before .pre .0 .right .axes
@@ -52,7 +52,7 @@ row-at-requires : tie.Need-row-at-requires Inv-loop μ-loop
 row-at-requires c κs = (start (c .before) .pre .0 .right .axes, below (c .before))
 
 answer-at-requires : tie.Need-answer-at-requires Inv-loop μ-loop
-answer-at-requires c κs = (start (c .before .before) .pre .0, c .before .column-at .ensures .1, c .row-at .ensures .1, c .before .before .before .before .before .scales-of .ensures)
+answer-at-requires c κs = (start (c .before .before) .pre .0, c .before .column-at .ensures .1, c .row-at .ensures .1, c .before .before .before .before .before .fixed-of .ensures)
 
 -- its answer is that of address a
 answer : (c : tie.After-answer-at Inv-loop μ-loop)
@@ -125,7 +125,7 @@ picture-lines-spec =
     (tie.spec
     Inv-loop
     μ-loop
-    scales-of-requires
+    fixed-of-requires
     full-count-requires
     loop-holds
     column-at-requires
