@@ -5,8 +5,11 @@ ghost use lib.ListN.{length};
 ghost use lib.Seq.{sets};
 ghost use mathlib.Core.List.{[], _∷_};
 ghost use mathlib.Core.Path.{_≡_};
+ghost use mir.Syntax.{w16};
+ghost use mir.Val.{SFits};
 ghost use Rattle.definitions.specs.Record.{allOne, recordWords, laidOut};
-ghost use Rattle.definitions.specs.Text.{intra, whole, mb, spaced, Form, wordsFor, wordsOf};
+ghost use Rattle.definitions.specs.Text.{intra, whole, mb, spaced, Form, wholeMotion, wordsFor, wordsOf};
+ghost use Rattle.motion.specs.ByValue.{InWords, motionIn};
 ghost use Rattle.grammar.specs.Readers.{asRead, EntryTail, Fields, InText, NumbersAfter, StoresAt, TailOf, WordAfter};
 use definitions::RECORD_WORDS;
 use grammar::Got;
@@ -110,11 +113,33 @@ fn then_field(s: &[u8], r: Got, out: &mut [i16], from: usize) -> Got
 
 // A record of one motion in all blocks.
 fn put_record(out: &mut [i16], from: usize, kind: u8, m: BlockMotion)
-    requires { ⌜ from + recordWords ≤ length (now out) ⌝ }
-    ensures { λ _. ⌜ now (out .exit) ≡ sets (now (out .entry)) from (laidOut (allOne kind m)) ⌝ }
+    requires { ⌜ (from + recordWords ≤ length (now out)) × InWords m ⌝ }
+    ensures { λ _. ⌜ now (out .exit) ≡ sets (now (out .entry)) from (laidOut (allOne kind (motionIn m))) ⌝ }
 {
     let to = from + RECORD_WORDS;
     write_one(&mut out[from..to], kind, m);
+}
+
+// A number of a line, in 32 bits.
+fn wide(n: i16) -> i32
+    ensures { λ r. ⌜ (r ≡ n) × SFits w16 r ⌝ }
+{
+    n as i32
+}
+
+// The motion of six numbers: the references, and the vectors of list 0 and list 1.
+fn motion_of(six: [i16; 6]) -> BlockMotion
+    ensures is { λ r. ⌜ motionIn r ≡ wholeMotion six ⌝ }
+    ensures fits { λ r. ⌜ InWords r ⌝ }
+{
+    BlockMotion {
+        r0: wide(six[0]),
+        r1: wide(six[1]),
+        x0: wide(six[2]),
+        y0: wide(six[3]),
+        x1: wide(six[4]),
+        y1: wide(six[5]),
+    }
 }
 
 // The record of a line (whole (R0 R1) (X0 Y0 X1 Y1)) with these numbers.
@@ -122,15 +147,7 @@ fn put_whole(out: &mut [i16], from: usize, six: [i16; 6])
     requires { ⌜ from + recordWords ≤ length (now out) ⌝ }
     ensures { λ _. ⌜ now (out .exit) ≡ sets (now (out .entry)) from (wordsFor whole six) ⌝ }
 {
-    let m = BlockMotion {
-        r0: six[0] as i32,
-        r1: six[1] as i32,
-        x0: six[2] as i32,
-        y0: six[3] as i32,
-        x1: six[4] as i32,
-        y1: six[5] as i32,
-    };
-    put_record(out, from, 1, m);
+    put_record(out, from, 1, motion_of(six));
 }
 
 // What comes after the letter of a line (intra). The record is stored once all of it is read.

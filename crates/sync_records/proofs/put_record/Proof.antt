@@ -1,4 +1,5 @@
 -- `sync_records::put_record` meets its contract. Assumes nothing.
+use Rattle.motion.specs.ByValue.{motionIn}
 use Rattle.sync_records.proofs.Words.{record-put}
 use borrow.Author.Needs.{needs}
 use Rattle.sync_records.proofs.put_record.Statement.{statement}
@@ -28,7 +29,7 @@ same-length c = search needs
 returns : tie.Need-returns
 returns c =
     let a = c .before .before .before .args in
-    record-put (a .out .now) (a .from) (c .before .before .before .pre) (a .kind) (a .m) _ (c .before .write-one .ensures)
+    record-put (a .out .now) (a .from) (c .before .before .before .pre .0) (a .kind) (motionIn (a .m)) _ (c .before .write-one .ensures)
 
 pub put-record-spec : {M : Type 1} → statement M
 put-record-spec =
