@@ -1,7 +1,7 @@
 -- `writing::same_in` meets its contract. Assumes nothing.
 use Prim.Native.Nat.{_+_}
 use mathlib.Core.Bool.{_&&_}
-use borrow.Author.Needs.{needs}
+use borrow.Author.Needs.{needs, sfits-of}
 use Rattle.definitions.specs.Record.{wordOf}
 use Rattle.definitions.proofs.Motions.{word-same}
 use Rattle.writing.specs.Words.{wordsSame}
@@ -109,12 +109,12 @@ unfolding wordsSame
 returns c =
     let a = c .before .before .before .before .before .before .before .before .before .before .before .before .args in
     let word = wordOf (a .out .now) in
-    let e0 = word-same (word (a .r)) (word (a .t)) (search needs) (search needs) in
-    let e1 = word-same (word (a .r + 1)) (word (a .t + 1)) (search needs) (search needs) in
-    let e2 = word-same (word (a .k)) (word (a .j)) (search needs) (search needs) in
-    let e3 = word-same (word (a .k + 1)) (word (a .j + 1)) (search needs) (search needs) in
-    let e4 = word-same (word (a .k + 2)) (word (a .j + 2)) (search needs) (search needs) in
-    let e5 = word-same (word (a .k + 3)) (word (a .j + 3)) (search needs) (search needs) in
+    let e0 = word-same (word (a .r)) (word (a .t)) (sfits-of (c .before .before .before .before .before .before .before .before .before .before .before .result .given)) (sfits-of (c .before .before .before .before .before .before .before .before .before .before .result2 .given)) in
+    let e1 = word-same (word (a .r + 1)) (word (a .t + 1)) (sfits-of (c .before .before .before .before .before .before .before .before .before .result3 .given)) (sfits-of (c .before .before .before .before .before .before .before .before .result4 .given)) in
+    let e2 = word-same (word (a .k)) (word (a .j)) (sfits-of (c .before .before .before .before .before .before .before .result5 .given)) (sfits-of (c .before .before .before .before .before .before .result6 .given)) in
+    let e3 = word-same (word (a .k + 1)) (word (a .j + 1)) (sfits-of (c .before .before .before .before .before .result7 .given)) (sfits-of (c .before .before .before .before .result8 .given)) in
+    let e4 = word-same (word (a .k + 2)) (word (a .j + 2)) (sfits-of (c .before .before .before .result9 .given)) (sfits-of (c .before .before .result10 .given)) in
+    let e5 = word-same (word (a .k + 3)) (word (a .j + 3)) (sfits-of (c .before .result11 .given)) (sfits-of (c .result12 .given)) in
     λ i. e0 i && e1 i && e2 i && e3 i && e4 i && e5 i
 
 pub same-in-spec : {M : Type 1} → statement M
