@@ -22,22 +22,22 @@ shared-slice-copy-out-result-2 : tie.Need-shared-slice-copy-out-result-2
 shared-slice-copy-out-result-2 c = let s = c .before in first (s .args .out .now) (s .args .t) 2 (s .pre .0) (s .pre .2) tt .below
 
 add-result : tie.Need-add-result
-add-result c = let s = c .before .before in further (s .args .out .now) (s .args .r) 2 (s .pre .0) (s .pre .1) 1 tt .fits
+add-result c = let s = c .before .before in further (s .args .out .now) (s .args .r) 2 (s .pre .0) (s .pre .1) _ tt .fits
 
 mul-result-3 : tie.Need-mul-result-3
-mul-result-3 c = let s = c .before .before in further (s .args .out .now) (s .args .r) 2 (s .pre .0) (s .pre .1) 1 tt .scaled
+mul-result-3 c = let s = c .before .before in further (s .args .out .now) (s .args .r) 2 (s .pre .0) (s .pre .1) _ tt .scaled
 
 shared-slice-copy-out-result-3 : tie.Need-shared-slice-copy-out-result-3
-shared-slice-copy-out-result-3 c = let s = c .before .before in further (s .args .out .now) (s .args .r) 2 (s .pre .0) (s .pre .1) 1 tt .below
+shared-slice-copy-out-result-3 c = let s = c .before .before in further (s .args .out .now) (s .args .r) 2 (s .pre .0) (s .pre .1) _ tt .below
 
 add-result-2 : tie.Need-add-result-2
-add-result-2 c = let s = c .before .before .before in further (s .args .out .now) (s .args .t) 2 (s .pre .0) (s .pre .2) 1 tt .fits
+add-result-2 c = let s = c .before .before .before in further (s .args .out .now) (s .args .t) 2 (s .pre .0) (s .pre .2) _ tt .fits
 
 mul-result-4 : tie.Need-mul-result-4
-mul-result-4 c = let s = c .before .before .before in further (s .args .out .now) (s .args .t) 2 (s .pre .0) (s .pre .2) 1 tt .scaled
+mul-result-4 c = let s = c .before .before .before in further (s .args .out .now) (s .args .t) 2 (s .pre .0) (s .pre .2) _ tt .scaled
 
 shared-slice-copy-out-result-4 : tie.Need-shared-slice-copy-out-result-4
-shared-slice-copy-out-result-4 c = let s = c .before .before .before in further (s .args .out .now) (s .args .t) 2 (s .pre .0) (s .pre .2) 1 tt .below
+shared-slice-copy-out-result-4 c = let s = c .before .before .before in further (s .args .out .now) (s .args .t) 2 (s .pre .0) (s .pre .2) _ tt .below
 
 mul-result-5 : tie.Need-mul-result-5
 mul-result-5 c = let s = c .before .before .before .before in first (s .args .out .now) (s .args .k) 4 (s .pre .0) (s .pre .3) tt .scaled
@@ -52,58 +52,58 @@ shared-slice-copy-out-result-6 : tie.Need-shared-slice-copy-out-result-6
 shared-slice-copy-out-result-6 c = let s = c .before .before .before .before .before in first (s .args .out .now) (s .args .j) 4 (s .pre .0) (s .pre .4) tt .below
 
 add-result-3 : tie.Need-add-result-3
-add-result-3 c = let s = c .before .before .before .before .before .before in further (s .args .out .now) (s .args .k) 4 (s .pre .0) (s .pre .3) 1 tt .fits
+add-result-3 c = let s = c .before .before .before .before .before .before in further (s .args .out .now) (s .args .k) 4 (s .pre .0) (s .pre .3) _ tt .fits
 
 mul-result-7 : tie.Need-mul-result-7
-mul-result-7 c = let s = c .before .before .before .before .before .before in further (s .args .out .now) (s .args .k) 4 (s .pre .0) (s .pre .3) 1 tt .scaled
+mul-result-7 c = let s = c .before .before .before .before .before .before in further (s .args .out .now) (s .args .k) 4 (s .pre .0) (s .pre .3) _ tt .scaled
 
 shared-slice-copy-out-result-7 : tie.Need-shared-slice-copy-out-result-7
-shared-slice-copy-out-result-7 c = let s = c .before .before .before .before .before .before in further (s .args .out .now) (s .args .k) 4 (s .pre .0) (s .pre .3) 1 tt .below
+shared-slice-copy-out-result-7 c = let s = c .before .before .before .before .before .before in further (s .args .out .now) (s .args .k) 4 (s .pre .0) (s .pre .3) _ tt .below
 
 add-result-4 : tie.Need-add-result-4
-add-result-4 c = let s = c .before .before .before .before .before .before .before in further (s .args .out .now) (s .args .j) 4 (s .pre .0) (s .pre .4) 1 tt .fits
+add-result-4 c = let s = c .before .before .before .before .before .before .before in further (s .args .out .now) (s .args .j) 4 (s .pre .0) (s .pre .4) _ tt .fits
 
 mul-result-8 : tie.Need-mul-result-8
-mul-result-8 c = let s = c .before .before .before .before .before .before .before in further (s .args .out .now) (s .args .j) 4 (s .pre .0) (s .pre .4) 1 tt .scaled
+mul-result-8 c = let s = c .before .before .before .before .before .before .before in further (s .args .out .now) (s .args .j) 4 (s .pre .0) (s .pre .4) _ tt .scaled
 
 shared-slice-copy-out-result-8 : tie.Need-shared-slice-copy-out-result-8
-shared-slice-copy-out-result-8 c = let s = c .before .before .before .before .before .before .before in further (s .args .out .now) (s .args .j) 4 (s .pre .0) (s .pre .4) 1 tt .below
+shared-slice-copy-out-result-8 c = let s = c .before .before .before .before .before .before .before in further (s .args .out .now) (s .args .j) 4 (s .pre .0) (s .pre .4) _ tt .below
 
 add-result-5 : tie.Need-add-result-5
-add-result-5 c = let s = c .before .before .before .before .before .before .before .before in further (s .args .out .now) (s .args .k) 4 (s .pre .0) (s .pre .3) 2 tt .fits
+add-result-5 c = let s = c .before .before .before .before .before .before .before .before in further (s .args .out .now) (s .args .k) 4 (s .pre .0) (s .pre .3) _ tt .fits
 
 mul-result-9 : tie.Need-mul-result-9
-mul-result-9 c = let s = c .before .before .before .before .before .before .before .before in further (s .args .out .now) (s .args .k) 4 (s .pre .0) (s .pre .3) 2 tt .scaled
+mul-result-9 c = let s = c .before .before .before .before .before .before .before .before in further (s .args .out .now) (s .args .k) 4 (s .pre .0) (s .pre .3) _ tt .scaled
 
 shared-slice-copy-out-result-9 : tie.Need-shared-slice-copy-out-result-9
-shared-slice-copy-out-result-9 c = let s = c .before .before .before .before .before .before .before .before in further (s .args .out .now) (s .args .k) 4 (s .pre .0) (s .pre .3) 2 tt .below
+shared-slice-copy-out-result-9 c = let s = c .before .before .before .before .before .before .before .before in further (s .args .out .now) (s .args .k) 4 (s .pre .0) (s .pre .3) _ tt .below
 
 add-result-6 : tie.Need-add-result-6
-add-result-6 c = let s = c .before .before .before .before .before .before .before .before .before in further (s .args .out .now) (s .args .j) 4 (s .pre .0) (s .pre .4) 2 tt .fits
+add-result-6 c = let s = c .before .before .before .before .before .before .before .before .before in further (s .args .out .now) (s .args .j) 4 (s .pre .0) (s .pre .4) _ tt .fits
 
 mul-result-10 : tie.Need-mul-result-10
-mul-result-10 c = let s = c .before .before .before .before .before .before .before .before .before in further (s .args .out .now) (s .args .j) 4 (s .pre .0) (s .pre .4) 2 tt .scaled
+mul-result-10 c = let s = c .before .before .before .before .before .before .before .before .before in further (s .args .out .now) (s .args .j) 4 (s .pre .0) (s .pre .4) _ tt .scaled
 
 shared-slice-copy-out-result-10 : tie.Need-shared-slice-copy-out-result-10
-shared-slice-copy-out-result-10 c = let s = c .before .before .before .before .before .before .before .before .before in further (s .args .out .now) (s .args .j) 4 (s .pre .0) (s .pre .4) 2 tt .below
+shared-slice-copy-out-result-10 c = let s = c .before .before .before .before .before .before .before .before .before in further (s .args .out .now) (s .args .j) 4 (s .pre .0) (s .pre .4) _ tt .below
 
 add-result-7 : tie.Need-add-result-7
-add-result-7 c = let s = c .before .before .before .before .before .before .before .before .before .before in further (s .args .out .now) (s .args .k) 4 (s .pre .0) (s .pre .3) 3 tt .fits
+add-result-7 c = let s = c .before .before .before .before .before .before .before .before .before .before in further (s .args .out .now) (s .args .k) 4 (s .pre .0) (s .pre .3) _ tt .fits
 
 mul-result-11 : tie.Need-mul-result-11
-mul-result-11 c = let s = c .before .before .before .before .before .before .before .before .before .before in further (s .args .out .now) (s .args .k) 4 (s .pre .0) (s .pre .3) 3 tt .scaled
+mul-result-11 c = let s = c .before .before .before .before .before .before .before .before .before .before in further (s .args .out .now) (s .args .k) 4 (s .pre .0) (s .pre .3) _ tt .scaled
 
 shared-slice-copy-out-result-11 : tie.Need-shared-slice-copy-out-result-11
-shared-slice-copy-out-result-11 c = let s = c .before .before .before .before .before .before .before .before .before .before in further (s .args .out .now) (s .args .k) 4 (s .pre .0) (s .pre .3) 3 tt .below
+shared-slice-copy-out-result-11 c = let s = c .before .before .before .before .before .before .before .before .before .before in further (s .args .out .now) (s .args .k) 4 (s .pre .0) (s .pre .3) _ tt .below
 
 add-result-8 : tie.Need-add-result-8
-add-result-8 c = let s = c .before .before .before .before .before .before .before .before .before .before .before in further (s .args .out .now) (s .args .j) 4 (s .pre .0) (s .pre .4) 3 tt .fits
+add-result-8 c = let s = c .before .before .before .before .before .before .before .before .before .before .before in further (s .args .out .now) (s .args .j) 4 (s .pre .0) (s .pre .4) _ tt .fits
 
 mul-result-12 : tie.Need-mul-result-12
-mul-result-12 c = let s = c .before .before .before .before .before .before .before .before .before .before .before in further (s .args .out .now) (s .args .j) 4 (s .pre .0) (s .pre .4) 3 tt .scaled
+mul-result-12 c = let s = c .before .before .before .before .before .before .before .before .before .before .before in further (s .args .out .now) (s .args .j) 4 (s .pre .0) (s .pre .4) _ tt .scaled
 
 shared-slice-copy-out-result-12 : tie.Need-shared-slice-copy-out-result-12
-shared-slice-copy-out-result-12 c = let s = c .before .before .before .before .before .before .before .before .before .before .before in further (s .args .out .now) (s .args .j) 4 (s .pre .0) (s .pre .4) 3 tt .below
+shared-slice-copy-out-result-12 c = let s = c .before .before .before .before .before .before .before .before .before .before .before in further (s .args .out .now) (s .args .j) 4 (s .pre .0) (s .pre .4) _ tt .below
 
 returns : tie.Need-returns
 unfolding wordsSame
