@@ -1,19 +1,35 @@
 -- Written words that are compared tell whether the motions are the same. Assumes nothing.
-use Prim.Native.Nat.{ℕ, _+_, _*_, _-_, _≤_}
+use Prim.Native.Nat.{ℕ, _+_, _*_, _-_, _≤_, _<_}
 use mathlib.Core.Path.{_≡_, refl, ap, _∙_}
 use mathlib.Core.Bool.{Bool, true, false, _&&_}
 use mathlib.Core.List.{List}
 use native.Mathlib.Omega.{arith}
+use lib.Dec.{T, lit<, ltb}
 use lib.IntN.{ℤ}
-use mir.Val.{boolByte}
+use lib.ListN.{length}
+use mir.Syntax.{w64}
+use mir.Val.{Fits, boolByte}
 use Rattle.definitions.specs.Basics.{eqZ}
-use Rattle.definitions.specs.Record.{motionOf, subTypeNumber, wordOf}
+use Rattle.definitions.specs.Record.{motionOf, recordWords, subTypeNumber, wordOf}
 use Rattle.definitions.specs.Splits.{sameMotion, samePrediction}
 use Rattle.definitions.proofs.Shapes.{cut, samePairs, shapeOf}
 use Rattle.split.proofs.Vectors.{number-fits, number-is}
 use Rattle.writing.specs.Words.{typeAmong, wordsSame}
 
--- references first, or list by list
+-- ---- an index within the record, and its place in bytes
+pub record Within (words : List ℤ) (i : ℕ) : Type 0 where
+  pub below : i < length words
+  pub fits : Fits w64 i
+  pub scaled : Fits w64 (i * 2)
+
+module _ (words : List ℤ) (i n : ℕ) (long : length words ≡ recordWords) (room : i + n ≤ recordWords) where
+  pub first : T (ltb 0 n) → Within words i
+  first h = let l : 0 < n = lit< h in record { below = omega arith; fits = omega arith; scaled = omega arith }
+
+  pub further : (k : ℕ) → T (ltb k n) → Within words (i + k)
+  further k h = let l : k < n = lit< h in record { below = omega arith; fits = omega arith; scaled = omega arith }
+
+-- ---- the same motion: references first, or list by list
 by-lists : (a b c d e f : Bool) → (a && b && c && d && e && f) ≡ ((a && (c && d)) && (b && (e && f)))
 by-lists false b c d e f = refl
 by-lists true true false d e f = refl
