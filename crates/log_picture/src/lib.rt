@@ -69,10 +69,12 @@ fn answer_at(g: Axes, fixed: Fixed, base: &[i16], column: u32, row: u32) -> Answ
     ensures { λ r. ⌜ r ≡ madeOf g (now (base .entry)) column row .answer ⌝ }
 {
     let h = axis_read(g.horizontal, column);
-    let v = axis_read(g.vertical, row);
-    if h.inside & v.inside {
-        let mut words = [0i16; RECORD_WORDS];
-        return answer(base, fixed, h, v, &mut words);
+    if h.inside {
+        let v = axis_read(g.vertical, row);
+        if v.inside {
+            let mut words = [0i16; RECORD_WORDS];
+            return answer(base, fixed, h, v, &mut words);
+        }
     }
     Answer::Outside
 }

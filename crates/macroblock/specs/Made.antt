@@ -37,7 +37,7 @@ abbrev pub readIn : AxisStep → AxisRead
 readIn s = record { reads = s .reads; first = s .first; two = s .two; inside = true }
 
 abbrev pub nowhere : AxisRead
-nowhere = record { reads = 0 ∷ 0 ∷ 0 ∷ 0 ∷ []; first = 0; two = false; inside = false }
+nowhere = record { reads = 0 ∷ 0 ∷ 0 ∷ 0 ∷ []; first = 65535; two = false; inside = false }
 
 unfoldable pub readOf : Axis → ℕ → AxisRead
 readOf a x = pick (insideAxis a (sampleOf x)) (readIn (stepOf a (sampleOf x))) nowhere

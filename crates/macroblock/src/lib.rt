@@ -79,7 +79,7 @@ pub fn read_nowhere() -> AxisRead
 {
     AxisRead {
         reads: [0; 4],
-        first: 0,
+        first: 65535,
         two: false,
         inside: false,
     }

@@ -1,8 +1,8 @@
 -- `log_picture::answer_at` meets its contract. Assumes nothing.
 use Prim.Native.Nat.{ℕ}
-use mathlib.Core.Bool.{false, _&&_}
+use mathlib.Core.Bool.{false, and-false, _&&_}
 use mathlib.Core.List.{List}
-use mathlib.Core.Path.{_≡_, ap, sym, subst, _∙_}
+use mathlib.Core.Path.{_≡_, refl, ap, sym, subst, _∙_}
 use lib.IntN.{ℤ, pos}
 use lib.ListN.{length-replicate}
 use Rattle.definitions.specs.declared.Axes.{Axes}
@@ -25,17 +25,17 @@ axis-read-requires : tie.Need-axis-read-requires
 axis-read-requires c κs = (c .pre .0 .right .axes .horizontal, c .pre .1)
 
 axis-read-requires-2 : tie.Need-axis-read-requires-2
-axis-read-requires-2 c κs = (c .before .pre .0 .right .axes .vertical, c .before .pre .2)
+axis-read-requires-2 c κs = (c .before .before .pre .0 .right .axes .vertical, c .before .before .pre .2)
 
 slice-aggregate-answer : tie.Need-slice-aggregate-answer
 slice-aggregate-answer c = search needs
 
 answer-requires : tie.Need-answer-requires
 answer-requires c κs =
-    let r = c .before .before .before .before in
-    let s = r .before .before in
-    (subst (λ (f : Fixed). Makeable f (r .before .axis-read .result) (r .axis-read2 .result) (s .args .base .now)) (sym (s .pre .3))
-    (makeable (s .args .g) (s .args .column) (s .args .row) (s .args .base .now) (s .pre .0) _ _ (r .before .axis-read .ensures) (r .axis-read2 .ensures)), length-replicate 77 (pos 0))
+    let r = c .before .before in
+    let s = r .before .before .before in
+    (subst (λ (f : Fixed). Makeable f (r .before .before .axis-read .result) (r .axis-read2 .result) (s .args .base .now)) (sym (s .pre .3))
+    (makeable (s .args .g) (s .args .column) (s .args .row) (s .args .base .now) (s .pre .0) _ _ (r .before .before .axis-read .ensures) (r .axis-read2 .ensures)), length-replicate 77 (pos 0))
 
 -- what is made by what is fixed
 by-paper : (g : Axes) (column row : ℕ) (base : List ℤ) → BaseFormed narrow g base → (h v : AxisRead) → h ≡ readOf (g .horizontal) column → v ≡ readOf (g .vertical) row → (f : Fixed) → f ≡ fixedOf g
@@ -46,10 +46,10 @@ by-paper g column row base b h v p q f e =
 
 returns : tie.Need-returns
 returns c =
-    let r = c .before .before .before .before .before .before in
-    let s = r .before .before in
+    let r = c .before .before .before .before in
+    let s = r .before .before .before in
     c .before .answer .ensures .0
-    ∙ by-paper (s .args .g) (s .args .column) (s .args .row) (s .args .base .now) (s .pre .0) _ _ (r .before .axis-read .ensures) (r .axis-read2 .ensures) (s .args .fixed) (s .pre .3)
+    ∙ by-paper (s .args .g) (s .args .column) (s .args .row) (s .args .base .now) (s .pre .0) _ _ (r .before .before .axis-read .ensures) (r .axis-read2 .ensures) (s .args .fixed) (s .pre .3)
 
 -- outside nothing is made
 outside : (f : Fixed) (h v : AxisRead) (base : List ℤ) → (h .inside && v .inside) ≡ false → Outside ≡ answerBy f h v base
@@ -59,12 +59,21 @@ outside f h v base out =
 
 returns-2 : tie.Need-returns-2
 returns-2 c =
-    let r = c .before .before .before in
-    let s = r .before .before in
-    outside (s .args .fixed) (r .before .axis-read .result) (r .axis-read2 .result) (s .args .base .now) (c .if1 .left)
-    ∙ by-paper (s .args .g) (s .args .column) (s .args .row) (s .args .base .now) (s .pre .0) _ _ (r .before .axis-read .ensures) (r .axis-read2 .ensures) (s .args .fixed) (s .pre .3)
+    let r = c .before in
+    let s = r .before .before .before in
+    let h = r .before .before .axis-read in
+    outside (s .args .fixed) (h .result) (r .axis-read2 .result) (s .args .base .now) (ap (λ i. h .result .inside && i) (c .if2 .left) ∙ and-false (h .result .inside))
+    ∙ by-paper (s .args .g) (s .args .column) (s .args .row) (s .args .base .now) (s .pre .0) _ _ (h .ensures) (r .axis-read2 .ensures) (s .args .fixed) (s .pre .3)
+
+returns-3 : tie.Need-returns-3
+returns-3 c =
+    let s = c .before .before in
+    let h = c .before .axis-read in
+    let v = readOf (s .args .g .vertical) (s .args .row) in
+    outside (s .args .fixed) (h .result) v (s .args .base .now) (ap (λ i. i && v .inside) (c .if1 .left))
+    ∙ by-paper (s .args .g) (s .args .column) (s .args .row) (s .args .base .now) (s .pre .0) _ v (h .ensures) refl (s .args .fixed) (s .pre .3)
 
 pub answer-at-spec : {M : Type 1} → statement M
 answer-at-spec =
     tie.close
-    (tie.spec axis-read-requires axis-read-requires-2 slice-aggregate-answer answer-requires returns returns-2)
+    (tie.spec axis-read-requires axis-read-requires-2 slice-aggregate-answer answer-requires returns returns-2 returns-3)
