@@ -16,8 +16,7 @@ use Rattle.definitions.specs.declared.Split.{Split}
 use Rattle.definitions.specs.declared.Split.the-variants.{S16x16, S16x8, S8x16, S8x8 as Quarters}
 use Rattle.definitions.specs.Basics.{pick, allOf}
 use Rattle.definitions.specs.Splits.{sameMotion, subPieces, pieces, alike, oneEach, subCount, count, splits, sixteenPieces, fewer, fewestIn}
-use Rattle.definitions.specs.Inheriting.{zeroMotion, at, motionAt, chosen}
-use Rattle.definitions.specs.Blocks.{inQuadrant}
+use Rattle.definitions.specs.Inheriting.{motionAt, chosen}
 use Rattle.definitions.proofs.Choices.{yes, pick-cases, both-true, and-intro}
 use Rattle.definitions.proofs.Motions.{motion-true, motion-same}
 use Rattle.definitions.proofs.Pieces.{split-cases, all-listed}
@@ -367,25 +366,3 @@ chosen-is m =
 
 pub chosen-fewest : (m : List (List Motion)) → Fewest (motionAt m) (chosen m)
 chosen-fewest m = subst (Fewest (motionAt m)) (sym (chosen-is m)) (splitOf-fewest m)
-
--- one motion in each piece of it, and in each of a quadrant's shape
-pub chosen-one : (m : List (List Motion)) (s : Split) → s ≡ chosen m → OneEach (motionAt m) s
-chosen-one m s e = one-each (motionAt m) s (ap (oneEach (motionAt m)) e ∙ chosen-fewest m .one)
-
-pub shape-one : (q : List Motion) (s : SubSplit) → s ≡ quadrantShape q → One (λ i. getD q (inQuadrant i) zeroMotion) 0 s
-unfolding quadrantShape
-shape-one q s e = subst (One (λ i. getD q (inQuadrant i) zeroMotion) 0) (sym e) (shape-least (λ i. getD q (inQuadrant i) zeroMotion) 0 .one)
-
--- an 8×8 split that is chosen has the shapes of the quadrants
-quarters-of : (w : Bool) (s : SubSplit) (t u : SubSplits) → Quarters t ≡ pick w (joined s u) (Quarters u) → t ≡ u
-unfolding pick
-quarters-of true S8x8 t u e = cc
-quarters-of true S8x4 t u e = cc
-quarters-of true S4x8 t u e = cc
-quarters-of true S4x4 t u e = cc
-quarters-of false s t u e = cc
-
-pub chosen-shapes : (m : List (List Motion)) (t : SubSplits) → Quarters t ≡ chosen m → t ≡ shapesOf m
-unfolding splitOf
-chosen-shapes m t e =
-    quarters-of (allWhole (shapesOf m)) (shapeOf (at m 0 0) (at m 1 0) (at m 2 0) (at m 3 0)) t (shapesOf m) (e ∙ chosen-is m)

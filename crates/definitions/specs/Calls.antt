@@ -18,7 +18,7 @@ use Rattle.definitions.specs.declared.MacroblockReply.the-variants.{Answ
 use Rattle.definitions.specs.declared.PictureReply.{PictureReply}
 use Rattle.definitions.specs.declared.PictureReply.the-variants.{Counted, Refused as NotMade}
 use Rattle.definitions.specs.Basics.{howMany, upTo, forEach}
-use Rattle.definitions.specs.Geometry.{axesOf, macroblocks}
+use Rattle.definitions.specs.Geometry.{axesOf}
 use Rattle.definitions.specs.Raster.{fullCount, columnAt, rowAt}
 use Rattle.definitions.specs.Record.{recordWords, recordAt}
 use Rattle.definitions.specs.Answer.{Made, madeOf}

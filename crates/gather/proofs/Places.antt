@@ -1,5 +1,5 @@
 -- Places of words in the base, and what stands there. Assumes nothing.
-use Prim.Native.Nat.{ℕ, _+_, _*_, _/_, _%_, _≤_, _<_}
+use Prim.Native.Nat.{ℕ, _+_, _*_, _/_, _≤_, _<_}
 use mathlib.Core.Path.{_≡_, sym, ap, _∙_}
 use mathlib.Core.List.{List}
 use native.Mathlib.Nat.{mul-le-mul}
@@ -9,7 +9,7 @@ use lib.ListN.{getD, drop}
 use lib.Seq.{getD-drop, getD-take}
 use Rattle.definitions.specs.Blocks.{quadrantOf}
 use Rattle.definitions.specs.Record.{recordAt, recordWords, motionOf}
-use Rattle.gather.specs.Reads.{ReadableAt, PlaceIn, acrossOf, addressAt, blockAt, blockFrom, downOf, motionRead, recordRead}
+use Rattle.gather.specs.Reads.{ReadableAt, PlaceIn, acrossOf, addressAt, blockAt, blockFrom, downOf, motionRead}
 use Rattle.motion.specs.ByValue.{motionIn}
 
 -- a row of macroblocks begins far below what 64 bits hold

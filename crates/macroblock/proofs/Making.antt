@@ -7,7 +7,6 @@ use native.Mathlib.Omega.{arith}
 use lib.IntN.{ℤ, pos}
 use lib.ListN.{getD}
 use Rattle.definitions.specs.declared.Motion.{Motion}
-use Rattle.definitions.specs.declared.Prediction.{Prediction}
 use Rattle.motion.specs.declared.BlockMotion.{BlockMotion}
 use Rattle.gather.specs.declared.Corners.{Corners}
 use Rattle.macroblock.specs.declared.AxisRead.{AxisRead}
@@ -17,7 +16,7 @@ use Rattle.macroblock.specs.declared.Sort.the-variants.{Inherited, Intra
 use Rattle.definitions.specs.Basics.{between, four, minus, pick}
 use Rattle.definitions.specs.Blocks.{rasterOf}
 use Rattle.definitions.specs.Record.{laidOut, narrow, splitSaid}
-use Rattle.definitions.specs.Inheriting.{at, chosen, mostlyIntra, motionAt, resolved, unused, zeroMotion}
+use Rattle.definitions.specs.Inheriting.{at, chosen, mostlyIntra, motionAt, resolved, zeroMotion}
 use Rattle.definitions.specs.Answer.{dividedBy, withoutMotion}
 use Rattle.definitions.proofs.Choices.{both-false, four-at, no, pick-cases, yes}
 use Rattle.definitions.proofs.Promises.{split-said}
@@ -30,7 +29,7 @@ use Rattle.motion.specs.Scales.{AcceptedScale, AcceptedScales, allScaled, motio
 use Rattle.writing.proofs.Rounded.{fitting, reference-fits}
 use mir.Syntax.{w16}
 use mir.Val.{SFits}
-use Rattle.gather.specs.Reads.{Readable, ReadableAt, Rising, beside, bitOf, cornersBy, gatheredBy, motionBy, motionRead, rowAmong, setAmong, setBy}
+use Rattle.gather.specs.Reads.{Readable, ReadableAt, Rising, beside, bitOf, cornersBy, gatheredBy, motionBy, motionRead, rowAmong, setAmong}
 use Rattle.gather.proofs.Sets.{set-corners}
 use Rattle.macroblock.specs.Made.{answerBy, answerFor, inheritedInside, motionsInside, originBy, resolvedInside, setInside, sortBy, sortInside, writtenBy, writtenInside}
 use Rattle.macroblock.proofs.Motions.{Kept, read-kept}

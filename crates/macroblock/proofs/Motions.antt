@@ -13,18 +13,17 @@ use Rattle.definitions.specs.declared.Motion.{Motion}
 use Rattle.motion.specs.declared.BlockMotion.{BlockMotion}
 use Rattle.gather.specs.declared.Spot.{Spot}
 use Rattle.definitions.specs.Basics.{allBelow, minus, between, eqZ, four, pick}
-use Rattle.definitions.specs.Blocks.{quadrantOf, rasterOf}
-use Rattle.definitions.specs.Inheriting.{at, clearOf, copied, copiedFrom, filled, liveOf, marked, merged, resolved, someOf, source, unused, zeroMotion}
+use Rattle.definitions.specs.Blocks.{quadrantOf}
+use Rattle.definitions.specs.Inheriting.{clearOf, copied, copiedFrom, filled, liveOf, marked, merged, resolved, someOf, source, zeroMotion}
 use Rattle.definitions.specs.Record.{isIntra, narrow, used, motionOf, recordAt, referenceOf, rule3, vectorWord}
 use Rattle.definitions.proofs.Choices.{below-true, both-true, eqZ-true, each, four-at, four-same}
 use Rattle.definitions.proofs.Formed.{Vectors, rules-of, vectors-of}
-use Rattle.definitions.proofs.Records.{raster-below}
 use Rattle.definitions.proofs.Sets.{bit-is}
-use Rattle.definitions.proofs.Steps.{Both, filled-keeps, filled-leaves, not-used, resolved-keeps, resolved-settled, settled-merged}
-use Rattle.motion.specs.ByValue.{AllReferring, AllWritable, Reference, motionIn, motionsIn, quadrantsIn, zeroBlock}
+use Rattle.definitions.proofs.Steps.{Both, filled-keeps, filled-leaves, not-used, settled-merged}
+use Rattle.motion.specs.ByValue.{AllReferring, Reference, motionIn, motionsIn, zeroBlock}
 use Rattle.motion.specs.Range.{InRange}
 use Rattle.quadrant.specs.Merging.{Empty, AllEmpty}
-use Rattle.gather.specs.Reads.{QuadrantReadable, Readable, ReadableAt, acrossOf, addressAt, blockAt, blockFrom, downOf, gatheredBy, motionBy, motionRead, quadrantFrom, quadrantRead, recordRead, setBy}
+use Rattle.gather.specs.Reads.{QuadrantReadable, Readable, ReadableAt, acrossOf, addressAt, blockAt, blockFrom, downOf, gatheredBy, motionRead, quadrantFrom, quadrantRead, recordRead, setBy}
 use Rattle.gather.proofs.Places.{place-in, spot-read}
 use Rattle.macroblock.specs.Quadrants.{Alike, Mergeable, plainAt}
 

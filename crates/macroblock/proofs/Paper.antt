@@ -16,7 +16,7 @@ use Rattle.macroblock.specs.declared.Sort.the-variants.{Inherited as Sor
 use Rattle.definitions.specs.Basics.{pick}
 use Rattle.definitions.specs.Geometry.{insideAxis, inside, sampleOf}
 use Rattle.definitions.specs.BlockMap.{stepOf, addressRead, blockRead}
-use Rattle.definitions.specs.Inheriting.{chosen, gathered, inheritedMotions, intraSet, mostlyIntra, motionAt, resolved}
+use Rattle.definitions.specs.Inheriting.{chosen, gathered, inheritedMotions, intraSet, mostlyIntra, motionAt}
 use Rattle.definitions.specs.Record.{laidOut}
 use Rattle.definitions.specs.Answer.{Made, answerOf, dividedBy, madeOf, originAt, withoutMotion, writtenFor}
 use Rattle.definitions.proofs.Choices.{yes, no, and-intro}

@@ -1,6 +1,6 @@
 -- Where one macroblock is read: the set is all or nothing, and one motion in the record is one motion for all blocks. Assumes nothing.
 use Prim.Native.Nat.{ℕ, _+_, _*_, _/_, _%_, _≤_, _<_}
-use native.Mathlib.Nat.{div-mul-le-self, le-antisymm, le-div-iff-mul-le, le-trans}
+use native.Mathlib.Nat.{div-mul-le-self, le-div-iff-mul-le, le-trans}
 use mathlib.Core.Path.{_≡_, refl, sym, ap, _∙_}
 use mathlib.Core.Bool.{Bool, true, false, _&&_, _||_}
 use mathlib.Core.List.{List, []}

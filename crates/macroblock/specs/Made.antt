@@ -23,7 +23,7 @@ use Rattle.definitions.specs.Geometry.{baseSize, classOf, macroblocks, insideAx
 use Rattle.definitions.specs.BlockMap.{stepOf}
 use Rattle.definitions.specs.Record.{laidOut}
 use Rattle.definitions.specs.Inheriting.{mostlyIntra, motionAt, resolved, chosen}
-use Rattle.definitions.specs.Answer.{Made, dividedBy, withoutMotion, writtenFor}
+use Rattle.definitions.specs.Answer.{Made, dividedBy, withoutMotion}
 use Rattle.motion.specs.Scales.{AcceptedScales, allScaled, scalesOf}
 use Rattle.gather.specs.Reads.{Readable, Rising, setBy, gatheredBy}
 

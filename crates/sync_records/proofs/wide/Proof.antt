@@ -2,7 +2,7 @@
 use mathlib.Core.Path.{refl}
 use native.Mathlib.Omega.{arith}
 use mir.Facts.{toZ-ofZ}
-use mir.Syntax.{w16, w32}
+use mir.Syntax.{w32}
 use mir.Val.{SFits}
 use Rattle.sync_records.proofs.wide.Statement.{statement}
 use Rattle.sync_records.proofs.wide.Tie as tie

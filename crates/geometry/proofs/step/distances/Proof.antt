@@ -3,7 +3,6 @@ use Prim.Native.Nat.{ℕ, _+_, _≤_}
 use mathlib.Core.Path.{ap, _∙_}
 use native.Mathlib.Omega.{arith}
 use lib.IntN.{ℤ, subℕ}
-use borrow.Author.Needs.{needs}
 use Rattle.definitions.specs.Geometry.{pOf}
 use Rattle.definitions.proofs.Positions.{near, room}
 use Rattle.geometry.proofs.Bounds.{place-top}
@@ -34,7 +33,8 @@ distance-requires-2 c κs =
     let s = c .before .before .before .before in
     let p = s .pre in
     let top : s .args .at .k + 1 ≤ 512 = omega (arith, room _ _ _ (p .0), p .1) in
-    (omega (arith, c .grid-sample2 .ensures, place-top _ _ _ (p .0 .sized) top), omega (arith, near _ _ _ (p .0)))
+    let before : s .args .at .k ≤ 512 = omega (arith, top) in
+    (omega (arith, c .grid-sample2 .ensures, place-top _ _ _ (p .0 .sized) top, place-top _ _ _ (p .0 .sized) before), omega (arith, near _ _ _ (p .0)))
 
 returns : tie.Need-returns
 returns c =
