@@ -1,4 +1,6 @@
 // What is made of one macroblock, on a geometry and records that were checked: the calls share it.
+// It is read (crate gather), made by value (steps 1 to 3 of "Inheriting": `fill`, `merge`, `copy`), and scaled and split as it is written (steps 4 and 5: `write_made`).
+// Where something goes round a step, its comment names the law that allows it.
 ghost use Prim.Native.Nat.{_<_, _≤_};
 ghost use Rattle.definitions.specs.Accepted.{AcceptedAxes, AcceptedAxis};
 ghost use Rattle.definitions.specs.Inheriting.{clearOf, filled, merged, resolved};
@@ -46,7 +48,26 @@ use records::write::write_unused;
 use writing::scaled;
 use writing::write_made;
 
-// An axis at a macroblock: whether it is inside there, and then what of its step the making asks for (outside, zeros).
+// ---- What is fixed for a picture
+// The base's width in macroblocks, and the scales of both axes.
+pub struct Fixed {
+    pub width: usize,
+    pub scales: Scales,
+}
+
+pub fn fixed_of(g: Axes) -> Fixed
+    requires { ⌜ AcceptedAxes g ⌝ }
+    ensures { λ r. ⌜ r ≡ fixedOf g ⌝ }
+{
+    let scales = motion::scales_of(g);
+    Fixed {
+        width: common::raster::base_width(g),
+        scales,
+    }
+}
+
+// ---- An axis at a macroblock
+// Whether it is inside there, and then what of its step the making asks for.
 // Twelve bytes, since a picture keeps one for each column.
 pub struct AxisRead {
     pub reads: [u16; 4],
@@ -73,7 +94,7 @@ fn read_in(s: AxisStep) -> AxisRead
     }
 }
 
-// An axis outside.
+// An axis outside: 65,535 is no column.
 pub fn read_nowhere() -> AxisRead
     ensures { λ r. ⌜ r ≡ nowhere ⌝ }
 {
@@ -95,17 +116,6 @@ pub fn axis_read(a: Axis, x: u32) -> AxisRead
         return read_in(axis_step(a, p));
     }
     read_nowhere()
-}
-
-// ---- Inside
-fn origin_of(h: AxisRead, v: AxisRead) -> Origin
-    ensures { λ r. ⌜ r ≡ originBy h v ⌝ }
-{
-    Origin {
-        class: class_of(h.two, v.two),
-        column: h.first as u32,
-        row: v.first as u32,
-    }
 }
 
 // ---- Steps 1 to 3
@@ -156,7 +166,7 @@ fn quadrant_made(
     merge(fill(clear, m))
 }
 
-// Where no macroblock that is read is intra: nothing is to fill, and nothing to copy.
+// Where no macroblock that is read is intra: nothing is to fill, and nothing to copy (`merged-only`).
 fn motions_merged(
     base: &[i16],
     width: usize,
@@ -223,14 +233,8 @@ fn motions_made(
     motions_filled(base, width, across, down, set)
 }
 
-// ---- Inside
-// What is fixed for a picture.
-pub struct Fixed {
-    pub width: usize,
-    pub scales: Scales,
-}
-
-// Steps 1 to 5: read and made by value, and scaled and split as it is written.
+// ---- Steps 1 to 5
+// Read and made by value, and scaled and split as it is written.
 fn make_inherited(
     base: &[i16],
     f: Fixed,
@@ -249,6 +253,14 @@ fn make_inherited(
     );
 }
 
+// ---- Inside
+// Which answer it is.
+pub enum Sort {
+    Inherited,
+    Intra,
+    Outside,
+}
+
 // All four coordinates lie in one column (row): the first and the last do.
 fn is_one(reads: [u16; 4]) -> bool
     ensures { λ r. ⌜ r ≡ onePart 4 reads ⌝ }
@@ -263,14 +275,8 @@ fn is_half(reads: [u16; 4]) -> bool
     reads[3] / 2 == reads[0] / 2
 }
 
-// Which answer it is.
-pub enum Sort {
-    Inherited,
-    Intra,
-    Outside,
-}
-
-// Where one macroblock is read: intra, or of one motion (it is 16×16, or one quadrant of it is read that is not divided), it needs no step.
+// Where one macroblock is read. If it is intra, all blocks are (`set-all`). If it is 16×16, or one quadrant of it is read that is not divided, all blocks have one motion,
+// which no step but the fourth changes, and the split is 16×16 (`whole-written`).
 fn make_of_one(base: &[i16], f: Fixed, across: [u16; 4], down: [u16; 4], out: &mut [i16]) -> Sort
     requires { ⌜ Ready f across down (now base) × ((onePart 4 across && onePart 4 down) ≡ true) × (length (now out) ≡ recordWords) ⌝ }
     ensures sort { λ r. ⌜ r ≡ sortInside f across down (now (base .entry)) ⌝ }
@@ -292,7 +298,7 @@ fn make_of_one(base: &[i16], f: Fixed, across: [u16; 4], down: [u16; 4], out: &m
     Sort::Inherited
 }
 
-// Where more macroblocks are read.
+// Where more macroblocks are read: those of the corners are all (`set-corners`).
 fn make_of_more(base: &[i16], f: Fixed, across: [u16; 4], down: [u16; 4], out: &mut [i16]) -> Sort
     requires { ⌜ Ready f across down (now base) × (length (now out) ≡ recordWords) ⌝ }
     ensures sort { λ r. ⌜ r ≡ sortInside f across down (now (base .entry)) ⌝ }
@@ -331,6 +337,16 @@ pub fn make(base: &[i16], f: Fixed, h: AxisRead, v: AxisRead, out: &mut [i16]) -
 }
 
 // ---- The answer
+fn origin_of(h: AxisRead, v: AxisRead) -> Origin
+    ensures { λ r. ⌜ r ≡ originBy h v ⌝ }
+{
+    Origin {
+        class: class_of(h.two, v.two),
+        column: h.first as u32,
+        row: v.first as u32,
+    }
+}
+
 fn sub_split_of(word: i16) -> SubSplit
     ensures { λ r. ⌜ r ≡ subSplitOf word ⌝ }
 {
@@ -384,16 +400,5 @@ pub fn answer(base: &[i16], f: Fixed, h: AxisRead, v: AxisRead, out: &mut [i16])
             let split = split_said(out);
             Answer::Inherited(origin, split)
         }
-    }
-}
-
-pub fn fixed_of(g: Axes) -> Fixed
-    requires { ⌜ AcceptedAxes g ⌝ }
-    ensures { λ r. ⌜ r ≡ fixedOf g ⌝ }
-{
-    let scales = motion::scales_of(g);
-    Fixed {
-        width: common::raster::base_width(g),
-        scales,
     }
 }

@@ -99,8 +99,8 @@ fn same_in(out: &[i16], r: usize, t: usize, k: usize, j: usize) -> bool
         & (out[k + 3] == out[j + 3])
 }
 
-// The type of a record whose quadrants have one motion each: which of its rows and columns of quadrants have one. Scaling keeps different motions different, so the
-// written words tell.
+// The type of a record whose quadrants have one motion each: which of its rows and columns of quadrants have one. Scaling keeps different motions different
+// (`motion-apart`), so the written words tell.
 fn type_in(out: &[i16]) -> u8
     requires { ⌜ length (now out) ≡ recordWords ⌝ }
     ensures { λ r. ⌜ (r ≡ typeAmong (now (out .entry))) × (r ≤ 4) ⌝ }

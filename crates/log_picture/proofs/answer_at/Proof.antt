@@ -33,9 +33,11 @@ slice-aggregate-answer c = search needs
 answer-requires : tie.Need-answer-requires
 answer-requires c κs =
     let r = c .before .before in
-    let s = r .before .before .before in
-    (subst (λ (f : Fixed). Makeable f (r .before .before .axis-read .result) (r .axis-read2 .result) (s .args .base .now)) (sym (s .pre .3))
-    (makeable (s .args .g) (s .args .column) (s .args .row) (s .args .base .now) (s .pre .0) _ _ (r .before .before .axis-read .ensures) (r .axis-read2 .ensures)), length-replicate 77 (pos 0))
+    let s = r .before .before .before in (
+      subst (λ (f : Fixed). Makeable f (r .before .before .axis-read .result) (r .axis-read2 .result) (s .args .base .now)) (sym (s .pre .3))
+          (makeable (s .args .g) (s .args .column) (s .args .row) (s .args .base .now) (s .pre .0) _ _ (r .before .before .axis-read .ensures) (r .axis-read2 .ensures)),
+      length-replicate 77 (pos 0),
+    )
 
 -- what is made by what is fixed
 by-paper : (g : Axes) (column row : ℕ) (base : List ℤ) → BaseFormed narrow g base → (h v : AxisRead) → h ≡ readOf (g .horizontal) column → v ≡ readOf (g .vertical) row → (f : Fixed) → f ≡ fixedOf g

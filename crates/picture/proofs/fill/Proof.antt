@@ -96,9 +96,11 @@ make-requires c κs =
     let l = c .before .before .before .before .before in
     let s = c .before .before .before .before .before .before .before .before .before .before .before in
     let h = getD (c .before .before .before .before .before .before .before .before .before .column-reads .result) (l .loop .at .column) noRead in
-    let v = c .before .row-read .result in
-    (subst (λ (f : Fixed). Makeable f h v (s .args .base .now)) (sym (c .before .before .before .before .before .before .before .before .before .before .fixed-of .ensures))
-    (makeable (s .args .g) (l .loop .at .column) (l .loop .at .row) (s .args .base .now) (s .pre .0) h v (column-there (c .before .before .before .before)) (c .before .row-read .ensures)), simp (length-take, length-drop) (omega arith))
+    let v = c .before .row-read .result in (
+      subst (λ (f : Fixed). Makeable f h v (s .args .base .now)) (sym (c .before .before .before .before .before .before .before .before .before .before .fixed-of .ensures))
+          (makeable (s .args .g) (l .loop .at .column) (l .loop .at .row) (s .args .base .now) (s .pre .0) h v (column-there (c .before .before .before .before)) (c .before .row-read .ensures)),
+      simp (length-take, length-drop) (omega arith),
+    )
 
 count-sort-requires : tie.Need-count-sort-requires Inv-loop μ-loop
 count-sort-requires c κs =
@@ -127,8 +129,7 @@ loop-again c =
     let fixed = c .before .before .before .before .before .before .before .before .before .before .before .before .before .before .fixed-of .ensures in
     let m = (λ i. madeBy (fixed i) h v (s .args .base .now)) ∙ made-there (s .args .g) (l .loop .at .column) (l .loop .at .row) (s .args .base .now) (s .pre .0) h v (column-there (c .before .before .before .before .before .before .before .before)) (c .before .before .before .before .before .row-read .ensures) n (l .loop .inv .5) (l .loop .inv .4) in
     let p = c .before .before .before .make in
-    let sort = p .ensures .0 ∙ (sort-is _ h v (s .args .base .now) ∙ ap (λ (k : Made). sortOf (k .answer)) m) in
-    (
+    let sort = p .ensures .0 ∙ (sort-is _ h v (s .args .base .now) ∙ ap (λ (k : Made). sortOf (k .answer)) m) in (
       omega (arith, c .before .before .before .before .before .before .before .before .loop-test),
       c .before .before .out .given .1 ∙ l .loop .inv .1,
       part-back (λ k. f k .written) recordWords (made-length (s .args .g) (s .args .base .now)) (s .args .out .now) (l .loop .out) (p .last .1 .1 .1 .1 .0) n (77 * n + 77 - 77 * n) (omega arith) (l .loop .inv .2) (p .ensures .1 ∙ ap (λ (k : Made). k .written) m),

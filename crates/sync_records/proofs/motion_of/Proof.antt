@@ -65,16 +65,17 @@ returns c =
     let e4 = a4 ∙ (c .before .before .wide5 .ensures .0 ∙ b4) in
     let a5 : toZ w32 (ofZ w32 (c .wide6 .result)) ≡ c .wide6 .result = toZ-ofZ (search needs) in
     let b5 : toZ w16 (ofZ w16 (getD six 5 (pos 0))) ≡ getD six 5 (pos 0) = toZ-ofZ (search needs) in
-    let e5 = a5 ∙ (c .wide6 .ensures .0 ∙ b5) in
-    ((λ i. record { list0 = record { reference = e0 i; x = e2 i; y = e3 i }; list1 = record { reference = e1 i; x = e4 i; y = e5 i } }),
-    record {
-      r0 = subst (SFits w16) (sym a0) (c .before .before .before .before .before .before .before .before .before .before .wide .ensures .1);
-      r1 = subst (SFits w16) (sym a1) (c .before .before .before .before .before .before .before .before .wide2 .ensures .1);
-      x0 = subst (SFits w16) (sym a2) (c .before .before .before .before .before .before .wide3 .ensures .1);
-      y0 = subst (SFits w16) (sym a3) (c .before .before .before .before .wide4 .ensures .1);
-      x1 = subst (SFits w16) (sym a4) (c .before .before .wide5 .ensures .1);
-      y1 = subst (SFits w16) (sym a5) (c .wide6 .ensures .1);
-    })
+    let e5 = a5 ∙ (c .wide6 .ensures .0 ∙ b5) in (
+      (λ i. record { list0 = record { reference = e0 i; x = e2 i; y = e3 i }; list1 = record { reference = e1 i; x = e4 i; y = e5 i } }),
+      record {
+        r0 = subst (SFits w16) (sym a0) (c .before .before .before .before .before .before .before .before .before .before .wide .ensures .1);
+        r1 = subst (SFits w16) (sym a1) (c .before .before .before .before .before .before .before .before .wide2 .ensures .1);
+        x0 = subst (SFits w16) (sym a2) (c .before .before .before .before .before .before .wide3 .ensures .1);
+        y0 = subst (SFits w16) (sym a3) (c .before .before .before .before .wide4 .ensures .1);
+        x1 = subst (SFits w16) (sym a4) (c .before .before .wide5 .ensures .1);
+        y1 = subst (SFits w16) (sym a5) (c .wide6 .ensures .1);
+      },
+    )
 
 pub motion-of-spec : {M : Type 1} → statement M
 motion-of-spec =

@@ -1,9 +1,10 @@
 -- `geometry::step::distances` meets its contract. Assumes nothing.
-use Prim.Native.Nat.{ℕ, _+_, _≤_}
-use mathlib.Core.Path.{ap, _∙_}
+use Prim.Native.Nat.{ℕ, _+_, _<_, _≤_}
+use mathlib.Core.Path.{_≡_, ap, _∙_}
 use native.Mathlib.Omega.{arith}
 use lib.IntN.{ℤ, subℕ}
-use Rattle.definitions.specs.Geometry.{pOf}
+use Rattle.definitions.specs.Accepted.{Inside}
+use Rattle.definitions.specs.Geometry.{kOf, pOf}
 use Rattle.definitions.proofs.Positions.{near, room}
 use Rattle.geometry.proofs.Bounds.{place-top}
 use Rattle.geometry.proofs.step.distances.Statement.{statement}
@@ -12,11 +13,14 @@ use Rattle.geometry.proofs.step.distances.Tie as tie
 grid-sample-requires : tie.Need-grid-sample-requires
 grid-sample-requires c κs = (c .pre .0 .sized, omega (arith, room _ _ _ (c .pre .0), c .pre .1))
 
+-- a border that a place of the grid gives, and the centre
+bounds : {b s k j x centre : ℕ} → Inside b s centre → k ≡ kOf b s centre → x ≡ pOf b s j → j ≤ k + 1 → (x < 65536) × (centre < 65536)
+bounds {b} {s} {k} {j} {x} {centre} inside e p l =
+    let top : j ≤ 512 = omega (arith, room b s centre inside, e, l) in
+    (omega (arith, p, place-top b s j (inside .sized) top), omega (arith, near b s centre inside))
+
 distance-requires : tie.Need-distance-requires
-distance-requires c κs =
-    let p = c .before .pre in
-    let top : c .before .args .at .k ≤ 512 = omega (arith, room _ _ _ (p .0), p .1) in
-    (omega (arith, c .grid-sample .ensures, place-top _ _ _ (p .0 .sized) top), omega (arith, near _ _ _ (p .0)))
+distance-requires c κs = bounds (c .before .pre .0) (c .before .pre .1) (c .grid-sample .ensures) (omega arith)
 
 add-grid-sample : tie.Need-add-grid-sample
 add-grid-sample c =
@@ -30,11 +34,8 @@ grid-sample-requires-2 c κs =
 
 distance-requires-2 : tie.Need-distance-requires-2
 distance-requires-2 c κs =
-    let s = c .before .before .before .before in
-    let p = s .pre in
-    let top : s .args .at .k + 1 ≤ 512 = omega (arith, room _ _ _ (p .0), p .1) in
-    let before : s .args .at .k ≤ 512 = omega (arith, top) in
-    (omega (arith, c .grid-sample2 .ensures, place-top _ _ _ (p .0 .sized) top, place-top _ _ _ (p .0 .sized) before), omega (arith, near _ _ _ (p .0)))
+    let p = c .before .before .before .before .pre in
+    bounds (p .0) (p .1) (c .grid-sample2 .ensures) (omega arith)
 
 returns : tie.Need-returns
 returns c =
