@@ -1,4 +1,4 @@
--- Step 4 of "Inheriting" by the scales of both axes, which are made once.
+-- Step 4 of "Inheriting", as document 02's E3 has it, by the scales of both axes, which are made once.
 use Prim.Native.Nat.{ℕ, _≤_}
 use Rattle.definitions.specs.declared.Axes.{Axes}
 use Rattle.definitions.specs.declared.Motion.{Motion}

@@ -1,4 +1,4 @@
-// A block's motion: whether two are the same, and step 4 of "Inheriting", the vectors scaled.
+// A block's motion: whether two are the same, and step 4 of "Inheriting" as document 02's E3 has it, the vectors scaled.
 ghost use Prim.Native.Nat.{_-_, _≤_};
 ghost use Rattle.definitions.proofs.Shapes.{quadrantShape};
 ghost use Rattle.definitions.specs.Accepted.{AcceptedAxis};
