@@ -268,7 +268,8 @@ pub fn words(calls: &mut Calls) {
 
 /// Every vector word is scaled, for more than 200 pairs B, S along either axis: the
 /// smallest and the largest of both, ratios whose scale is exact and some whose is
-/// not. The macroblock at 0,0 reads base macroblock 0 alone, which moves as a whole.
+/// not. The macroblock at 0,0 reads base macroblock 0 alone, which moves as a whole,
+/// by a word below zero in list 0 and one from 0 on in list 1.
 pub fn scaled_words(calls: &mut Calls) {
     let random = &mut Random::new(5);
     let mut pairs: Vec<(i32, i32)> = vec![(32, 48), (80, 156), (112, 130)];

@@ -1,4 +1,4 @@
--- Why block map and rounding are right: the ten reasons of specs/Why. Assumes nothing.
+-- Why block map and rounding are right: the reasons of specs/Why. Assumes nothing.
 use Rattle.definitions.specs.Why.{WhyEntire}
 use Rattle.definitions.proofs.Under.{under, only-under, formula}
 use Rattle.definitions.proofs.Rounding.{floor, rising, word-apart, error, nearest, whole, first-rule, range}

@@ -1,6 +1,6 @@
 -- Why the table (the block map) and the rounding of step 4 are right. The table: on its own grid each block reads the base block under its centre, which singles out
 -- every digit; and in the window as it is seen the two overlap. The rounding: different words stay different, and how near it is to v·S/B and to the rule that document
--- 01 had first. WhyEntire gathers these reasons, and proofs/Why shows them. No other definition cites them.
+-- 01 prints, the first. WhyEntire gathers these reasons, and proofs/Why shows them. No other definition cites them.
 use Prim.Native.Nat.{ℕ, _+_, _*_, _-_, _/_, _%_, _<_, _≤_}
 use mathlib.Core.Path.{_≡_, refl}
 use mathlib.Core.List.{List, [], _∷_, map}
@@ -51,7 +51,7 @@ pub record NearestUp (b s : ℕ) (v v′ : ℤ) : Type 0 where
   pub near : 2 * errorOf b s v v′ ≤ b
   pub half : 2 * errorOf b s v v′ ≡ b → (pos s *ℤ v) <ℤ (pos b *ℤ v′)
 
--- The rule that document 01 had first, before document 02's E3: sign(v) · ((|v|·S + B/2) / B).
+-- The first rule, which document 01 prints and document 02's E3 replaced: sign(v) · ((|v|·S + B/2) / B).
 abbrev pub firstRule : ℕ → ℕ → ℤ → ℤ
 firstRule b s v = signed v ((natAbs v * s + b / 2) / b)
 

@@ -1,4 +1,4 @@
-// A block's motion by value, and the scales of step 4 of "Inheriting".
+// A block's motion by value, and the scales of step 4 of "Inheriting" as document 02's E3 has it.
 ghost use Rattle.definitions.specs.Accepted.{AcceptedAxes, AcceptedAxis};
 ghost use Rattle.definitions.specs.Geometry.{baseSize, scaledSize};
 ghost use Rattle.definitions.specs.Inheriting.{scaleOf};

@@ -1,4 +1,4 @@
-// Writing what was made of a macroblock into a record of narrow words: step 4 of "Inheriting", as the vectors are written, and step 5, the split.
+// Writing what was made of a macroblock into a record of narrow words: step 4 of "Inheriting", as document 02's E3 has it, while the vectors are written, and step 5, the split.
 ghost use Prim.Native.Nat.{_+_, _-_, _≤_};
 ghost use Rattle.definitions.proofs.Shapes.{quadrantShape};
 ghost use Rattle.definitions.specs.Answer.{dividedBy};
