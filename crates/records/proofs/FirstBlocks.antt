@@ -247,7 +247,7 @@ module _ (r : List ℤ) where
       let q : 13 + 4 * d + 2 + 1 ≡ 13 + 4 * d + 3 = omega arith in
       rw (add-zero (13 + 4 * b), add-zero (13 + 4 * d), p, q) (simp and-assoc)
 
-  motion-parts : (b d : ℕ) → sameMotion (motionOf r b) (motionOf r d) ≡ (sameReferences r (quadrantOf b) (quadrantOf d) && sameVectors r b d)
+  pub motion-parts : (b d : ℕ) → sameMotion (motionOf r b) (motionOf r d) ≡ (sameReferences r (quadrantOf b) (quadrantOf d) && sameVectors r b d)
   unfolding sameMotion samePrediction motionOf sameReferences sameVectors allBelow
   motion-parts b d = and-swap (reference 0) (vector 0) (reference 1) (vector 1)
     where

@@ -2,7 +2,7 @@
 pub mod Addresses
 pub mod Undivided
 pub mod Words
-mod Searches
+pub mod Searches
 pub mod Ranges
 pub mod FirstBlocks
 pub mod Verdicts

@@ -42,7 +42,7 @@ module _ (r : List ℤ) (formed : wellFormed narrow r ≡ true) (inter : isIntra
   as-first i h = motion-true _ _ (below-true 16 (λ j. sameMotion (motionOf r j) (motionOf r (firstBlockIn (splitSaid r) j))) (by-first-blocks (motionOf r) (splitSaid r) ∙ one) i h)
 
   module _ (b c : ℕ) (hb : b < 16) (hc : c < 16) where
-    by-first : firstBlockIn (splitSaid r) b ≡ firstBlockIn (splitSaid r) c → motionOf r b ≡ motionOf r c
+    pub by-first : firstBlockIn (splitSaid r) b ≡ firstBlockIn (splitSaid r) c → motionOf r b ≡ motionOf r c
     by-first e = as-first b hb ∙ (ap (motionOf r) e ∙ sym (as-first c hc))
 
     -- type 1: all blocks

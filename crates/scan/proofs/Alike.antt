@@ -1,7 +1,7 @@
--- References, vectors and motions that are the same; rule 6 of a record whose blocks have the motion of their piece's first; a record that keeps all rules. Assumes nothing.
+-- References, vectors and motions that are the same; rule 6 of a record whose blocks have the motion of their piece's first. Assumes nothing.
 use Prim.Native.Nat.{ℕ, _<_}
 use mathlib.Core.Path.{_≡_, refl, sym, ap, _∙_}
-use mathlib.Core.Bool.{true, not}
+use mathlib.Core.Bool.{true}
 use mathlib.Core.List.{List}
 use native.Mathlib.Omega.{arith}
 use lib.IntN.{ℤ}
@@ -9,18 +9,11 @@ use Rattle.definitions.specs.declared.Split.{Split}
 use Rattle.definitions.specs.Basics.{eqZ}
 use Rattle.definitions.specs.Blocks.{quadrantOf}
 use Rattle.definitions.specs.Splits.{oneEach}
-use Rattle.definitions.specs.Record.{narrow, referenceOf, vectorXOf, vectorYOf, motionOf, isIntra, splitSaid, rule6, firstBroken}
-use Rattle.definitions.proofs.Choices.{no, both-true, and-intro, or-right, eqZ-true, eqZ-refl, below-true, below-intro}
-use Rattle.definitions.proofs.Formed.{Rules}
+use Rattle.definitions.specs.Record.{referenceOf, vectorXOf, vectorYOf, motionOf, isIntra, splitSaid, rule6}
+use Rattle.definitions.proofs.Choices.{both-true, and-intro, or-right, eqZ-true, eqZ-refl, below-true, below-intro}
 use Rattle.definitions.proofs.Motions.{motion-same}
 use Rattle.records.specs.Checking.{firstBlockIn, sameReferences, sameVectors}
 use Rattle.records.proofs.FirstBlocks.{by-first-blocks}
-
-pub none-broken : (r : List ℤ) → Rules narrow r → firstBroken narrow r ≡ 0
-unfolding firstBroken
-none-broken r k =
-    no _ _ (ap not (k .types))
-    ∙ (no _ _ (ap not (k .sub-types)) ∙ (no _ _ (ap not (k .references)) ∙ (no _ _ (ap not (k .lists)) ∙ (no _ _ (ap not (k .vectors)) ∙ no _ _ (ap not (k .pieces))))))
 
 eqZ-same : (a b : ℤ) → a ≡ b → eqZ a b ≡ true
 eqZ-same a b e = ap (eqZ a) (sym e) ∙ eqZ-refl a
@@ -33,6 +26,10 @@ module _ (r : List ℤ) where
   pub referred : (q e : ℕ) → sameReferences r q e ≡ true → Referred q e
   unfolding sameReferences
   referred q e s l h = eqZ-true _ _ (below-true 2 (λ l. eqZ (referenceOf r q l) (referenceOf r e l)) s l h)
+
+  pub references-self : (q : ℕ) → sameReferences r q q ≡ true
+  unfolding sameReferences
+  references-self q = below-intro 2 _ (λ l h. eqZ-refl (referenceOf r q l))
 
   -- blocks b and d have the same vectors
   abbrev pub Alike : ℕ → ℕ → Type 0

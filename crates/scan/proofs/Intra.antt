@@ -1,17 +1,18 @@
--- A record of type 0 whose words are 0, and its references −1, is well formed. Assumes nothing.
-use Prim.Native.Nat.{ℕ, _+_, _*_, _<_}
+-- A record of type 0 is well formed where its words are 0, and its references −1. Assumes nothing.
+use Prim.Native.Nat.{ℕ, zero, suc, _+_, _*_, _/_, _%_, _<_}
 use mathlib.Core.Path.{_≡_, refl, sym, ap, _∙_}
-use mathlib.Core.Bool.{Bool, true, false}
+use mathlib.Core.Bool.{Bool, true, false, _&&_}
 use mathlib.Core.List.{List}
 use native.Mathlib.Omega.{arith}
 use lib.IntN.{ℤ, pos}
 use Rattle.definitions.specs.Basics.{minus, eqZ, between}
 use Rattle.definitions.specs.Blocks.{quadrantOf}
-use Rattle.definitions.specs.Record.{narrow, wordOf, typeOf, isIntra, referenceOf, used, vectorWord, rule1, rule3, rule5, rule6, firstBroken}
-use Rattle.definitions.proofs.Choices.{and-intro, or-left, eqZ-true, below-true, below-intro}
+use Rattle.definitions.specs.Record.{narrow, wordOf, typeOf, isIntra, referenceOf, used, vectorWord, rule1, rule3, rule5, rule6, wellFormed}
+use Rattle.definitions.proofs.Choices.{both-true, both-ways, and-intro, or-left, eqZ-true, eqZ-refl, below-true, below-intro}
+use Rattle.definitions.proofs.Formed.{rules-of, vectors-of}
 use Rattle.records.specs.Checking.{liesIn, allWithin}
-use Rattle.records.proofs.Ranges.{only, one-number, sub-types-zero, use-none}
-use Rattle.scan.proofs.Alike.{none-broken}
+use Rattle.records.proofs.Ranges.{only, one-number, sub-types-zero, use-none, range-zero}
+use Rattle.scan.proofs.Kept.{rules-formed}
 
 -- words in a range of one number
 within-only : (r : List ℤ) (first count : ℕ) (z : ℤ) → allWithin r first count (only z) ≡ true → (k : ℕ) → k < count → wordOf r (first + k) ≡ z
@@ -23,46 +24,96 @@ zero-right : (t : Bool) → vectorWord narrow t (pos 0) ≡ true
 zero-right true = refl
 zero-right false = refl
 
-module _ (r : List ℤ) (intra : isIntra r ≡ true) (subs : allWithin r 1 4 (only (pos 0)) ≡ true) (references : allWithin r 5 8 (only (minus 1)) ≡ true)
-    (vectors : allWithin r 13 64 (only (pos 0)) ≡ true) where
+module _ (r : List ℤ) (intra : isIntra r ≡ true) where
   type : typeOf r ≡ pos 0
   type = eqZ-true (typeOf r) (pos 0) intra
 
-  right1 : rule1 r ≡ true
-  unfolding rule1
-  right1 = ap (between (pos 0) (pos 4)) type
+  not-4 : eqZ (typeOf r) (pos 4) ≡ false
+  not-4 = ap (λ (z : ℤ). eqZ z (pos 4)) type
 
-  reference : (q l : ℕ) → q < 4 → l < 2 → referenceOf r q l ≡ minus 1
-  reference q l hq hl =
-      let e : 5 + 2 * q + l ≡ 5 + (2 * q + l) = omega arith in
-      ap (wordOf r) e ∙ within-only r 5 8 (minus 1) references (2 * q + l) (omega arith)
+  -- the references, as rule 4 has them
+  module _ (references : allWithin r 5 8 (only (minus 1)) ≡ true) where
+    reference : (q l : ℕ) → q < 4 → l < 2 → referenceOf r q l ≡ minus 1
+    reference q l hq hl =
+        let e : 5 + 2 * q + l ≡ 5 + (2 * q + l) = omega arith in
+        ap (wordOf r) e ∙ within-only r 5 8 (minus 1) references (2 * q + l) (omega arith)
 
-  right3 : rule3 r ≡ true
-  unfolding rule3
-  right3 = below-intro 4 _ (λ q hq. below-intro 2 _ (λ l hl. ap (between (minus 1) (pos 31)) (reference q l hq hl)))
+  -- ---- The words, and so the rules
+  module _ (subs : allWithin r 1 4 (only (pos 0)) ≡ true) (references : allWithin r 5 8 (only (minus 1)) ≡ true) (vectors : allWithin r 13 64 (only (pos 0)) ≡ true) where
+    right1 : rule1 r ≡ true
+    unfolding rule1
+    right1 = ap (between (pos 0) (pos 4)) type
 
-  vector : (w k : ℕ) (t : Bool) → w ≡ 13 + k → k < 64 → vectorWord narrow t (wordOf r w) ≡ true
-  vector w k t e h = ap (vectorWord narrow t) (ap (wordOf r) e ∙ within-only r 13 64 (pos 0) vectors k h) ∙ zero-right t
+    right3 : rule3 r ≡ true
+    unfolding rule3
+    right3 = below-intro 4 _ (λ q hq. below-intro 2 _ (λ l hl. ap (between (minus 1) (pos 31)) (reference references q l hq hl)))
 
-  right5 : rule5 narrow r ≡ true
-  unfolding rule5
-  right5 =
-      below-intro 16 _ (λ b hb. below-intro 2 _ (λ l hl.
-      and-intro
-      (vector (13 + 4 * b + 2 * l) (4 * b + 2 * l) (used (referenceOf r (quadrantOf b) l)) (omega arith) (omega arith))
-      (vector (13 + 4 * b + 2 * l + 1) (4 * b + 2 * l + 1) (used (referenceOf r (quadrantOf b) l)) (omega arith) (omega arith))))
+    vector : (w k : ℕ) (t : Bool) → w ≡ 13 + k → k < 64 → vectorWord narrow t (wordOf r w) ≡ true
+    vector w k t e h = ap (vectorWord narrow t) (ap (wordOf r) e ∙ within-only r 13 64 (pos 0) vectors k h) ∙ zero-right t
 
-  right6 : rule6 r ≡ true
-  unfolding rule6
-  right6 = or-left _ intra
+    right5 : rule5 narrow r ≡ true
+    unfolding rule5
+    right5 =
+        below-intro 16 _ (λ b hb. below-intro 2 _ (λ l hl.
+        and-intro
+        (vector (13 + 4 * b + 2 * l) (4 * b + 2 * l) (used (referenceOf r (quadrantOf b) l)) (omega arith) (omega arith))
+        (vector (13 + 4 * b + 2 * l + 1) (4 * b + 2 * l + 1) (used (referenceOf r (quadrantOf b) l)) (omega arith) (omega arith))))
 
-  pub intra-formed : firstBroken narrow r ≡ 0
-  intra-formed =
-      none-broken r (record {
-        types = right1;
-        sub-types = sub-types-zero r (ap (λ (z : ℤ). eqZ z (pos 4)) type) ∙ subs;
-        references = right3;
-        lists = use-none r intra ∙ references;
-        vectors = right5;
-        pieces = right6;
-      })
+    right6 : rule6 r ≡ true
+    unfolding rule6
+    right6 = or-left _ intra
+
+    words-formed : wellFormed narrow r ≡ true
+    words-formed =
+        rules-formed r (record {
+          types = right1;
+          sub-types = sub-types-zero r not-4 ∙ subs;
+          references = right3;
+          lists = use-none r intra ∙ references;
+          vectors = right5;
+          pieces = right6;
+        })
+
+  -- ---- The rules, and so the words
+  module _ (formed : wellFormed narrow r ≡ true) where
+    formed-subs : allWithin r 1 4 (only (pos 0)) ≡ true
+    formed-subs = sym (sub-types-zero r not-4) ∙ rules-of narrow r formed .sub-types
+
+    formed-references : allWithin r 5 8 (only (minus 1)) ≡ true
+    formed-references = sym (use-none r intra) ∙ rules-of narrow r formed .lists
+
+    -- list l of block b is unused
+    unused : (b l : ℕ) → b < 16 → l < 2 → eqZ (referenceOf r (quadrantOf b) l) (minus 1) ≡ true
+    unused b l hb hl = ap (λ (z : ℤ). eqZ z (minus 1)) (reference formed-references (quadrantOf b) l (omega arith) hl)
+
+    zero-word : (k m : ℕ) → k < 64 → k % 2 ≡ m → liesIn (only (pos 0)) (wordOf r (13 + k)) ≡ true
+    zero-word k zero h even =
+        let b = k / 4 in
+        let l = k % 4 / 2 in
+        let hb : b < 16 = omega arith in
+        let hl : l < 2 = omega arith in
+        let at : 13 + k ≡ 13 + 4 * b + 2 * l = omega arith in
+        ap (λ (w : ℕ). liesIn (only (pos 0)) (wordOf r w)) at
+        ∙ (range-zero (referenceOf r (quadrantOf b) l) (unused b l hb hl) (wordOf r (13 + 4 * b + 2 * l)) ∙ vectors-of narrow r formed b l hb hl .x)
+    zero-word k (suc zero) h odd =
+        let b = k / 4 in
+        let l = k % 4 / 2 in
+        let hb : b < 16 = omega arith in
+        let hl : l < 2 = omega arith in
+        let at : 13 + k ≡ 13 + 4 * b + 2 * l + 1 = omega arith in
+        ap (λ (w : ℕ). liesIn (only (pos 0)) (wordOf r w)) at
+        ∙ (range-zero (referenceOf r (quadrantOf b) l) (unused b l hb hl) (wordOf r (13 + 4 * b + 2 * l + 1)) ∙ vectors-of narrow r formed b l hb hl .y)
+    zero-word k (suc (suc m)) h e = absurd (omega arith)
+
+    formed-vectors : allWithin r 13 64 (only (pos 0)) ≡ true
+    unfolding allWithin
+    formed-vectors = below-intro 64 _ (λ k h. zero-word k (k % 2) h refl)
+
+  pub intra-is : ((allWithin r 1 4 (only (pos 0)) && allWithin r 5 8 (only (minus 1))) && allWithin r 13 64 (only (pos 0))) ≡ wellFormed narrow r
+  intra-is =
+      both-ways _ _
+      (λ e.
+      let both = both-true _ _ e in
+      let first-two = both-true _ _ (both .0) in
+      words-formed (first-two .0) (first-two .1) (both .1))
+      (λ e. and-intro (and-intro (formed-subs e) (formed-references e)) (formed-vectors e))

@@ -1,5 +1,6 @@
 -- Laws that the proofs of the functions cite.
 mod Alike
+mod Kept
 mod Intra
 mod Undivided
 mod Quarters

@@ -1,25 +1,30 @@
--- A record of type 4 whose quadrants keep rules 5 and 6 is well formed. Assumes nothing.
+-- A record of type 4 is well formed where it keeps rules 1 to 4, and its quadrants rules 5 and 6. Assumes nothing.
 use Prim.Native.Nat.{ℕ, _+_, _*_, _/_, _%_, _<_}
 use mathlib.Core.Path.{_≡_, refl, sym, ap, _∙_, subst}
-use mathlib.Core.Bool.{Bool, true, false, not, _&&_, _||_}
+use mathlib.Core.Bool.{Bool, true, false, not, _&&_, _||_, true≢false}
 use mathlib.Core.List.{List}
+use native.Mathlib.Nat.{add-zero}
 use native.Mathlib.Omega.{arith}
+use lib.Dec.{eqb}
 use lib.IntN.{ℤ, pos}
+use borrow.Author.Tests.{eq-eqb, ne-eqb}
 use Rattle.definitions.specs.declared.SubSplit.{SubSplit}
 use Rattle.definitions.specs.declared.SubSplit.the-variants.{S8x8, S8x4, S4x8, S4x4}
 use Rattle.definitions.specs.declared.SubSplits.{SubSplits}
+use Rattle.definitions.specs.declared.Split.{Split}
 use Rattle.definitions.specs.declared.Split.the-variants.{S8x8 as Quarters}
-use Rattle.definitions.specs.Basics.{pick, eqZ}
+use Rattle.definitions.specs.Basics.{pick, eqZ, allBelow}
 use Rattle.definitions.specs.Blocks.{quadrantOf, inQuadrant, rasterOf}
-use Rattle.definitions.specs.Record.{narrow, typeOf, subTypeOf, wordOf, used, vectorWord, referenceOf, motionOf, subSplitOf, splitSaid, firstBroken}
-use Rattle.definitions.proofs.Choices.{no, both-true, eqZ-true, below-true, below-intro, each}
-use Rattle.definitions.proofs.Records.{raster-quadrant, raster-is}
-use Rattle.records.specs.Checking.{blockWithin, headBroken, vectorsRight, subFirstBlock, subSplitAt, sameVectors}
-use Rattle.records.proofs.Ranges.{vectors-all, quadrant-right}
-use Rattle.records.proofs.FirstBlocks.{firstPlace, sub-first-is}
-use Rattle.records.proofs.Verdicts.{broken-none}
-use Rattle.scan.specs.Quick.{firstOf, subAsFirst, QuadrantRight}
-use Rattle.scan.proofs.Alike.{Alike, alike, alike-same, alike-self, alike-back, alike-then, alike-motion, one-motion-each}
+use Rattle.definitions.specs.Record.{narrow, typeOf, isIntra, subTypeOf, motionOf, subSplitOf, splitSaid, rule1, rule2, rule3, rule4, rule5, rule6, firstBroken, wellFormed}
+use Rattle.definitions.specs.Splits.{sameMotion}
+use Rattle.definitions.proofs.Choices.{no, both-true, both-ways, and-intro, and-no, or-left, or-right, eqZ-true, below-true, below-intro, below-same, each}
+use Rattle.definitions.proofs.Records.{raster-quadrant, raster-below}
+use Rattle.records.specs.Checking.{listRight, headBroken, vectorsRight, subFirstBlock, subSplitAt, firstBlockOf, firstBlockIn, sameReferences, sameVectors, sameAsFirst}
+use Rattle.records.proofs.Ranges.{vectors-all}
+use Rattle.records.proofs.FirstBlocks.{firstPlace, sub-first-is, motion-parts, same-all}
+use Rattle.records.proofs.Searches.{below-both, search-fault}
+use Rattle.scan.specs.Quick.{subAsFirst, quadrantRight}
+use Rattle.scan.proofs.Alike.{references-self, Alike, alike, alike-same, alike-self, alike-back, alike-then}
 
 or-false : (a : Bool) → (a || false) ≡ true → a ≡ true
 or-false true e = refl
@@ -31,122 +36,204 @@ module _ (r : List ℤ) (q : ℕ) (hq : q < 4) where
   abbrev B : ℕ → ℕ
   B k = rasterOf q k
 
-  abbrev AsPlace : SubSplit → ℕ → Type 0
-  AsPlace s k = Alike r (B k) (B (firstPlace (motionOf r) s k))
-
   abbrev Rows : Type 0
   Rows = Alike r (B 1) (B 0) × Alike r (B 3) (B 2)
 
   abbrev Columns : Type 0
   Columns = Alike r (B 2) (B 0) × Alike r (B 3) (B 1)
 
-  as-8x8 : Rows → Columns → (k : ℕ) → k < 4 → AsPlace S8x8 k
+  -- they have the vectors of the first of their sub-partition
+  abbrev AsPlace : SubSplit → ℕ → Type 0
+  AsPlace s k = Alike r (B k) (B (firstPlace (motionOf r) s k))
+
+  abbrev AsPlaces : SubSplit → Type 0
+  AsPlaces s = (k : ℕ) → k < 4 → AsPlace s k
+
+  as-8x8 : Rows → Columns → AsPlaces S8x8
   as-8x8 rows columns = each (AsPlace S8x8) (alike-self r (B 0)) (rows .0) (columns .0) (alike-then r (B 3) (B 1) (B 0) (columns .1) (rows .0))
 
-  as-8x4 : Rows → (k : ℕ) → k < 4 → AsPlace S8x4 k
+  as-8x4 : Rows → AsPlaces S8x4
   as-8x4 rows = each (AsPlace S8x4) (alike-self r (B 0)) (rows .0) (alike-self r (B 2)) (rows .1)
 
-  as-4x8 : Columns → (k : ℕ) → k < 4 → AsPlace S4x8 k
+  as-4x8 : Columns → AsPlaces S4x8
   as-4x8 columns = each (AsPlace S4x8) (alike-self r (B 0)) (alike-self r (B 1)) (columns .0) (columns .1)
 
-  -- rows where the sub-type is 0 or 1, columns where it is 0 or 2
-  module _ (rows columns : Bool) (of-rows : rows ≡ true → Rows) (of-columns : columns ≡ true → Columns) where
-    by-sub :
-        (t0 t1 t2 : Bool) → (rows || (not t0 && not t1)) ≡ true → (columns || (not t0 && not t2)) ≡ true →
-        (k : ℕ) → k < 4 → AsPlace (pick t0 S8x8 (pick t1 S8x4 (pick t2 S4x8 S4x4))) k
-    unfolding pick
-    by-sub true t1 t2 e f = as-8x8 (of-rows (or-false rows e)) (of-columns (or-false columns f))
-    by-sub false true t2 e f = as-8x4 (of-rows (or-false rows e))
-    by-sub false false true e f = as-4x8 (of-columns (or-false columns f))
-    by-sub false false false e f = λ k h. alike-self r (B k)
+  rows-8x8 : AsPlaces S8x8 → Rows
+  rows-8x8 a = (a 1 (omega arith), alike-then r (B 3) (B 0) (B 2) (a 3 (omega arith)) (alike-back r (B 2) (B 0) (a 2 (omega arith))))
 
-    by-sub-type :
-        (rows || (not (eqZ (subTypeOf r q) (pos 0)) && not (eqZ (subTypeOf r q) (pos 1)))) ≡ true →
-        (columns || (not (eqZ (subTypeOf r q) (pos 0)) && not (eqZ (subTypeOf r q) (pos 2)))) ≡ true → subAsFirst r q ≡ true
+  columns-8x8 : AsPlaces S8x8 → Columns
+  columns-8x8 a = (a 2 (omega arith), alike-then r (B 3) (B 0) (B 1) (a 3 (omega arith)) (alike-back r (B 1) (B 0) (a 1 (omega arith))))
+
+  module _ (sub : SubSplit) (said : subSplitOf (subTypeOf r q) ≡ sub) where
+    places-same : AsPlaces sub → subAsFirst r q ≡ true
     unfolding subAsFirst
-    by-sub-type e f =
+    places-same a =
         below-intro 4 _ (λ k h.
-        alike-same r (B k) (subFirstBlock (subSplitOf (subTypeOf r q)) (B k))
-        (rw (sub-first-is (motionOf r) q k hq h (subSplitOf (subTypeOf r q)))
-        (by-sub (eqZ (subTypeOf r q) (pos 0)) (eqZ (subTypeOf r q) (pos 1)) (eqZ (subTypeOf r q) (pos 2)) e f k h)))
+        ap (λ (s : SubSplit). sameVectors r (B k) (subFirstBlock s (B k))) said
+        ∙ alike-same r (B k) (subFirstBlock sub (B k)) (subst (Alike r (B k)) (sym (sub-first-is (motionOf r) q k hq h sub)) (a k h)))
+
+    same-places : subAsFirst r q ≡ true → AsPlaces sub
+    unfolding subAsFirst
+    same-places e k h =
+        subst (Alike r (B k)) (sub-first-is (motionOf r) q k hq h sub)
+        (alike r (B k) (subFirstBlock sub (B k))
+        (sym (ap (λ (s : SubSplit). sameVectors r (B k) (subFirstBlock s (B k))) said)
+        ∙ below-true 4 (λ k. sameVectors r (B k) (subFirstBlock (subSplitOf (subTypeOf r q)) (B k))) e k h))
+
+  -- rows where the sub-type is 0 or 1, columns where it is 0 or 2
+  module _ (rows columns : Bool) (of-rows : rows ≡ true → Rows) (to-rows : Rows → rows ≡ true) (of-columns : columns ≡ true → Columns)
+      (to-columns : Columns → columns ≡ true) where
+    abbrev asked : Bool → Bool → Bool → Bool
+    asked t0 t1 t2 = (rows || (not t0 && not t1)) && (columns || (not t0 && not t2))
+
+    abbrev sub : Bool → Bool → Bool → SubSplit
+    sub t0 t1 t2 = pick t0 S8x8 (pick t1 S8x4 (pick t2 S4x8 S4x4))
+
+    asked-places : (t0 t1 t2 : Bool) → (rows || (not t0 && not t1)) ≡ true → (columns || (not t0 && not t2)) ≡ true → AsPlaces (sub t0 t1 t2)
+    unfolding pick
+    asked-places true t1 t2 e f = as-8x8 (of-rows (or-false rows e)) (of-columns (or-false columns f))
+    asked-places false true t2 e f = as-8x4 (of-rows (or-false rows e))
+    asked-places false false true e f = as-4x8 (of-columns (or-false columns f))
+    asked-places false false false e f = λ k h. alike-self r (B k)
+
+    places-asked : (t0 t1 t2 : Bool) → (t1 ≡ true → t2 ≡ false) → AsPlaces (sub t0 t1 t2) → asked t0 t1 t2 ≡ true
+    unfolding pick
+    places-asked true t1 t2 one a = and-intro (or-left _ (to-rows (rows-8x8 a))) (or-left _ (to-columns (columns-8x8 a)))
+    places-asked false true true one a = absurd (true≢false (one refl))
+    places-asked false true false one a = and-intro (or-left _ (to-rows (a 1 (omega arith), a 3 (omega arith)))) (or-right columns refl)
+    places-asked false false true one a = and-intro (or-right rows refl) (or-left _ (to-columns (a 2 (omega arith), a 3 (omega arith))))
+    places-asked false false false one a = and-intro (or-right rows refl) (or-right columns refl)
+
+    abbrev t : ℕ → Bool
+    t n = eqZ (subTypeOf r q) (pos n)
+
+    by-sub-type : asked (t 0) (t 1) (t 2) ≡ subAsFirst r q
+    by-sub-type =
+        both-ways _ _
+        (λ e. let both = both-true _ _ e in places-same (sub (t 0) (t 1) (t 2)) refl (asked-places (t 0) (t 1) (t 2) (both .0) (both .1)))
+        (λ e.
+        places-asked (t 0) (t 1) (t 2) (λ one. ap (λ (z : ℤ). eqZ z (pos 2)) (eqZ-true (subTypeOf r q) (pos 1) one)) (same-places (sub (t 0) (t 1) (t 2)) refl e))
 
   -- the tests of the words; i is the quadrant's first block
-  module _ (i : ℕ) (at : i ≡ firstOf q) where
-    b0 : B 0 ≡ i
-    b0 = each (λ q. rasterOf q 0 ≡ firstOf q) refl refl refl refl q hq ∙ sym at
+  abbrev i : ℕ
+  i = 8 * (q / 2) + 2 * (q % 2)
 
-    b1 : B 1 ≡ i + 1
-    b1 = each (λ q. rasterOf q 1 ≡ firstOf q + 1) refl refl refl refl q hq ∙ ap (λ (n : ℕ). n + 1) (sym at)
+  b0 : B 0 ≡ i
+  b0 = each (λ q. rasterOf q 0 ≡ 8 * (q / 2) + 2 * (q % 2)) refl refl refl refl q hq
 
-    b2 : B 2 ≡ i + 4
-    b2 = each (λ q. rasterOf q 2 ≡ firstOf q + 4) refl refl refl refl q hq ∙ ap (λ (n : ℕ). n + 4) (sym at)
+  b1 : B 1 ≡ i + 1
+  b1 = each (λ q. rasterOf q 1 ≡ 8 * (q / 2) + 2 * (q % 2) + 1) refl refl refl refl q hq
 
-    b3 : B 3 ≡ i + 5
-    b3 = each (λ q. rasterOf q 3 ≡ firstOf q + 5) refl refl refl refl q hq ∙ ap (λ (n : ℕ). n + 5) (sym at)
+  b2 : B 2 ≡ i + 4
+  b2 = each (λ q. rasterOf q 2 ≡ 8 * (q / 2) + 2 * (q % 2) + 4) refl refl refl refl q hq
 
-    turned : (b d v w : ℕ) → b ≡ v → d ≡ w → sameVectors r v w ≡ true → Alike r d b
-    turned b d v w e f s = alike-back r b d (alike r b d ((λ j. sameVectors r (e j) (f j)) ∙ s))
+  b3 : B 3 ≡ i + 5
+  b3 = each (λ q. rasterOf q 3 ≡ 8 * (q / 2) + 2 * (q % 2) + 5) refl refl refl refl q hq
 
-    pub quadrant-alike :
-        {v01 v23 v02 v13 t0 t1 t2 : Bool} →
-        v01 ≡ sameVectors r i (i + 1) → v23 ≡ sameVectors r (i + 4) (i + 5) → v02 ≡ sameVectors r i (i + 4) → v13 ≡ sameVectors r (i + 1) (i + 5) →
-        t0 ≡ eqZ (subTypeOf r q) (pos 0) → t1 ≡ eqZ (subTypeOf r q) (pos 1) → t2 ≡ eqZ (subTypeOf r q) (pos 2) →
-        (((v01 && v23) || (not t0 && not t1)) && ((v02 && v13) || (not t0 && not t2))) ≡ true → subAsFirst r q ≡ true
-    quadrant-alike {v01} {v23} {v02} {v13} {t0} {t1} {t2} e01 e23 e02 e13 s0 s1 s2 e =
-        let both = both-true ((v01 && v23) || (not t0 && not t1)) ((v02 && v13) || (not t0 && not t2)) e in
-        by-sub-type (v01 && v23) (v02 && v13)
-        (λ h. let p = both-true v01 v23 h in (turned (B 0) (B 1) i (i + 1) b0 b1 (sym e01 ∙ p .0), turned (B 2) (B 3) (i + 4) (i + 5) b2 b3 (sym e23 ∙ p .1)))
-        (λ h. let p = both-true v02 v13 h in (turned (B 0) (B 2) i (i + 4) b0 b2 (sym e02 ∙ p .0), turned (B 1) (B 3) (i + 1) (i + 5) b1 b3 (sym e13 ∙ p .1)))
-        ((λ j. (v01 && v23) || (not (sym s0 j) && not (sym s1 j))) ∙ both .0)
-        ((λ j. (v02 && v13) || (not (sym s0 j) && not (sym s2 j))) ∙ both .1)
+  of-test : (b d v w : ℕ) → b ≡ v → d ≡ w → sameVectors r v w ≡ true → Alike r d b
+  of-test b d v w e f s = alike-back r b d (alike r b d ((λ j. sameVectors r (e j) (f j)) ∙ s))
 
-    pub vectors-at :
-        (f g : ℤ → Bool) →
-        ((v : ℤ) → f v ≡ vectorWord narrow (used (wordOf r (5 + 2 * q))) v) →
-        ((v : ℤ) → g v ≡ vectorWord narrow (used (wordOf r (5 + 2 * q + 1))) v) →
-        (((blockWithin f g r (13 + 4 * i) && blockWithin f g r (13 + 4 * i + 4)) && blockWithin f g r (13 + 4 * i + 16)) && blockWithin f g r (13 + 4 * i + 20)) ≡ vectorsRight r q
-    vectors-at f g e0 e1 =
-        let w : 13 + 4 * i ≡ 13 + 32 * (q / 2) + 8 * (q % 2) = omega arith in
-        (λ j. ((blockWithin f g r (w j) && blockWithin f g r (w j + 4)) && blockWithin f g r (w j + 16)) && blockWithin f g r (w j + 20))
-        ∙ quadrant-right r q hq f g e0 e1
+  to-test : (b d v w : ℕ) → b ≡ v → d ≡ w → Alike r d b → sameVectors r v w ≡ true
+  to-test b d v w e f a = sym (λ j. sameVectors r (e j) (f j)) ∙ alike-same r b d (alike-back r d b a)
 
--- ---- A block has the motion of the first block of its sub-partition
+  pub quadrant-alike :
+      {v01 v23 v02 v13 t0 t1 t2 : Bool} →
+      v01 ≡ sameVectors r i (i + 1) → v23 ≡ sameVectors r (i + 4) (i + 5) → v02 ≡ sameVectors r i (i + 4) → v13 ≡ sameVectors r (i + 1) (i + 5) →
+      t0 ≡ eqZ (subTypeOf r q) (pos 0) → t1 ≡ eqZ (subTypeOf r q) (pos 1) → t2 ≡ eqZ (subTypeOf r q) (pos 2) →
+      (((v01 && v23) || (not t0 && not t1)) && ((v02 && v13) || (not t0 && not t2))) ≡ subAsFirst r q
+  quadrant-alike e01 e23 e02 e13 s0 s1 s2 =
+      (λ j. ((e01 j && e23 j) || (not (s0 j) && not (s1 j))) && ((e02 j && e13 j) || (not (s0 j) && not (s2 j))))
+      ∙ by-sub-type (sameVectors r i (i + 1) && sameVectors r (i + 4) (i + 5)) (sameVectors r i (i + 4) && sameVectors r (i + 1) (i + 5))
+      (λ h. let p = both-true _ _ h in (of-test (B 0) (B 1) i (i + 1) b0 b1 (p .0), of-test (B 2) (B 3) (i + 4) (i + 5) b2 b3 (p .1)))
+      (λ a. and-intro (to-test (B 0) (B 1) i (i + 1) b0 b1 (a .0)) (to-test (B 2) (B 3) (i + 4) (i + 5) b2 b3 (a .1)))
+      (λ h. let p = both-true _ _ h in (of-test (B 0) (B 2) i (i + 4) b0 b2 (p .0), of-test (B 1) (B 3) (i + 1) (i + 5) b1 b3 (p .1)))
+      (λ a. and-intro (to-test (B 0) (B 2) i (i + 4) b0 b2 (a .0)) (to-test (B 1) (B 3) (i + 1) (i + 5) b1 b3 (a .1)))
+
+  pub quadrant-is :
+      {v0 v1 v4 v5 same : Bool} →
+      v0 ≡ allBelow 2 (listRight r i) → v1 ≡ allBelow 2 (listRight r (i + 1)) → v4 ≡ allBelow 2 (listRight r (i + 4)) → v5 ≡ allBelow 2 (listRight r (i + 5)) →
+      same ≡ subAsFirst r q → ((((v0 && v1) && v4) && v5) && same) ≡ quadrantRight r q
+  unfolding quadrantRight vectorsRight allBelow
+  quadrant-is e0 e1 e4 e5 s =
+      (λ j. (((e0 j && e1 j) && e4 j) && e5 j) && s j)
+      ∙ sym (λ j. (((block (b0 j) && block (b1 j)) && block (b2 j)) && block (b3 j)) && subAsFirst r q)
+    where
+      block : ℕ → Bool
+      block b = allBelow 2 (listRight r b)
+
+-- ---- A block has the motion of the first block of its sub-partition where it has its vectors
 sub-quadrant : (s : SubSplit) (b : ℕ) → b < 16 → quadrantOf (subFirstBlock s b) ≡ quadrantOf b
 sub-quadrant S8x8 b h = raster-quadrant (quadrantOf b) 0 (omega arith) (omega arith)
 sub-quadrant S8x4 b h = raster-quadrant (quadrantOf b) (inQuadrant b / 2 * 2) (omega arith) (omega arith)
 sub-quadrant S4x8 b h = raster-quadrant (quadrantOf b) (inQuadrant b % 2) (omega arith) (omega arith)
 sub-quadrant S4x4 b h = refl
 
-module _ (r : List ℤ) (pieces : (q : ℕ) → q < 4 → subAsFirst r q ≡ true) where
-  abbrev sub : ℕ → SubSplit
-  sub b = subSplitOf (subTypeOf r (quadrantOf b))
-
-  sub-alike : (b : ℕ) → b < 16 → Alike r b (subFirstBlock (sub b) b)
-  unfolding subAsFirst
-  sub-alike b h =
-      subst (λ (d : ℕ). Alike r d (subFirstBlock (sub b) d)) (raster-is b h)
-      (alike r _ _
-      (below-true 4 (λ k. sameVectors r (rasterOf (quadrantOf b) k) (subFirstBlock (sub b) (rasterOf (quadrantOf b) k))) (pieces (quadrantOf b) (omega arith)) (inQuadrant b) (omega arith)))
-
-  sub-motion : (b : ℕ) → b < 16 → motionOf r b ≡ motionOf r (subFirstBlock (sub b) b)
-  sub-motion b h = alike-motion r b (subFirstBlock (sub b) b) (λ l hl. ap (λ (q : ℕ). referenceOf r q l) (sym (sub-quadrant (sub b) b h))) (sub-alike b h)
+module _ (r : List ℤ) where
+  sub-motion : (s : SubSplit) (b : ℕ) → b < 16 → sameMotion (motionOf r b) (motionOf r (subFirstBlock s b)) ≡ sameVectors r b (subFirstBlock s b)
+  sub-motion s b h =
+      let one = ap (sameReferences r (quadrantOf b)) (sub-quadrant s b h) ∙ references-self r (quadrantOf b) in
+      motion-parts r b (subFirstBlock s b) ∙ ap (λ (t : Bool). t && sameVectors r b (subFirstBlock s b)) one
 
 -- ---- The record
-module _ (r : List ℤ) (quarters : eqZ (typeOf r) (pos 4) ≡ true) (head : headBroken r ≡ 0) (quadrants : (q : ℕ) → q < 4 → QuadrantRight r q) where
+-- rules 1 to 4, and then 5 and 6
+head-and-tail :
+    (a b c d e f : Bool) →
+    (eqb (pick (not a) 1 (pick (not b) 2 (pick (not c) 3 (pick (not d) 4 0)))) 0 && (e && f))
+    ≡ eqb (pick (not a) 1 (pick (not b) 2 (pick (not c) 3 (pick (not d) 4 (pick (not e) 5 (pick (not f) 6 0)))))) 0
+unfolding pick
+head-and-tail false b c d e f = refl
+head-and-tail true false c d e f = refl
+head-and-tail true true false d e f = refl
+head-and-tail true true true false e f = refl
+head-and-tail true true true true false f = refl
+head-and-tail true true true true true false = refl
+head-and-tail true true true true true true = refl
+
+module _ (r : List ℤ) (quarters : eqZ (typeOf r) (pos 4) ≡ true) where
+  type : typeOf r ≡ pos 4
+  type = eqZ-true (typeOf r) (pos 4) quarters
+
   abbrev said : SubSplits
   said = record { a = subSplitOf (subTypeOf r 0); b = subSplitOf (subTypeOf r 1); c = subSplitOf (subTypeOf r 2); d = subSplitOf (subTypeOf r 3) }
 
   split : splitSaid r ≡ Quarters said
   unfolding splitSaid
-  split =
-      let type = eqZ-true (typeOf r) (pos 4) quarters in
-      no _ _ (ap (λ (z : ℤ). eqZ z (pos 1)) type) ∙ (no _ _ (ap (λ (z : ℤ). eqZ z (pos 2)) type) ∙ no _ _ (ap (λ (z : ℤ). eqZ z (pos 3)) type))
+  split = no _ _ (ap (λ (z : ℤ). eqZ z (pos 1)) type) ∙ (no _ _ (ap (λ (z : ℤ). eqZ z (pos 2)) type) ∙ no _ _ (ap (λ (z : ℤ). eqZ z (pos 3)) type))
 
-  sub-at : (b : ℕ) → b < 16 → subSplitAt said (quadrantOf b) ≡ subSplitOf (subTypeOf r (quadrantOf b))
-  sub-at b h = each (λ q. subSplitAt said q ≡ subSplitOf (subTypeOf r q)) refl refl refl refl (quadrantOf b) (omega arith)
+  sub-at : (q : ℕ) → q < 4 → subSplitAt said q ≡ subSplitOf (subTypeOf r q)
+  sub-at = each (λ q. subSplitAt said q ≡ subSplitOf (subTypeOf r q)) refl refl refl refl
 
-  pub quarters-formed : firstBroken narrow r ≡ 0
-  quarters-formed =
-      broken-none r head (vectors-all r ∙ below-intro 4 _ (λ q h. quadrants q h .vectors))
-      (one-motion-each r (Quarters said) split (λ b h.
-      sub-motion r (λ q h. quadrants q h .pieces) b h ∙ ap (λ (s : SubSplit). motionOf r (subFirstBlock s b)) (sym (sub-at b h))))
+  first-is : (q k : ℕ) → q < 4 → k < 4 → firstBlockOf r (rasterOf q k) ≡ subFirstBlock (subSplitOf (subTypeOf r q)) (rasterOf q k)
+  unfolding firstBlockOf
+  first-is q k hq hk =
+      no _ _ (ap (λ (z : ℤ). eqZ z (pos 0)) type)
+      ∙ (ap (λ (s : Split). firstBlockIn s (rasterOf q k)) split
+      ∙ ap (λ (s : SubSplit). subFirstBlock s (rasterOf q k)) (ap (subSplitAt said) (raster-quadrant q k hq hk) ∙ sub-at q hq))
+
+  sub-as-first : (q : ℕ) → q < 4 → sameAsFirst r q ≡ subAsFirst r q
+  unfolding sameAsFirst subAsFirst
+  sub-as-first q hq =
+      below-same 4 _ _ (λ k hk.
+      ap (λ (d : ℕ). sameMotion (motionOf r (rasterOf q k)) (motionOf r d)) (first-is q k hq hk)
+      ∙ sub-motion r (subSplitOf (subTypeOf r q)) (rasterOf q k) (raster-below q k hq hk))
+
+  tail : allBelow 4 (quadrantRight r) ≡ (rule5 narrow r && rule6 r)
+  unfolding quadrantRight
+  tail =
+      let e5 = vectors-all r in
+      let e6 = same-all r ∙ below-same 4 (sameAsFirst r) (subAsFirst r) sub-as-first in
+      sym ((λ i. e5 i && e6 i) ∙ below-both 4 (vectorsRight r) (subAsFirst r) (quadrantRight r) (λ k. refl))
+
+  quarters-is : (eqb (headBroken r) 0 && allBelow 4 (quadrantRight r)) ≡ wellFormed narrow r
+  unfolding headBroken firstBroken
+  quarters-is =
+      ap (λ (t : Bool). eqb (headBroken r) 0 && t) tail ∙ head-and-tail (rule1 r) (rule2 r) (rule3 r) (rule4 r) (rule5 narrow r) (rule6 r)
+
+  pub head-broken : (headBroken r ≡ 0 → ⊥) → false ≡ wellFormed narrow r
+  head-broken ne = sym (ap (λ (t : Bool). t && allBelow 4 (quadrantRight r)) (ne-eqb (headBroken r) 0 ne)) ∙ quarters-is
+
+  pub quadrant-broken : (q : ℕ) → q < 4 → quadrantRight r q ≡ false → false ≡ wellFormed narrow r
+  quadrant-broken q h e = sym (and-no (eqb (headBroken r) 0) (search-fault (quadrantRight r) 4 q h e)) ∙ quarters-is
+
+  pub quarters-formed : headBroken r ≡ 0 → allBelow 4 (quadrantRight r) ≡ true → wellFormed narrow r ≡ true
+  quarters-formed head all = sym quarters-is ∙ and-intro (eq-eqb (headBroken r) 0 head) all

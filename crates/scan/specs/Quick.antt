@@ -1,7 +1,6 @@
 -- What the quick tests find, where no definition of the crate records says it.
-use Prim.Native.Nat.{ℕ, _+_, _*_, _/_, _%_, _<_}
-use mathlib.Core.Path.{_≡_}
-use mathlib.Core.Bool.{Bool, true}
+use Prim.Native.Nat.{ℕ, _+_, _-_}
+use mathlib.Core.Bool.{Bool, _&&_}
 use mathlib.Core.List.{List}
 use lib.IntN.{ℤ}
 use Rattle.definitions.specs.Basics.{allBelow}
@@ -9,20 +8,18 @@ use Rattle.definitions.specs.Blocks.{quadrantOf, rasterOf}
 use Rattle.definitions.specs.Record.{subTypeOf, subSplitOf}
 use Rattle.records.specs.Checking.{quadrantUsed, listRight, vectorsRight, subFirstBlock, sameVectors}
 
--- rules 4 and 5 of block b, which is not intra: a used list, and vectors as its references allow
-pub record BlockRight (r : List ℤ) (b : ℕ) : Type 0 where
-  pub used : quadrantUsed r (quadrantOf b) ≡ true
-  pub vectors : (l : ℕ) → l < 2 → listRight r b l ≡ true
+-- rules 4 and 5 of block b, which is not intra: a used list, and in both lists vectors as its references allow
+unfoldable pub blockRight : List ℤ → ℕ → Bool
+blockRight r b = quadrantUsed r (quadrantOf b) && allBelow 2 (listRight r b)
 
--- the first block of quadrant q
-abbrev pub firstOf : ℕ → ℕ
-firstOf q = 8 * (q / 2) + 2 * (q % 2)
+-- of blocks first .. end−1, each has the vectors of the one that is a step before it
+unfoldable pub vectorsRepeat : List ℤ → ℕ → ℕ → ℕ → Bool
+vectorsRepeat r first end step = allBelow (end - (first + step)) (λ k. sameVectors r (first + k + step) (first + k))
 
 -- the blocks of quadrant q have the vectors of the first block of their sub-partition
 unfoldable pub subAsFirst : List ℤ → ℕ → Bool
 subAsFirst r q = allBelow 4 (λ k. sameVectors r (rasterOf q k) (subFirstBlock (subSplitOf (subTypeOf r q)) (rasterOf q k)))
 
 -- rules 5 and 6 of quadrant q in type 4
-pub record QuadrantRight (r : List ℤ) (q : ℕ) : Type 0 where
-  pub vectors : vectorsRight r q ≡ true
-  pub pieces : subAsFirst r q ≡ true
+unfoldable pub quadrantRight : List ℤ → ℕ → Bool
+quadrantRight r q = vectorsRight r q && subAsFirst r q

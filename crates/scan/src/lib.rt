@@ -1,15 +1,15 @@
-// A quick scan of motion records, which passes only well-formed ones. From the first that it does not pass, the check of the crate records goes on.
+// A quick scan of motion records, which passes those that are well formed. From the first that it does not pass, the check of the crate records goes on and finds the broken rule.
 // Tests joined by `&` and `|` have no branch between them, and the compiler takes several words at once.
 ghost use mathlib.Core.Path.{_≡_};
-ghost use mathlib.Core.Bool.{true, false};
-ghost use Prim.Native.Nat.{ℕ, _+_, _*_, _≤_, _<_};
+ghost use mathlib.Core.Bool.{true, false, _&&_};
+ghost use Prim.Native.Nat.{ℕ, _*_, _≤_, _<_};
 ghost use lib.IntN.{pos};
 ghost use lib.ListN.{length};
-ghost use Rattle.definitions.specs.Basics.{eqZ};
-ghost use Rattle.definitions.specs.Record.{firstBroken, isIntra, narrow, recordAt, recordWords, rule2, rule3, typeOf};
+ghost use Rattle.definitions.specs.Basics.{allBelow, eqZ};
+ghost use Rattle.definitions.specs.Record.{isIntra, narrow, recordAt, recordWords, rule2, rule3, typeOf, wellFormed};
 ghost use Rattle.definitions.specs.Refusals.{recordTests, verdictOf};
-ghost use Rattle.records.specs.Checking.{addresses, sameVectors};
-ghost use Rattle.scan.specs.Quick.{BlockRight, QuadrantRight, firstOf, subAsFirst};
+ghost use Rattle.records.specs.Checking.{addresses, listRight};
+ghost use Rattle.scan.specs.Quick.{blockRight, quadrantRight, subAsFirst, vectorsRepeat};
 use definitions::Verdict;
 use records::check;
 use records::layout;
@@ -19,7 +19,7 @@ use records::read::record_at;
 // No sub-type but 0, no reference but -1, no vector but 0.
 fn quick_intra(words: &[i16]) -> bool
     requires { ⌜ (length (now words) ≡ recordWords) × (isIntra (now words) ≡ true) ⌝ }
-    ensures { λ t. ⌜ (t ≡ true → firstBroken narrow (now (words .entry)) ≡ 0) ⌝ }
+    ensures { λ t. ⌜ t ≡ wellFormed narrow (now (words .entry)) ⌝ }
 {
     check::all_within(words, layout::SUB_TYPES, 4, check::ONLY_ZERO)
         & check::all_within(words, layout::REFERENCES, 8, check::ONLY_UNUSED)
@@ -30,7 +30,7 @@ fn quick_intra(words: &[i16]) -> bool
 // Rules 2 and 3 of a type that has no sub-types.
 fn undivided_head(words: &[i16]) -> bool
     requires { ⌜ (length (now words) ≡ recordWords) × (eqZ (typeOf (now words)) (pos 4) ≡ false) ⌝ }
-    ensures { λ t. ⌜ (t ≡ true → (rule2 (now (words .entry)) ≡ true) × (rule3 (now (words .entry)) ≡ true)) ⌝ }
+    ensures { λ t. ⌜ t ≡ (rule2 (now (words .entry)) && rule3 (now (words .entry))) ⌝ }
 {
     if !check::all_within(words, layout::SUB_TYPES, 4, check::ONLY_ZERO) {
         return false;
@@ -38,25 +38,29 @@ fn undivided_head(words: &[i16]) -> bool
     check::all_within(words, layout::REFERENCES, 8, check::REFERENCES)
 }
 
-// Rules 4 and 5 of block b.
-fn block_right(words: &[i16], b: usize) -> bool
+// Rule 5 of block b: its vectors are as the references of its quadrant allow.
+fn block_vectors(words: &[i16], b: usize) -> bool
     requires { ⌜ (length (now words) ≡ recordWords) × (b < 16) ⌝ }
-    ensures { λ t. ⌜ (t ≡ true → BlockRight (now (words .entry)) b) ⌝ }
+    ensures { λ t. ⌜ t ≡ allBelow 2 (listRight (now (words .entry)) b) ⌝ }
 {
-    let quadrant = 2 * (b / 8) + b % 4 / 2;
-    if !check::quadrant_used(words, quadrant) {
-        return false;
-    }
-    let reference = layout::REFERENCES + 2 * quadrant;
+    let reference = layout::REFERENCES + 2 * (2 * (b / 8) + b % 4 / 2);
     let range0 = check::range_by(words, reference);
     let range1 = check::range_by(words, reference + 1);
     check::block_within(words, layout::VECTORS + 4 * b, range0, range1)
 }
 
-// Of blocks first..end-1, each has the vectors of the block that is a step before it.
+// Rules 4 and 5 of block b.
+fn block_right(words: &[i16], b: usize) -> bool
+    requires { ⌜ (length (now words) ≡ recordWords) × (b < 16) ⌝ }
+    ensures { λ t. ⌜ t ≡ blockRight (now (words .entry)) b ⌝ }
+{
+    check::quadrant_used(words, 2 * (b / 8) + b % 4 / 2) & block_vectors(words, b)
+}
+
+// Of blocks first..end-1, each has the vectors of the one that is a step before it.
 fn vectors_repeat(words: &[i16], first: usize, end: usize, step: usize) -> bool
     requires { ⌜ (length (now words) ≡ recordWords) × (first ≤ 16) × (end ≤ 16) × (step ≤ 16) ⌝ }
-    ensures { λ t. ⌜ (t ≡ true → (b : ℕ) → first ≤ b → b + step < end → sameVectors (now (words .entry)) (b + step) b ≡ true) ⌝ }
+    ensures { λ t. ⌜ t ≡ vectorsRepeat (now (words .entry)) first end step ⌝ }
 {
     let mut same = true;
     let mut b = first;
@@ -70,40 +74,32 @@ fn vectors_repeat(words: &[i16], first: usize, end: usize, step: usize) -> bool
 // Type 1, 16×16: all blocks as block 0.
 fn quick_whole(words: &[i16]) -> bool
     requires { ⌜ (length (now words) ≡ recordWords) × (eqZ (typeOf (now words)) (pos 1) ≡ true) ⌝ }
-    ensures { λ t. ⌜ (t ≡ true → firstBroken narrow (now (words .entry)) ≡ 0) ⌝ }
+    ensures { λ t. ⌜ t ≡ wellFormed narrow (now (words .entry)) ⌝ }
 {
     if !undivided_head(words) {
         return false;
     }
-    if !block_right(words, 0) {
-        return false;
-    }
-    if !(check::same_references(words, 1, 0)
+    block_right(words, 0)
+        & check::same_references(words, 1, 0)
         & check::same_references(words, 2, 0)
-        & check::same_references(words, 3, 0)) {
-        return false;
-    }
-    check::same_vectors(words, 1, 0) & vectors_repeat(words, 0, 16, 2)
+        & check::same_references(words, 3, 0)
+        & check::same_vectors(words, 1, 0)
+        & vectors_repeat(words, 0, 16, 2)
 }
 
 // Type 2, 16×8: the blocks of the upper half as block 0, those of the lower as block 8.
 fn quick_rows(words: &[i16]) -> bool
     requires { ⌜ (length (now words) ≡ recordWords) × (eqZ (typeOf (now words)) (pos 2) ≡ true) ⌝ }
-    ensures { λ t. ⌜ (t ≡ true → firstBroken narrow (now (words .entry)) ≡ 0) ⌝ }
+    ensures { λ t. ⌜ t ≡ wellFormed narrow (now (words .entry)) ⌝ }
 {
     if !undivided_head(words) {
         return false;
     }
-    if !block_right(words, 0) {
-        return false;
-    }
-    if !block_right(words, 8) {
-        return false;
-    }
-    if !(check::same_references(words, 1, 0) & check::same_references(words, 3, 2)) {
-        return false;
-    }
-    check::same_vectors(words, 1, 0)
+    block_right(words, 0)
+        & block_right(words, 8)
+        & check::same_references(words, 1, 0)
+        & check::same_references(words, 3, 2)
+        & check::same_vectors(words, 1, 0)
         & vectors_repeat(words, 0, 8, 2)
         & check::same_vectors(words, 9, 8)
         & vectors_repeat(words, 8, 16, 2)
@@ -112,73 +108,69 @@ fn quick_rows(words: &[i16]) -> bool
 // Type 3, 8×16: the blocks of the left half as block 0, those of the right as block 2.
 fn quick_columns(words: &[i16]) -> bool
     requires { ⌜ (length (now words) ≡ recordWords) × (eqZ (typeOf (now words)) (pos 3) ≡ true) ⌝ }
-    ensures { λ t. ⌜ (t ≡ true → firstBroken narrow (now (words .entry)) ≡ 0) ⌝ }
+    ensures { λ t. ⌜ t ≡ wellFormed narrow (now (words .entry)) ⌝ }
 {
     if !undivided_head(words) {
         return false;
     }
-    if !block_right(words, 0) {
-        return false;
-    }
-    if !block_right(words, 2) {
-        return false;
-    }
-    if !(check::same_references(words, 2, 0) & check::same_references(words, 3, 1)) {
-        return false;
-    }
-    check::same_vectors(words, 1, 0)
+    block_right(words, 0)
+        & block_right(words, 2)
+        & check::same_references(words, 2, 0)
+        & check::same_references(words, 3, 1)
+        & check::same_vectors(words, 1, 0)
         & check::same_vectors(words, 3, 2)
         & vectors_repeat(words, 0, 16, 4)
 }
 
 // ---- Type 4, 8×8
-// The blocks of quadrant q have the vectors of the first block of their sub-partition. Block i is the quadrant's first.
-fn same_in_quadrant(words: &[i16], q: usize, i: usize) -> bool
-    requires { ⌜ (length (now words) ≡ recordWords) × (q < 4) × (i ≡ firstOf q) ⌝ }
-    ensures { λ t. ⌜ (t ≡ true → subAsFirst (now (words .entry)) q ≡ true) ⌝ }
+// The blocks of quadrant q, which are i, i + 1, i + 4 and i + 5, have the vectors of the first block of their sub-partition.
+fn same_in_quadrant(words: &[i16], q: usize) -> bool
+    requires { ⌜ (length (now words) ≡ recordWords) × (q < 4) ⌝ }
+    ensures { λ t. ⌜ t ≡ subAsFirst (now (words .entry)) q ⌝ }
 {
+    let i = 8 * (q / 2) + 2 * (q % 2);
     let sub = words[layout::SUB_TYPES + q];
     let rows = check::same_vectors(words, i, i + 1) & check::same_vectors(words, i + 4, i + 5);
     let columns = check::same_vectors(words, i, i + 4) & check::same_vectors(words, i + 1, i + 5);
     (rows | ((sub != 0) & (sub != 1))) & (columns | ((sub != 0) & (sub != 2)))
 }
 
-// Rules 5 and 6 of quadrant q, whose first block is i.
-fn quick_quadrant(words: &[i16], q: usize, i: usize) -> bool
-    requires { ⌜ (length (now words) ≡ recordWords) × (q < 4) × (i ≡ firstOf q) ⌝ }
-    ensures { λ t. ⌜ (t ≡ true → QuadrantRight (now (words .entry)) q) ⌝ }
+// Rules 5 and 6 of quadrant q.
+fn quick_quadrant(words: &[i16], q: usize) -> bool
+    requires { ⌜ (length (now words) ≡ recordWords) × (q < 4) ⌝ }
+    ensures { λ t. ⌜ t ≡ quadrantRight (now (words .entry)) q ⌝ }
 {
-    let reference = layout::REFERENCES + 2 * q;
-    let range0 = check::range_by(words, reference);
-    let range1 = check::range_by(words, reference + 1);
-    let first = layout::VECTORS + 4 * i;
-    let same = same_in_quadrant(words, q, i);
-    check::block_within(words, first, range0, range1)
-        & check::block_within(words, first + 4, range0, range1)
-        & check::block_within(words, first + 16, range0, range1)
-        & check::block_within(words, first + 20, range0, range1)
-        & same
+    let i = 8 * (q / 2) + 2 * (q % 2);
+    block_vectors(words, i)
+        & block_vectors(words, i + 1)
+        & block_vectors(words, i + 4)
+        & block_vectors(words, i + 5)
+        & same_in_quadrant(words, q)
 }
 
 // Rules 1 to 4, and each quadrant.
 fn quick_quarters(words: &[i16]) -> bool
     requires { ⌜ (length (now words) ≡ recordWords) × (eqZ (typeOf (now words)) (pos 4) ≡ true) ⌝ }
-    ensures { λ t. ⌜ (t ≡ true → firstBroken narrow (now (words .entry)) ≡ 0) ⌝ }
+    ensures { λ t. ⌜ t ≡ wellFormed narrow (now (words .entry)) ⌝ }
 {
     if check::head_rule(words) != 0 {
         return false;
     }
-    quick_quadrant(words, 0, 0)
-        & quick_quadrant(words, 1, 2)
-        & quick_quadrant(words, 2, 8)
-        & quick_quadrant(words, 3, 10)
+    let mut q: usize = 0;
+    while q < 4 {
+        if !quick_quadrant(words, q) {
+            return false;
+        }
+        q += 1;
+    }
+    true
 }
 
 // ---- The scan
-// A record that passes is well formed.
+// The record is well formed.
 fn quick(words: &[i16]) -> bool
     requires { ⌜ length (now words) ≡ recordWords ⌝ }
-    ensures { λ t. ⌜ (t ≡ true → firstBroken narrow (now (words .entry)) ≡ 0) ⌝ }
+    ensures { λ t. ⌜ t ≡ wellFormed narrow (now (words .entry)) ⌝ }
 {
     let kind = words[layout::TYPE];
     if kind == 0 {
@@ -199,10 +191,10 @@ fn quick(words: &[i16]) -> bool
     false
 }
 
-// The first of records from..to-1 that does not pass, or to.
+// The first of records from..to-1 that does not pass, that is, the first malformed; or to.
 fn first_not_quick(base: &[i16], from: usize, to: usize) -> usize
     requires { ⌜ (to * recordWords ≤ length (now base)) × (from ≤ to) × (to ≤ 65536) ⌝ }
-    ensures { λ a. ⌜ (from ≤ a) × (a ≤ to) × ((k : ℕ) → from ≤ k → k < a → firstBroken narrow (recordAt (now (base .entry)) k) ≡ 0) ⌝ }
+    ensures { λ a. ⌜ (from ≤ a) × (a ≤ to) × ((k : ℕ) → from ≤ k → k < a → wellFormed narrow (recordAt (now (base .entry)) k) ≡ true) × (a < to → wellFormed narrow (recordAt (now (base .entry)) a) ≡ false) ⌝ }
 {
     let mut a = from;
     while a < to {

@@ -1,9 +1,9 @@
 -- `quick` meets its contract: by the type. Assumes nothing.
 use mathlib.Core.Path.{sym}
-use mathlib.Core.Bool.{true≢false}
 use lib.IntN.{pos}
 use Rattle.definitions.specs.Record.{typeOf}
-use Rattle.records.proofs.Words.{word-is}
+use Rattle.records.proofs.Words.{word-is, word-is-not}
+use Rattle.scan.proofs.Kept.{none-formed}
 use borrow.Author.Needs.{needs}
 use Rattle.scan.proofs.quick.Statement.{statement}
 use Rattle.scan.proofs.quick.Tie as tie
@@ -42,7 +42,16 @@ returns-5 : tie.Need-returns-5
 returns-5 c = search needs
 
 returns-6 : tie.Need-returns-6
-returns-6 c = λ e. absurd (true≢false (sym e))
+returns-6 c =
+    let words = c .before .before .before .before .before .before .args .words .now in
+    let kind = typeOf words in
+    sym
+    (none-formed words
+    (word-is-not kind (pos 0) (search needs) (search needs) (c .before .before .before .before .if1 .left))
+    (word-is-not kind (pos 1) (search needs) (search needs) (c .before .before .before .if2 .left))
+    (word-is-not kind (pos 2) (search needs) (search needs) (c .before .before .if3 .left))
+    (word-is-not kind (pos 3) (search needs) (search needs) (c .before .if4 .left))
+    (word-is-not kind (pos 4) (search needs) (search needs) (c .if5 .left)))
 
 pub quick-spec : {M : Type 1} → statement M
 quick-spec =

@@ -1,54 +1,73 @@
--- `quick_quarters` meets its contract: rules 1 to 4, and each quadrant. Assumes nothing.
-use mathlib.Core.Path.{sym, _∙_}
-use mathlib.Core.Bool.{true≢false, _&&_}
-use Rattle.definitions.proofs.Choices.{both-true, each}
-use Rattle.scan.specs.Quick.{QuadrantRight}
-use Rattle.scan.proofs.Quarters.{quarters-formed}
+-- `quick_quarters` meets its contract: rules 1 to 4, and the quadrants passed are right. Assumes nothing.
+use Prim.Native.Nat.{_-_, _≤_}
+use mathlib.Core.Path.{_≡_, sym, ap, _∙_}
+use mathlib.Core.Bool.{true}
+use borrow.Author.Tests.{not-true, not-false, eq-eqb}
+use Rattle.definitions.specs.Basics.{allBelow}
+use Rattle.records.proofs.Searches.{search-none, search-more, search-end, search-fault}
+use Rattle.scan.specs.Quick.{quadrantRight}
+use Rattle.scan.proofs.Quarters.{head-broken, quadrant-broken, quarters-formed}
 use borrow.Author.Needs.{needs}
 use Rattle.scan.proofs.quick_quarters.Statement.{statement}
 use Rattle.scan.proofs.quick_quarters.Tie as tie
 
-head-rule-requires : tie.Need-head-rule-requires
+abbrev Inv-loop : tie.InvT-loop
+Inv-loop words q₀ q = (q ≤ 4) × (allBelow q (quadrantRight words) ≡ true)
+
+abbrev μ-loop : tie.MeasureT-loop
+μ-loop words q₀ q = 4 - q
+
+head-rule-requires : tie.Need-head-rule-requires Inv-loop μ-loop
 head-rule-requires c κs = search needs
 
-returns : tie.Need-returns
-returns c = λ e. absurd (true≢false (sym e))
+returns : tie.Need-returns Inv-loop μ-loop
+returns c =
+    let start = c .before .before in
+    head-broken (start .args .words .now) (start .pre .1) (λ e. c .if1 .taken (c .before .head-rule .ensures ∙ e))
 
-quick-quadrant-requires : tie.Need-quick-quadrant-requires
+loop-holds : tie.Need-loop-holds Inv-loop μ-loop
+loop-holds c = (search needs, search-none (quadrantRight (c .before .before .args .words .now)))
+
+quick-quadrant-requires : tie.Need-quick-quadrant-requires Inv-loop μ-loop
 quick-quadrant-requires c κs = search needs
 
-quick-quadrant-requires-2 : tie.Need-quick-quadrant-requires-2
-quick-quadrant-requires-2 c κs = search needs
-
-quick-quadrant-requires-3 : tie.Need-quick-quadrant-requires-3
-quick-quadrant-requires-3 c κs = search needs
-
-quick-quadrant-requires-4 : tie.Need-quick-quadrant-requires-4
-quick-quadrant-requires-4 c κs = search needs
-
-returns-2 : tie.Need-returns-2
+returns-2 : tie.Need-returns-2 Inv-loop μ-loop
 returns-2 c =
     let start = c .before .before .before .before .before .before in
+    quadrant-broken (start .args .words .now) (start .pre .1) (c .before .before .before .loop .q) (c .before .before .loop-test .taken) (sym (c .before .quick-quadrant .ensures) ∙ not-true _ (c .if2 .taken))
+
+add-q : tie.Need-add-q Inv-loop μ-loop
+add-q c = search needs
+
+loop-less : tie.Need-loop-less Inv-loop μ-loop
+loop-less c = search needs
+
+loop-again : tie.Need-loop-again Inv-loop μ-loop
+loop-again c =
+    let l = c .before .before .before .loop in
+    (search needs, search-more (quadrantRight (c .before .before .before .before .before .before .args .words .now)) (l .q) (l .inv .1) (sym (c .before .quick-quadrant .ensures) ∙ not-false _ (c .if2 .left)))
+
+returns-3 : tie.Need-returns-3 Inv-loop μ-loop
+returns-3 c =
+    let start = c .before .before .before .before in
     let words = start .args .words .now in
-    let q0 = c .before .before .before .quick-quadrant in
-    let q1 = c .before .before .quick-quadrant2 in
-    let q2 = c .before .quick-quadrant3 in
-    let q3 = c .quick-quadrant4 in
-    λ e.
-    let all = both-true ((q0 .result && q1 .result) && q2 .result) (q3 .result) e in
-    let three = both-true (q0 .result && q1 .result) (q2 .result) (all .0) in
-    let two = both-true (q0 .result) (q1 .result) (three .0) in
-    quarters-formed words (start .pre .1) (sym (c .before .before .before .before .before .head-rule .ensures) ∙ c .before .before .before .before .if1 .left)
-    (each (QuadrantRight words) (q0 .ensures (two .0)) (q1 .ensures (two .1)) (q2 .ensures (three .1)) (q3 .ensures (all .1)))
+    let l = c .before .loop in
+    sym
+    (quarters-formed words (start .pre .1) (sym (c .before .before .before .head-rule .ensures) ∙ c .before .before .if1 .left)
+    (search-end (quadrantRight words) 4 (l .q) (l .inv .0) (c .loop-test .left) (l .inv .1)))
 
 pub quick-quarters-spec : {M : Type 1} → statement M
 quick-quarters-spec =
     tie.close
     (tie.spec
+    Inv-loop
+    μ-loop
     head-rule-requires
     returns
+    loop-holds
     quick-quadrant-requires
-    quick-quadrant-requires-2
-    quick-quadrant-requires-3
-    quick-quadrant-requires-4
-    returns-2)
+    returns-2
+    add-q
+    loop-less
+    loop-again
+    returns-3)

@@ -1,9 +1,8 @@
 -- `quick_rows` meets its contract: blocks 0 and 8 are right, and the others of their halves are as they. Assumes nothing.
-use mathlib.Core.Path.{refl, sym, _∙_}
-use mathlib.Core.Bool.{true≢false, _&&_}
-use borrow.Author.Tests.{not-false}
-use Rattle.definitions.proofs.Choices.{both-true}
-use Rattle.scan.proofs.Undivided.{not-4, rows-formed}
+use mathlib.Core.Path.{refl}
+use mathlib.Core.Bool.{_&&_}
+use Rattle.scan.proofs.Kept.{at-first, at-second}
+use Rattle.scan.proofs.Undivided.{not-4, rowsParts, rows-is}
 use borrow.Author.Needs.{needs}
 use Rattle.scan.proofs.quick_rows.Statement.{statement}
 use Rattle.scan.proofs.quick_rows.Tie as tie
@@ -12,28 +11,22 @@ undivided-head-requires : tie.Need-undivided-head-requires
 undivided-head-requires c κs = (search needs, not-4 (c .args .words .now) 2 (c .pre .1) refl)
 
 returns : tie.Need-returns
-returns c = λ e. absurd (true≢false (sym e))
+returns c =
+    let start = c .before .before in
+    let words = start .args .words .now in
+    at-first (rowsParts words) (c .before .undivided-head .ensures) (rows-is words (start .pre .1)) (c .if1 .taken)
 
 block-right-requires : tie.Need-block-right-requires
 block-right-requires c κs = search needs
 
-returns-2 : tie.Need-returns-2
-returns-2 c = λ e. absurd (true≢false (sym e))
-
 block-right-requires-2 : tie.Need-block-right-requires-2
 block-right-requires-2 c κs = search needs
-
-returns-3 : tie.Need-returns-3
-returns-3 c = λ e. absurd (true≢false (sym e))
 
 same-references-requires : tie.Need-same-references-requires
 same-references-requires c κs = search needs
 
 same-references-requires-2 : tie.Need-same-references-requires-2
 same-references-requires-2 c κs = search needs
-
-returns-4 : tie.Need-returns-4
-returns-4 c = λ e. absurd (true≢false (sym e))
 
 same-vectors-requires : tie.Need-same-vectors-requires
 same-vectors-requires c κs = search needs
@@ -47,25 +40,20 @@ same-vectors-requires-2 c κs = search needs
 vectors-repeat-requires-2 : tie.Need-vectors-repeat-requires-2
 vectors-repeat-requires-2 c κs = search needs
 
-returns-5 : tie.Need-returns-5
-returns-5 c =
-    let start = c .before .before .before .before .before .before .before .before .before .before .before .before .before in
-    let s1 = c .before .before .before .before .before .before .same-references in
-    let s3 = c .before .before .before .before .before .same-references2 in
-    let v1 = c .before .before .before .same-vectors in
-    let upper = c .before .before .vectors-repeat in
-    let v9 = c .before .same-vectors2 in
-    let lower = c .vectors-repeat2 in
-    let references = both-true (s1 .result) (s3 .result) (not-false _ (c .before .before .before .before .if4 .left)) in
-    λ e.
-    let all = both-true ((v1 .result && upper .result) && v9 .result) (lower .result) e in
-    let three = both-true (v1 .result && upper .result) (v9 .result) (all .0) in
-    let two = both-true (v1 .result) (upper .result) (three .0) in
-    rows-formed (start .args .words .now)
-    (c .before .before .before .before .before .before .before .before .before .before .before .before .undivided-head .ensures (not-false _ (c .before .before .before .before .before .before .before .before .before .before .before .if1 .left))) (c .before .before .before .before .before .before .before .before .before .before .block-right .ensures (not-false _ (c .before .before .before .before .before .before .before .before .before .if2 .left)))
-    (start .pre .1) (c .before .before .before .before .before .before .before .before .block-right2 .ensures (not-false _ (c .before .before .before .before .before .before .before .if3 .left)))
-    (sym (s1 .ensures) ∙ references .0) (sym (s3 .ensures) ∙ references .1)
-    (sym (v1 .ensures) ∙ two .0) (upper .ensures (two .1)) (sym (v9 .ensures) ∙ three .1) (lower .ensures (all .1))
+returns-2 : tie.Need-returns-2
+returns-2 c =
+    let start = c .before .before .before .before .before .before .before .before .before .before in
+    let words = start .args .words .now in
+    let b0 = c .before .before .before .before .before .before .before .block-right .ensures in
+    let b8 = c .before .before .before .before .before .before .block-right2 .ensures in
+    let s1 = c .before .before .before .before .before .same-references .ensures in
+    let s3 = c .before .before .before .before .same-references2 .ensures in
+    let v1 = c .before .before .before .same-vectors .ensures in
+    let upper = c .before .before .vectors-repeat .ensures in
+    let v9 = c .before .same-vectors2 .ensures in
+    let lower = c .vectors-repeat2 .ensures in
+    at-second (rowsParts words) (c .before .before .before .before .before .before .before .before .before .undivided-head .ensures) (rows-is words (start .pre .1)) (c .before .before .before .before .before .before .before .before .if1 .left)
+    (λ i. ((((((b0 i && b8 i) && s1 i) && s3 i) && v1 i) && upper i) && v9 i) && lower i)
 
 pub quick-rows-spec : {M : Type 1} → statement M
 quick-rows-spec =
@@ -74,14 +62,11 @@ quick-rows-spec =
     undivided-head-requires
     returns
     block-right-requires
-    returns-2
     block-right-requires-2
-    returns-3
     same-references-requires
     same-references-requires-2
-    returns-4
     same-vectors-requires
     vectors-repeat-requires
     same-vectors-requires-2
     vectors-repeat-requires-2
-    returns-5)
+    returns-2)

@@ -7,6 +7,15 @@ use borrow.Author.Needs.{needs}
 use Rattle.scan.proofs.same_in_quadrant.Statement.{statement}
 use Rattle.scan.proofs.same_in_quadrant.Tie as tie
 
+mul-i : tie.Need-mul-i
+mul-i c = search needs
+
+mul-i-2 : tie.Need-mul-i-2
+mul-i-2 c = search needs
+
+add-i : tie.Need-add-i
+add-i c = search needs
+
 add-sub : tie.Need-add-sub
 add-sub c = search needs
 
@@ -51,7 +60,7 @@ returns c =
     let start = c .before .before .before .before .before in
     let words = start .args .words .now in
     let q = start .args .q in
-    quadrant-alike words q (search needs) (start .args .i) (start .pre .2)
+    quadrant-alike words q (search needs)
     (c .before .before .before .same-vectors .ensures) (c .before .before .same-vectors2 .ensures) (c .before .same-vectors3 .ensures) (c .same-vectors4 .ensures)
     (word-same (subTypeOf words q) (pos 0) (search needs) (search needs))
     (word-same (subTypeOf words q) (pos 1) (search needs) (search needs))
@@ -61,6 +70,9 @@ pub same-in-quadrant-spec : {M : Type 1} → statement M
 same-in-quadrant-spec =
     tie.close
     (tie.spec
+    mul-i
+    mul-i-2
+    add-i
     add-sub
     mul-sub
     shared-slice-copy-out-sub

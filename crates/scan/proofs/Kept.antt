@@ -1,0 +1,41 @@
+-- A record that keeps all rules is well formed, and one of no type is not; a test of two parts whose second is made only where the first holds. Assumes nothing.
+use Prim.Native.Nat.{ℕ}
+use mathlib.Core.Path.{_≡_, refl, sym, ap, _∙_}
+use mathlib.Core.Bool.{Bool, true, false, not, _&&_}
+use mathlib.Core.List.{List}
+use native.Mathlib.Omega.{arith}
+use lib.Dec.{eqb, leb}
+use lib.IntN.{ℤ, pos, negsuc}
+use borrow.Author.Tests.{not-true, not-false, eqb-false, eq-eqb, lt-leb}
+use Rattle.definitions.specs.Basics.{eqZ, between}
+use Rattle.definitions.specs.Record.{narrow, typeOf, rule1, firstBroken, wellFormed}
+use Rattle.definitions.proofs.Choices.{yes, no, and-no}
+use Rattle.definitions.proofs.Formed.{Rules}
+
+-- ---- All rules
+pub rules-formed : (r : List ℤ) → Rules narrow r → wellFormed narrow r ≡ true
+unfolding firstBroken
+rules-formed r k =
+    eq-eqb (firstBroken narrow r) 0
+    (no _ _ (ap not (k .types))
+    ∙ (no _ _ (ap not (k .sub-types)) ∙ (no _ _ (ap not (k .references)) ∙ (no _ _ (ap not (k .lists)) ∙ (no _ _ (ap not (k .vectors)) ∙ no _ _ (ap not (k .pieces)))))))
+
+-- ---- Rule 1 broken
+no-type : (z : ℤ) → eqZ z (pos 0) ≡ false → eqZ z (pos 1) ≡ false → eqZ z (pos 2) ≡ false → eqZ z (pos 3) ≡ false → eqZ z (pos 4) ≡ false → between (pos 0) (pos 4) z ≡ false
+no-type (pos n) e0 e1 e2 e3 e4 =
+    and-no (leb 0 n) (lt-leb n 4 (omega (arith, eqb-false n 0 e0, eqb-false n 1 e1, eqb-false n 2 e2, eqb-false n 3 e3, eqb-false n 4 e4)))
+no-type (negsuc n) e0 e1 e2 e3 e4 = refl
+
+pub none-formed :
+    (r : List ℤ) → eqZ (typeOf r) (pos 0) ≡ false → eqZ (typeOf r) (pos 1) ≡ false → eqZ (typeOf r) (pos 2) ≡ false → eqZ (typeOf r) (pos 3) ≡ false →
+    eqZ (typeOf r) (pos 4) ≡ false → wellFormed narrow r ≡ false
+unfolding rule1 firstBroken
+none-formed r e0 e1 e2 e3 e4 = ap (λ (n : ℕ). eqb n 0) (yes _ _ (ap not (no-type (typeOf r) e0 e1 e2 e3 e4)))
+
+-- ---- Two parts, a and b; h is what the test of a said
+module _ {h a w : Bool} (b : Bool) (said : h ≡ a) (whole : (a && b) ≡ w) where
+  pub at-first : not h ≡ true → false ≡ w
+  at-first e = sym (ap (λ (t : Bool). t && b) (sym said ∙ not-true h e)) ∙ whole
+
+  pub at-second : {t : Bool} → not h ≡ false → t ≡ b → t ≡ w
+  at-second e second = second ∙ (sym (ap (λ (t : Bool). t && b) (sym said ∙ not-false h e)) ∙ whole)
