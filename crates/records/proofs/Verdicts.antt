@@ -51,7 +51,7 @@ module _ (r : List ℤ) where
     broken-6 : rule5 narrow r ≡ true → rule6 r ≡ false → firstBroken narrow r ≡ 6
     broken-6 e5 e6 = by-tail ∙ (no _ _ (ap not e5) ∙ yes _ _ (ap not e6))
 
-    pub broken-none : rule5 narrow r ≡ true → rule6 r ≡ true → firstBroken narrow r ≡ 0
+    broken-none : rule5 narrow r ≡ true → rule6 r ≡ true → firstBroken narrow r ≡ 0
     broken-none e5 e6 = by-tail ∙ (no _ _ (ap not e5) ∙ no _ _ (ap not e6))
 
 -- ---- The verdict on the records from an address on

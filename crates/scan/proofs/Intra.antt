@@ -7,8 +7,8 @@ use native.Mathlib.Omega.{arith}
 use lib.IntN.{ℤ, pos}
 use Rattle.definitions.specs.Basics.{minus, eqZ, between}
 use Rattle.definitions.specs.Blocks.{quadrantOf}
-use Rattle.definitions.specs.Record.{narrow, wordOf, typeOf, isIntra, referenceOf, used, vectorWord, rule1, rule3, rule5, rule6, wellFormed}
-use Rattle.definitions.proofs.Choices.{both-true, both-ways, and-intro, or-left, eqZ-true, eqZ-refl, below-true, below-intro}
+use Rattle.definitions.specs.Record.{narrow, wordOf, typeOf, isIntra, referenceOf, vectorXOf, vectorYOf, used, vectorWord, rule1, rule3, rule5, rule6, wellFormed}
+use Rattle.definitions.proofs.Choices.{both-true, both-ways, and-intro, or-left, eqZ-true, below-true, below-intro}
 use Rattle.definitions.proofs.Formed.{rules-of, vectors-of}
 use Rattle.records.specs.Checking.{liesIn, allWithin}
 use Rattle.records.proofs.Ranges.{only, one-number, sub-types-zero, use-none, range-zero}
@@ -31,12 +31,10 @@ module _ (r : List ℤ) (intra : isIntra r ≡ true) where
   not-4 : eqZ (typeOf r) (pos 4) ≡ false
   not-4 = ap (λ (z : ℤ). eqZ z (pos 4)) type
 
-  -- the references, as rule 4 has them
-  module _ (references : allWithin r 5 8 (only (minus 1)) ≡ true) where
-    reference : (q l : ℕ) → q < 4 → l < 2 → referenceOf r q l ≡ minus 1
-    reference q l hq hl =
-        let e : 5 + 2 * q + l ≡ 5 + (2 * q + l) = omega arith in
-        ap (wordOf r) e ∙ within-only r 5 8 (minus 1) references (2 * q + l) (omega arith)
+  reference : allWithin r 5 8 (only (minus 1)) ≡ true → (q l : ℕ) → q < 4 → l < 2 → referenceOf r q l ≡ minus 1
+  reference references q l hq hl =
+      let e : 5 + 2 * q + l ≡ 5 + (2 * q + l) = omega arith in
+      ap (wordOf r) e ∙ within-only r 5 8 (minus 1) references (2 * q + l) (omega arith)
 
   -- ---- The words, and so the rules
   module _ (subs : allWithin r 1 4 (only (pos 0)) ≡ true) (references : allWithin r 5 8 (only (minus 1)) ≡ true) (vectors : allWithin r 13 64 (only (pos 0)) ≡ true) where
@@ -82,27 +80,22 @@ module _ (r : List ℤ) (intra : isIntra r ≡ true) where
     formed-references : allWithin r 5 8 (only (minus 1)) ≡ true
     formed-references = sym (use-none r intra) ∙ rules-of narrow r formed .lists
 
-    -- list l of block b is unused
-    unused : (b l : ℕ) → b < 16 → l < 2 → eqZ (referenceOf r (quadrantOf b) l) (minus 1) ≡ true
-    unused b l hb hl = ap (λ (z : ℤ). eqZ z (minus 1)) (reference formed-references (quadrantOf b) l (omega arith) hl)
+    -- list l of block b is unused, so that its vector is 0
+    zero-vector :
+        (b l : ℕ) → b < 16 → l < 2 → (liesIn (only (pos 0)) (vectorXOf r b l) ≡ true) × (liesIn (only (pos 0)) (vectorYOf r b l) ≡ true)
+    zero-vector b l hb hl =
+        let unused = ap (λ (z : ℤ). eqZ z (minus 1)) (reference formed-references (quadrantOf b) l (omega arith) hl) in
+        let range = range-zero (referenceOf r (quadrantOf b) l) unused in
+        let v = vectors-of narrow r formed b l hb hl in
+        (range (vectorXOf r b l) ∙ v .x, range (vectorYOf r b l) ∙ v .y)
 
     zero-word : (k m : ℕ) → k < 64 → k % 2 ≡ m → liesIn (only (pos 0)) (wordOf r (13 + k)) ≡ true
     zero-word k zero h even =
-        let b = k / 4 in
-        let l = k % 4 / 2 in
-        let hb : b < 16 = omega arith in
-        let hl : l < 2 = omega arith in
-        let at : 13 + k ≡ 13 + 4 * b + 2 * l = omega arith in
-        ap (λ (w : ℕ). liesIn (only (pos 0)) (wordOf r w)) at
-        ∙ (range-zero (referenceOf r (quadrantOf b) l) (unused b l hb hl) (wordOf r (13 + 4 * b + 2 * l)) ∙ vectors-of narrow r formed b l hb hl .x)
+        let at : 13 + k ≡ 13 + 4 * (k / 4) + 2 * (k % 4 / 2) = omega arith in
+        ap (λ (w : ℕ). liesIn (only (pos 0)) (wordOf r w)) at ∙ zero-vector (k / 4) (k % 4 / 2) (omega arith) (omega arith) .0
     zero-word k (suc zero) h odd =
-        let b = k / 4 in
-        let l = k % 4 / 2 in
-        let hb : b < 16 = omega arith in
-        let hl : l < 2 = omega arith in
-        let at : 13 + k ≡ 13 + 4 * b + 2 * l + 1 = omega arith in
-        ap (λ (w : ℕ). liesIn (only (pos 0)) (wordOf r w)) at
-        ∙ (range-zero (referenceOf r (quadrantOf b) l) (unused b l hb hl) (wordOf r (13 + 4 * b + 2 * l + 1)) ∙ vectors-of narrow r formed b l hb hl .y)
+        let at : 13 + k ≡ 13 + 4 * (k / 4) + 2 * (k % 4 / 2) + 1 = omega arith in
+        ap (λ (w : ℕ). liesIn (only (pos 0)) (wordOf r w)) at ∙ zero-vector (k / 4) (k % 4 / 2) (omega arith) (omega arith) .1
     zero-word k (suc (suc m)) h e = absurd (omega arith)
 
     formed-vectors : allWithin r 13 64 (only (pos 0)) ≡ true

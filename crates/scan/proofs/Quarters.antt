@@ -3,7 +3,6 @@ use Prim.Native.Nat.{ℕ, _+_, _*_, _/_, _%_, _<_}
 use mathlib.Core.Path.{_≡_, refl, sym, ap, _∙_, subst}
 use mathlib.Core.Bool.{Bool, true, false, not, _&&_, _||_, true≢false}
 use mathlib.Core.List.{List}
-use native.Mathlib.Nat.{add-zero}
 use native.Mathlib.Omega.{arith}
 use lib.Dec.{eqb}
 use lib.IntN.{ℤ, pos}
@@ -15,7 +14,7 @@ use Rattle.definitions.specs.declared.Split.{Split}
 use Rattle.definitions.specs.declared.Split.the-variants.{S8x8 as Quarters}
 use Rattle.definitions.specs.Basics.{pick, eqZ, allBelow}
 use Rattle.definitions.specs.Blocks.{quadrantOf, inQuadrant, rasterOf}
-use Rattle.definitions.specs.Record.{narrow, typeOf, isIntra, subTypeOf, motionOf, subSplitOf, splitSaid, rule1, rule2, rule3, rule4, rule5, rule6, firstBroken, wellFormed}
+use Rattle.definitions.specs.Record.{narrow, typeOf, subTypeOf, motionOf, subSplitOf, splitSaid, rule1, rule2, rule3, rule4, rule5, rule6, firstBroken, wellFormed}
 use Rattle.definitions.specs.Splits.{sameMotion}
 use Rattle.definitions.proofs.Choices.{no, both-true, both-ways, and-intro, and-no, or-left, or-right, eqZ-true, below-true, below-intro, below-same, each}
 use Rattle.definitions.proofs.Records.{raster-quadrant, raster-below}

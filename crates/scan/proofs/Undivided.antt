@@ -89,45 +89,44 @@ shown r b = refl
 
 -- ---- Vectors that repeat
 module _ (r : List ℤ) where
-  module _ (first end step : ℕ) where
-    abbrev Repeated : Type 0
-    Repeated = (b : ℕ) → first ≤ b → b + step < end → sameVectors r (b + step) b ≡ true
+  module _ (first step : ℕ) where
+    -- block k from the first on, and the one that is a step after it
+    abbrev pub again : ℕ → Bool
+    again k = sameVectors r (first + k + step) (first + k)
 
-    repeated : vectorsRepeat r first end step ≡ true → Repeated
-    unfolding vectorsRepeat
-    repeated e b low high =
-        let at : first + (b - first) ≡ b = omega arith in
-        subst (λ (d : ℕ). sameVectors r (d + step) d ≡ true) at
-        (below-true (end - (first + step)) (λ k. sameVectors r (first + k + step) (first + k)) e (b - first) (omega arith))
-
-    repeat : Repeated → vectorsRepeat r first end step ≡ true
-    unfolding vectorsRepeat
-    repeat s = below-intro (end - (first + step)) _ (λ k h. s (first + k) (omega arith) (omega arith))
-
-    -- those up to block b so far: none, one more, all
-    pub repeat-none : true ≡ allBelow (first - first) (λ k. sameVectors r (first + k + step) (first + k))
+    -- so far: none, and one more
+    pub repeat-none : true ≡ allBelow (first - first) again
     unfolding allBelow
-    repeat-none = let none : 0 ≡ first - first = omega arith in ap (λ (n : ℕ). allBelow n (λ k. sameVectors r (first + k + step) (first + k))) none
+    repeat-none = let none : 0 ≡ first - first = omega arith in ap (λ (n : ℕ). allBelow n again) none
 
     pub repeat-more :
-        (b : ℕ) → first ≤ b → {same here : Bool} → same ≡ allBelow (b - first) (λ k. sameVectors r (first + k + step) (first + k)) → here ≡ sameVectors r (b + step) b →
-        (same && here) ≡ allBelow (b + 1 - first) (λ k. sameVectors r (first + k + step) (first + k))
+        (b : ℕ) → first ≤ b → {same here : Bool} → same ≡ allBelow (b - first) again → here ≡ sameVectors r (b + step) b → (same && here) ≡ allBelow (b + 1 - first) again
     repeat-more b low so-far next =
         let at : b ≡ first + (b - first) = omega arith in
         let more : b - first + 1 ≡ b + 1 - first = omega arith in
-        below-more (λ k. sameVectors r (first + k + step) (first + k)) (b - first) so-far (next ∙ ap (λ (d : ℕ). sameVectors r (d + step) d) at)
-        ∙ ap (λ (n : ℕ). allBelow n (λ k. sameVectors r (first + k + step) (first + k))) more
+        below-more again (b - first) so-far (next ∙ ap (λ (d : ℕ). sameVectors r (d + step) d) at) ∙ ap (λ (n : ℕ). allBelow n again) more
 
-    pub repeat-end :
-        (b : ℕ) → b - first ≤ end - (first + step) → end ≤ b + step → {same : Bool} → same ≡ allBelow (b - first) (λ k. sameVectors r (first + k + step) (first + k)) →
-        same ≡ vectorsRepeat r first end step
-    unfolding vectorsRepeat
-    repeat-end b low high so-far =
-        let at : b - first ≡ end - (first + step) = omega arith in
-        so-far ∙ ap (λ (n : ℕ). allBelow n (λ k. sameVectors r (first + k + step) (first + k))) at
+    module _ (end : ℕ) where
+      pub repeat-end :
+          (b : ℕ) → b - first ≤ end - (first + step) → end ≤ b + step → {same : Bool} → same ≡ allBelow (b - first) again → same ≡ vectorsRepeat r first end step
+      unfolding vectorsRepeat
+      repeat-end b low high so-far = let all : b - first ≡ end - (first + step) = omega arith in so-far ∙ ap (λ (n : ℕ). allBelow n again) all
+
+      abbrev Repeated : Type 0
+      Repeated = (b : ℕ) → first ≤ b → b + step < end → sameVectors r (b + step) b ≡ true
+
+      repeated : vectorsRepeat r first end step ≡ true → Repeated
+      unfolding vectorsRepeat
+      repeated e b low high =
+          let at : first + (b - first) ≡ b = omega arith in
+          subst (λ (d : ℕ). sameVectors r (d + step) d ≡ true) at (below-true (end - (first + step)) again e (b - first) (omega arith))
+
+      repeat : Repeated → vectorsRepeat r first end step ≡ true
+      unfolding vectorsRepeat
+      repeat s = below-intro (end - (first + step)) again (λ k h. s (first + k) (omega arith) (omega arith))
 
   -- by steps of two, from two blocks that are the same
-  twos : (first n : ℕ) → sameVectors r (first + 1) first ≡ true → Repeated first (first + n) 2 → (k : ℕ) → k < n → Alike r (first + k) first
+  twos : (first n : ℕ) → sameVectors r (first + 1) first ≡ true → Repeated first 2 (first + n) → (k : ℕ) → k < n → Alike r (first + k) first
   twos first n one more zero h = let e : first + zero ≡ first = omega arith in subst (λ (b : ℕ). Alike r b first) (sym e) (alike-self r first)
   twos first n one more (suc zero) h = alike r (first + 1) first one
   twos first n one more (suc (suc k)) h =
@@ -136,7 +135,7 @@ module _ (r : List ℤ) where
       (alike-then r (first + k + 2) (first + k) first (alike r (first + k + 2) (first + k) (more (first + k) (omega arith) (omega arith))) (twos first n one more k (omega arith)))
 
   -- by rows of four
-  fours : Repeated 0 16 4 → (i k : ℕ) → k < 4 → 4 * i + k < 16 → Alike r (4 * i + k) k
+  fours : Repeated 0 4 16 → (i k : ℕ) → k < 4 → 4 * i + k < 16 → Alike r (4 * i + k) k
   fours more zero k hk h = subst (λ (b : ℕ). Alike r b k) (sym (zero-add k)) (alike-self r k)
   fours more (suc i) k hk h =
       let e : 4 * suc i + k ≡ 4 * i + k + 4 = omega arith in
@@ -237,7 +236,7 @@ module _ (r : List ℤ) where
         let s1 = both-true _ _ (s2 .0) in
         by-firsts r 1 is S16x16 said-whole refl refl head
         (λ b h. each (λ q. Referred r q 0) (λ l k. refl) (referred r 1 0 (s1 .1)) (referred r 2 0 (s2 .1)) (referred r 3 0 (s3 .1)) (quadrantOf b) (quadrant-below b h))
-        (λ b h. subst (λ (d : ℕ). Alike r d 0) (zero-add b) (twos r 0 16 (v1 .1) (repeated r 0 16 2 (v2 .1)) b h))
+        (λ b h. subst (λ (d : ℕ). Alike r d 0) (zero-add b) (twos r 0 16 (v1 .1) (repeated r 0 2 16 (v2 .1)) b h))
         (λ b h. s1 .0))
         (λ formed.
         let right = right-of r 1 is S16x16 said-whole refl formed in
@@ -248,7 +247,7 @@ module _ (r : List ℤ) where
         (and-intro (and-intro (right 0 (omega arith)) (same 2 0 (omega arith) (omega arith) refl .0)) (same 8 0 (omega arith) (omega arith) refl .0))
         (same 10 0 (omega arith) (omega arith) refl .0))
         (same 1 0 (omega arith) (omega arith) refl .1))
-        (repeat r 0 16 2 (λ b low high. same (b + 2) b (omega arith) (omega arith) refl .1)))
+        (repeat r 0 2 16 (λ b low high. same (b + 2) b (omega arith) (omega arith) refl .1)))
 
   module _ (is : eqZ (typeOf r) (pos 2) ≡ true) where
     said-rows : splitSaid r ≡ S16x8
@@ -274,7 +273,7 @@ module _ (r : List ℤ) where
         let half : 8 * (b / 8) ≡ b / 8 * 8 = omega arith in
         subst (Alike r b) half
         (subst (λ (d : ℕ). Alike r d (8 * (b / 8))) (div-add-mod b 8)
-        (either (λ i. (k : ℕ) → k < 8 → Alike r (8 * i + k) (8 * i)) (twos r 0 8 (v1 .1) (repeated r 0 8 2 (upper .1))) (twos r 8 8 (v9 .1) (repeated r 8 16 2 (lower .1)))
+        (either (λ i. (k : ℕ) → k < 8 → Alike r (8 * i + k) (8 * i)) (twos r 0 8 (v1 .1) (repeated r 0 2 8 (upper .1))) (twos r 8 8 (v9 .1) (repeated r 8 2 16 (lower .1)))
         (b / 8) (omega arith) (b % 8) (omega arith))))
         (λ b h. either (λ i. blockRight r (i * 8) ≡ true) (firsts .0) (firsts .1) (b / 8) (omega arith)))
         (λ formed.
@@ -288,9 +287,9 @@ module _ (r : List ℤ) where
         (and-intro (and-intro (right 0 (omega arith)) (right 8 (omega arith))) (same 2 0 (omega arith) (omega arith) refl .0))
         (same 10 8 (omega arith) (omega arith) refl .0))
         (same 1 0 (omega arith) (omega arith) refl .1))
-        (repeat r 0 8 2 (λ b low high. same (b + 2) b (omega arith) (omega arith) (omega arith) .1)))
+        (repeat r 0 2 8 (λ b low high. same (b + 2) b (omega arith) (omega arith) (omega arith) .1)))
         (same 9 8 (omega arith) (omega arith) refl .1))
-        (repeat r 8 16 2 (λ b low high. same (b + 2) b (omega arith) (omega arith) (omega arith) .1)))
+        (repeat r 8 2 16 (λ b low high. same (b + 2) b (omega arith) (omega arith) (omega arith) .1)))
 
   module _ (is : eqZ (typeOf r) (pos 3) ≡ true) where
     said-columns : splitSaid r ≡ S8x16
@@ -314,7 +313,7 @@ module _ (r : List ℤ) where
         (λ b h.
         let at : 4 * (b / 4) + b % 4 ≡ b = div-add-mod b 4 in
         alike-then r b (b % 4) (b % 4 / 2 * 2)
-        (subst (λ (d : ℕ). Alike r d (b % 4)) at (fours r (repeated r 0 16 4 (v4 .1)) (b / 4) (b % 4) (omega arith) (subst (λ (d : ℕ). d < 16) (sym at) h)))
+        (subst (λ (d : ℕ). Alike r d (b % 4)) at (fours r (repeated r 0 4 16 (v4 .1)) (b / 4) (b % 4) (omega arith) (subst (λ (d : ℕ). d < 16) (sym at) h)))
         (each (λ k. Alike r k (k / 2 * 2)) (alike-self r 0) (alike r 1 0 (v1 .1)) (alike-self r 2) (alike r 3 2 (v3 .1)) (b % 4) (omega arith)))
         (λ b h. each (λ k. blockRight r (k / 2 * 2) ≡ true) (firsts .0) (firsts .0) (firsts .1) (firsts .1) (b % 4) (omega arith)))
         (λ formed.
@@ -328,4 +327,4 @@ module _ (r : List ℤ) where
         (same 10 2 (omega arith) (omega arith) refl .0))
         (same 1 0 (omega arith) (omega arith) refl .1))
         (same 3 2 (omega arith) (omega arith) refl .1))
-        (repeat r 0 16 4 (λ b low high. same (b + 4) b (omega arith) (omega arith) (omega arith) .1)))
+        (repeat r 0 4 16 (λ b low high. same (b + 4) b (omega arith) (omega arith) (omega arith) .1)))

@@ -12,7 +12,7 @@ use Rattle.records.specs.Checking.{quadrantUsed, listRight, vectorsRight, subFi
 unfoldable pub blockRight : List ℤ → ℕ → Bool
 blockRight r b = quadrantUsed r (quadrantOf b) && allBelow 2 (listRight r b)
 
--- of blocks first .. end−1, each has the vectors of the one that is a step before it
+-- of blocks first .. end−1, each has the vectors of the one that is a step before it, if that is one of them
 unfoldable pub vectorsRepeat : List ℤ → ℕ → ℕ → ℕ → Bool
 vectorsRepeat r first end step = allBelow (end - (first + step)) (λ k. sameVectors r (first + k + step) (first + k))
 

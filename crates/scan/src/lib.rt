@@ -1,4 +1,4 @@
-// A quick scan of motion records, which passes those that are well formed. From the first that it does not pass, the check of the crate records goes on and finds the broken rule.
+// A quick scan of motion records, which passes those that are well formed and no other. At the first that it does not pass, the check of the crate records goes on.
 // Tests joined by `&` and `|` have no branch between them, and the compiler takes several words at once.
 ghost use mathlib.Core.Path.{_≡_};
 ghost use mathlib.Core.Bool.{true, false, _&&_};
@@ -26,6 +26,18 @@ fn quick_intra(words: &[i16]) -> bool
         & check::all_within(words, layout::VECTORS, 64, check::ONLY_ZERO)
 }
 
+// ---- Types 1 to 4
+// Rule 5 of block b: its vectors are as the references of its quadrant allow.
+fn block_vectors(words: &[i16], b: usize) -> bool
+    requires { ⌜ (length (now words) ≡ recordWords) × (b < 16) ⌝ }
+    ensures { λ t. ⌜ t ≡ allBelow 2 (listRight (now (words .entry)) b) ⌝ }
+{
+    let reference = layout::REFERENCES + 2 * (2 * (b / 8) + b % 4 / 2);
+    let range0 = check::range_by(words, reference);
+    let range1 = check::range_by(words, reference + 1);
+    check::block_within(words, layout::VECTORS + 4 * b, range0, range1)
+}
+
 // ---- Types 1 to 3: a few blocks are tested, and the others have their motion
 // Rules 2 and 3 of a type that has no sub-types.
 fn undivided_head(words: &[i16]) -> bool
@@ -38,17 +50,6 @@ fn undivided_head(words: &[i16]) -> bool
     check::all_within(words, layout::REFERENCES, 8, check::REFERENCES)
 }
 
-// Rule 5 of block b: its vectors are as the references of its quadrant allow.
-fn block_vectors(words: &[i16], b: usize) -> bool
-    requires { ⌜ (length (now words) ≡ recordWords) × (b < 16) ⌝ }
-    ensures { λ t. ⌜ t ≡ allBelow 2 (listRight (now (words .entry)) b) ⌝ }
-{
-    let reference = layout::REFERENCES + 2 * (2 * (b / 8) + b % 4 / 2);
-    let range0 = check::range_by(words, reference);
-    let range1 = check::range_by(words, reference + 1);
-    check::block_within(words, layout::VECTORS + 4 * b, range0, range1)
-}
-
 // Rules 4 and 5 of block b.
 fn block_right(words: &[i16], b: usize) -> bool
     requires { ⌜ (length (now words) ≡ recordWords) × (b < 16) ⌝ }
@@ -57,7 +58,7 @@ fn block_right(words: &[i16], b: usize) -> bool
     check::quadrant_used(words, 2 * (b / 8) + b % 4 / 2) & block_vectors(words, b)
 }
 
-// Of blocks first..end-1, each has the vectors of the one that is a step before it.
+// Of blocks first..end-1, each has the vectors of the one that is a step before it, if that is one of them.
 fn vectors_repeat(words: &[i16], first: usize, end: usize, step: usize) -> bool
     requires { ⌜ (length (now words) ≡ recordWords) × (first ≤ 16) × (end ≤ 16) × (step ≤ 16) ⌝ }
     ensures { λ t. ⌜ t ≡ vectorsRepeat (now (words .entry)) first end step ⌝ }
@@ -167,7 +168,7 @@ fn quick_quarters(words: &[i16]) -> bool
 }
 
 // ---- The scan
-// The record is well formed.
+// The record is well formed: by its type.
 fn quick(words: &[i16]) -> bool
     requires { ⌜ length (now words) ≡ recordWords ⌝ }
     ensures { λ t. ⌜ t ≡ wellFormed narrow (now (words .entry)) ⌝ }
@@ -191,7 +192,7 @@ fn quick(words: &[i16]) -> bool
     false
 }
 
-// The first of records from..to-1 that does not pass, that is, the first malformed; or to.
+// The first of records from..to-1 that is malformed, or to.
 fn first_not_quick(base: &[i16], from: usize, to: usize) -> usize
     requires { ⌜ (to * recordWords ≤ length (now base)) × (from ≤ to) × (to ≤ 65536) ⌝ }
     ensures { λ a. ⌜ (from ≤ a) × (a ≤ to) × ((k : ℕ) → from ≤ k → k < a → wellFormed narrow (recordAt (now (base .entry)) k) ≡ true) × (a < to → wellFormed narrow (recordAt (now (base .entry)) a) ≡ false) ⌝ }

@@ -1,5 +1,4 @@
 -- `block_right` meets its contract: its quadrant's references, and its vectors. Assumes nothing.
-use mathlib.Core.Bool.{_&&_}
 use Rattle.scan.proofs.Undivided.{block-is}
 use borrow.Author.Needs.{needs}
 use Rattle.scan.proofs.block_right.Statement.{statement}

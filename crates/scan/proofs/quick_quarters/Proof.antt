@@ -1,10 +1,10 @@
 -- `quick_quarters` meets its contract: rules 1 to 4, and the quadrants passed are right. Assumes nothing.
 use Prim.Native.Nat.{_-_, _≤_}
-use mathlib.Core.Path.{_≡_, sym, ap, _∙_}
+use mathlib.Core.Path.{_≡_, sym, _∙_}
 use mathlib.Core.Bool.{true}
-use borrow.Author.Tests.{not-true, not-false, eq-eqb}
+use borrow.Author.Tests.{not-true, not-false}
 use Rattle.definitions.specs.Basics.{allBelow}
-use Rattle.records.proofs.Searches.{search-none, search-more, search-end, search-fault}
+use Rattle.records.proofs.Searches.{search-none, search-more, search-end}
 use Rattle.scan.specs.Quick.{quadrantRight}
 use Rattle.scan.proofs.Quarters.{head-broken, quadrant-broken, quarters-formed}
 use borrow.Author.Needs.{needs}
