@@ -21,7 +21,7 @@ use Rattle.split.proofs.Vectors.{number-fits, number-is}
 use Rattle.writing.specs.Words.{typeAmong}
 use Rattle.writing.proofs.Placed.{first-low}
 
--- ---- the vectors of quadrant q's first block: where they stand, and that they lie in the record
+-- ---- the vectors of quadrant q's first block: where they stand; and these, and its references, lie in the record
 abbrev vectorAt : ℕ → ℕ
 vectorAt q = 13 + 4 * getD (0 ∷ 2 ∷ 8 ∷ 10 ∷ []) q 0
 
@@ -31,6 +31,12 @@ pub record Within (words : List ℤ) (i : ℕ) : Type 0 where
   pub scaled : Fits w64 (i * 2)
 
 module _ (words : List ℤ) (q : ℕ) (long : length words ≡ recordWords) (h : q < 4) where
+  pub reference-first : Within words (5 + 2 * q)
+  reference-first = record { below = omega arith; fits = omega arith; scaled = omega arith }
+
+  pub reference-further : (k : ℕ) → T (ltb k 2) → Within words (5 + 2 * q + k)
+  reference-further k t = let u : k < 2 = lit< t in record { below = omega arith; fits = omega arith; scaled = omega arith }
+
   pub vector-first : Within words (vectorAt q)
   vector-first = let l = first-low q h in record { below = omega arith; fits = omega arith; scaled = omega arith }
 

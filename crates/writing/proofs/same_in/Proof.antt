@@ -5,31 +5,31 @@ use mathlib.Core.List.{[], _∷_}
 use mathlib.Core.Path.{_∙_}
 use native.Mathlib.Omega.{arith}
 use lib.ListN.{getD}
-use borrow.Author.Needs.{needs, sfits-of}
+use borrow.Author.Needs.{sfits-of}
 use Rattle.definitions.specs.Record.{wordOf}
 use Rattle.definitions.proofs.Motions.{word-same}
-use Rattle.writing.proofs.Compared.{same-is, vector-first, vector-further}
+use Rattle.writing.proofs.Compared.{reference-first, reference-further, same-is, vector-first, vector-further}
 use Rattle.writing.proofs.Placed.{first-low}
 use Rattle.writing.proofs.same_in.Statement.{statement}
 use Rattle.writing.proofs.same_in.Tie as tie
 
 mul-r : tie.Need-mul-r
-mul-r c = search needs
+mul-r c = omega (arith, c .pre .1)
 
 add-r : tie.Need-add-r
-add-r c = search needs
+add-r c = omega (arith, c .pre .1)
 
 mul-t : tie.Need-mul-t
-mul-t c = search needs
+mul-t c = omega (arith, c .pre .2)
 
 add-t : tie.Need-add-t
-add-t c = search needs
+add-t c = omega (arith, c .pre .2)
 
 mul-k : tie.Need-mul-k
-mul-k c = search needs
+mul-k c = omega (arith, c .pre .1)
 
 array-read-k : tie.Need-array-read-k
-array-read-k c = search needs
+array-read-k c = c .pre .1
 
 mul-k-2 : tie.Need-mul-k-2
 mul-k-2 c = omega (arith, first-low (c .args .q) (c .pre .1))
@@ -38,10 +38,10 @@ add-k : tie.Need-add-k
 add-k c = omega (arith, first-low (c .args .q) (c .pre .1))
 
 mul-j : tie.Need-mul-j
-mul-j c = search needs
+mul-j c = omega (arith, c .pre .2)
 
 array-read-j : tie.Need-array-read-j
-array-read-j c = search needs
+array-read-j c = c .pre .2
 
 mul-j-2 : tie.Need-mul-j-2
 mul-j-2 c = omega (arith, first-low (c .args .e) (c .pre .2))
@@ -50,34 +50,34 @@ add-j : tie.Need-add-j
 add-j c = omega (arith, first-low (c .args .e) (c .pre .2))
 
 mul-result : tie.Need-mul-result
-mul-result c = search needs
+mul-result c = let s = c in reference-first (s .args .out .now) (s .args .q) (s .pre .0) (s .pre .1) .scaled
 
 shared-slice-copy-out-result : tie.Need-shared-slice-copy-out-result
-shared-slice-copy-out-result c = search needs
+shared-slice-copy-out-result c = let s = c in reference-first (s .args .out .now) (s .args .q) (s .pre .0) (s .pre .1) .below
 
 mul-result-2 : tie.Need-mul-result-2
-mul-result-2 c = search needs
+mul-result-2 c = let s = c .before in reference-first (s .args .out .now) (s .args .e) (s .pre .0) (s .pre .2) .scaled
 
 shared-slice-copy-out-result-2 : tie.Need-shared-slice-copy-out-result-2
-shared-slice-copy-out-result-2 c = search needs
+shared-slice-copy-out-result-2 c = let s = c .before in reference-first (s .args .out .now) (s .args .e) (s .pre .0) (s .pre .2) .below
 
 add-result : tie.Need-add-result
-add-result c = search needs
+add-result c = let s = c .before .before in reference-further (s .args .out .now) (s .args .q) (s .pre .0) (s .pre .1) _ tt .fits
 
 mul-result-3 : tie.Need-mul-result-3
-mul-result-3 c = search needs
+mul-result-3 c = let s = c .before .before in reference-further (s .args .out .now) (s .args .q) (s .pre .0) (s .pre .1) _ tt .scaled
 
 shared-slice-copy-out-result-3 : tie.Need-shared-slice-copy-out-result-3
-shared-slice-copy-out-result-3 c = search needs
+shared-slice-copy-out-result-3 c = let s = c .before .before in reference-further (s .args .out .now) (s .args .q) (s .pre .0) (s .pre .1) _ tt .below
 
 add-result-2 : tie.Need-add-result-2
-add-result-2 c = search needs
+add-result-2 c = let s = c .before .before .before in reference-further (s .args .out .now) (s .args .e) (s .pre .0) (s .pre .2) _ tt .fits
 
 mul-result-4 : tie.Need-mul-result-4
-mul-result-4 c = search needs
+mul-result-4 c = let s = c .before .before .before in reference-further (s .args .out .now) (s .args .e) (s .pre .0) (s .pre .2) _ tt .scaled
 
 shared-slice-copy-out-result-4 : tie.Need-shared-slice-copy-out-result-4
-shared-slice-copy-out-result-4 c = search needs
+shared-slice-copy-out-result-4 c = let s = c .before .before .before in reference-further (s .args .out .now) (s .args .e) (s .pre .0) (s .pre .2) _ tt .below
 
 mul-result-5 : tie.Need-mul-result-5
 mul-result-5 c = let s = c .before .before .before .before in vector-first (s .args .out .now) (s .args .q) (s .pre .0) (s .pre .1) .scaled
