@@ -1,14 +1,14 @@
 -- Motions as the code hands them on: each is one of the definitions', laid out flat.
 use Prim.Native.Nat.{ℕ, _<_}
 use mathlib.Core.Path.{_≡_}
-use mathlib.Core.Bool.{true}
+use mathlib.Core.Bool.{Bool, true, _&&_}
 use mathlib.Core.List.{List, []}
 use lib.IntN.{ℤ, pos}
 use lib.ListN.{getD}
 use mir.Syntax.{w16}
 use mir.Val.{SFits}
 use Rattle.definitions.specs.declared.Motion.{Motion}
-use Rattle.definitions.specs.Basics.{between, four, minus}
+use Rattle.definitions.specs.Basics.{between, eqZ, four, minus}
 use Rattle.motion.specs.declared.BlockMotion.{BlockMotion}
 use Rattle.motion.specs.Range.{BothInRange}
 
@@ -25,6 +25,10 @@ motionsIn m = four (λ k. motionIn (getD m k zeroBlock))
 
 abbrev pub quadrantsIn : List (List BlockMotion) → List (List Motion)
 quadrantsIn m = four (λ q. motionsIn (getD m q []))
+
+-- two blocks have the same vectors, in both lists
+unfoldable pub sameVectorsIn : BlockMotion → BlockMotion → Bool
+sameVectorsIn p q = (eqZ (p .x0) (q .x0) && eqZ (p .y0) (q .y0)) && (eqZ (p .x1) (q .x1) && eqZ (p .y1) (q .y1))
 
 -- a reference as rule 3 asks it of a record; of a motion's both lists, and of the four blocks of a quadrant
 abbrev pub Reference : ℤ → Type 0

@@ -17,7 +17,7 @@ pub struct BlockMotion {
     pub y1: i32,
 }
 
-// The scale of an axis in two parts, 65,536 · whole + part, so that a product with either has few bits.
+// The scale of an axis in two parts of sixteen bits, 65,536 · whole + part, so that several words are multiplied at once.
 pub struct Scale {
     pub whole: i16,
     pub part: i16,

@@ -1,2 +1,3 @@
 -- Laws that the proofs of the functions cite, here and in the crates above.
+pub mod Chosen
 pub mod Vectors

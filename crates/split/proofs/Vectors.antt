@@ -13,10 +13,9 @@ use Rattle.definitions.specs.Splits.{sameMotion, samePrediction}
 use Rattle.definitions.proofs.Choices.{eqZ-refl}
 use Rattle.definitions.proofs.Shapes.{cut, quadrantShape, samePairs, shapeOf}
 use Rattle.motion.specs.declared.BlockMotion.{BlockMotion}
-use Rattle.motion.specs.ByValue.{OneReference, motionIn, motionsIn, zeroBlock}
-
-abbrev sameVectors : BlockMotion → BlockMotion → Bool
-sameVectors p q = (eqZ (p .x0) (q .x0) && eqZ (p .y0) (q .y0)) && (eqZ (p .x1) (q .x1) && eqZ (p .y1) (q .y1))
+use Rattle.motion.specs.ByValue.{OneReference, motionIn, motionsIn, sameVectorsIn, zeroBlock}
+use Rattle.split.specs.Quadrant.{subChosen}
+use Rattle.split.proofs.Chosen.{sub-chosen-is}
 
 equal : (a b c : ℤ) → a ≡ c → b ≡ c → eqZ a b ≡ true
 equal a b c e f = ap (eqZ a) (f ∙ sym e) ∙ eqZ-refl a
@@ -35,17 +34,17 @@ number-fits false true = (omega arith, omega arith)
 number-fits false false = (omega arith, omega arith)
 
 module _ (m : List BlockMotion) (one : OneReference m) where
-  same-motion : (j k : ℕ) → j < 4 → k < 4 → sameMotion (motionIn (getD m j zeroBlock)) (motionIn (getD m k zeroBlock)) ≡ sameVectors (getD m j zeroBlock) (getD m k zeroBlock)
-  unfolding sameMotion samePrediction
+  same-motion : (j k : ℕ) → j < 4 → k < 4 → sameMotion (motionIn (getD m j zeroBlock)) (motionIn (getD m k zeroBlock)) ≡ sameVectorsIn (getD m j zeroBlock) (getD m k zeroBlock)
+  unfolding sameMotion samePrediction sameVectorsIn
   same-motion j k h l = rw (equal _ _ _ (one j h .0) (one k l .0), equal _ _ _ (one j h .1) (one k l .1))
 
-  pub sub-type-is : (a b c d : Bool) → a ≡ sameVectors (getD m 0 zeroBlock) (getD m 1 zeroBlock) → b ≡ sameVectors (getD m 2 zeroBlock) (getD m 3 zeroBlock)
-      → c ≡ sameVectors (getD m 0 zeroBlock) (getD m 2 zeroBlock) → d ≡ sameVectors (getD m 1 zeroBlock) (getD m 3 zeroBlock)
-      → (3 - 2 * boolByte (a && b) - boolByte (c && d) ≡ subTypeNumber (quadrantShape (motionsIn m))) × (3 - 2 * boolByte (a && b) - boolByte (c && d) ≤ 3)
+  pub sub-type-is : (a b c d : Bool) → a ≡ sameVectorsIn (getD m 0 zeroBlock) (getD m 1 zeroBlock) → b ≡ sameVectorsIn (getD m 2 zeroBlock) (getD m 3 zeroBlock)
+      → c ≡ sameVectorsIn (getD m 0 zeroBlock) (getD m 2 zeroBlock) → d ≡ sameVectorsIn (getD m 1 zeroBlock) (getD m 3 zeroBlock)
+      → (3 - 2 * boolByte (a && b) - boolByte (c && d) ≡ subTypeNumber (subChosen (motionsIn m))) × (3 - 2 * boolByte (a && b) - boolByte (c && d) ≤ 3)
   unfolding quadrantShape shapeOf samePairs
   sub-type-is a b c d ea eb ec ed =
       let ra = ea ∙ sym (same-motion 0 1 (omega arith) (omega arith)) in
       let rb = eb ∙ sym (same-motion 2 3 (omega arith) (omega arith)) in
       let ca = ec ∙ sym (same-motion 0 2 (omega arith) (omega arith)) in
       let cb = ed ∙ sym (same-motion 1 3 (omega arith) (omega arith)) in
-      (number-is (a && b) (c && d) ∙ (λ i. subTypeNumber (cut (ra i && rb i) (ca i && cb i))), omega arith)
+      (number-is (a && b) (c && d) ∙ ((λ i. subTypeNumber (cut (ra i && rb i) (ca i && cb i))) ∙ ap subTypeNumber (sym (sub-chosen-is (motionsIn m)))), omega arith)

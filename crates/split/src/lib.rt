@@ -1,11 +1,9 @@
 // Step 5 of "Inheriting", on one quadrant; and the number of a split's pieces.
 ghost use Prim.Native.Nat.{_≤_};
-ghost use Rattle.definitions.proofs.Shapes.{quadrantShape};
-ghost use Rattle.definitions.specs.Basics.{eqZ};
 ghost use Rattle.definitions.specs.Record.{subTypeNumber};
 ghost use Rattle.definitions.specs.Splits.{count, subCount};
-ghost use Rattle.motion.specs.ByValue.{OneReference, motionsIn};
-ghost use mathlib.Core.Bool.{_&&_};
+ghost use Rattle.motion.specs.ByValue.{OneReference, motionsIn, sameVectorsIn};
+ghost use Rattle.split.specs.Quadrant.{subChosen};
 ghost use mathlib.Core.Path.{_≡_};
 use definitions::Split;
 use definitions::SubSplit;
@@ -13,15 +11,16 @@ use motion::BlockMotion;
 
 // Two blocks have the same vectors: all four words are compared, and none by a branch.
 fn same_vectors(p: BlockMotion, q: BlockMotion) -> bool
-    ensures { λ r. ⌜ r ≡ ((eqZ (p .x0) (q .x0) && eqZ (p .y0) (q .y0)) && (eqZ (p .x1) (q .x1) && eqZ (p .y1) (q .y1))) ⌝ }
+    ensures { λ r. ⌜ r ≡ sameVectorsIn p q ⌝ }
 {
     (p.x0 == q.x0) & (p.y0 == q.y0) & (p.x1 == q.x1) & (p.y1 == q.y1)
 }
 
-// The sub-type of a quadrant, 0 1 above 2 3: which of its rows and columns have one motion. The blocks have one reference in each list, so their vectors tell.
+// The sub-type of a quadrant, 0 1 above 2 3, with the fewest pieces: which of its rows and columns have one motion tells it (`sub-chosen-is`). The blocks have one
+// reference in each list, so that their vectors tell the motion.
 pub fn sub_type_of(m: [BlockMotion; 4]) -> u8
     requires { ⌜ OneReference m ⌝ }
-    ensures { λ r. ⌜ (r ≡ subTypeNumber (quadrantShape (motionsIn m))) × (r ≤ 3) ⌝ }
+    ensures { λ r. ⌜ (r ≡ subTypeNumber (subChosen (motionsIn m))) × (r ≤ 3) ⌝ }
 {
     let rows = same_vectors(m[0], m[1]) & same_vectors(m[2], m[3]);
     let columns = same_vectors(m[0], m[2]) & same_vectors(m[1], m[3]);

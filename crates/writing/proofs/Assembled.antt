@@ -9,13 +9,13 @@ use lib.Seq.{take-all, take-suc}
 use Rattle.definitions.specs.declared.Motion.{Motion}
 use Rattle.definitions.specs.declared.Split.{Split}
 use Rattle.definitions.specs.Answer.{dividedBy}
-use Rattle.definitions.specs.Basics.{forEach, upTo}
+use Rattle.definitions.specs.Basics.{forEach, four, upTo}
 use Rattle.definitions.specs.Blocks.{rasterOf}
 use Rattle.definitions.specs.Inheriting.{at, motionAt}
 use Rattle.definitions.specs.Record.{laidOut, motionOf, recordWords, referencesOf, subTypeNumber, vectorsOf, wordOf}
-use Rattle.definitions.proofs.Shapes.{shapeOf}
 use Rattle.motion.specs.declared.Scales.{Scales}
 use Rattle.motion.specs.Scales.{allScaled}
+use Rattle.split.specs.Quadrant.{subChosen}
 use Rattle.writing.specs.Words.{quadrantPut, typeAmong}
 use Rattle.writing.proofs.Choosing.{Said}
 
@@ -32,10 +32,10 @@ by-words l e = sym (take-all recordWords l (omega arith)) ∙ words-taken l reco
 module _ (s : Scales) (m : List (List Motion)) where
   abbrev quadrantsPut : List ℤ → List ℤ
   quadrantsPut l =
-      quadrantPut s 11 53 (getD m 3 [])
-      (quadrantPut s 9 45 (getD m 2 [])
-      (quadrantPut s 7 21 (getD m 1 [])
-      (quadrantPut s 5 13 (getD m 0 []) l)))
+      quadrantPut s 3 (getD m 3 [])
+      (quadrantPut s 2 (getD m 2 [])
+      (quadrantPut s 1 (getD m 1 [])
+      (quadrantPut s 0 (getD m 0 []) l)))
 
   abbrev made : ℕ → Motion
   made = motionAt (allScaled s m)
@@ -53,7 +53,7 @@ module _ (s : Scales) (m : List (List Motion)) where
   -- the motions of the quadrants' first blocks stand there
   among : (f : ℕ → ℤ)
       → typeAmong (f 0 ∷ f 1 ∷ f 2 ∷ f 3 ∷ f 4 ∷ motionWords)
-      ≡ subTypeNumber (shapeOf (at (allScaled s m) 0 0) (at (allScaled s m) 1 0) (at (allScaled s m) 2 0) (at (allScaled s m) 3 0)) + 1
+      ≡ subTypeNumber (subChosen (four (λ q. at (allScaled s m) q 0))) + 1
   unfolding typeAmong motionOf upTo allScaled
   among f = refl
 
@@ -62,15 +62,15 @@ module _ (s : Scales) (m : List (List Motion)) where
     all-written = ap quadrantsPut (by-words l long) ∙ written (wordOf l)
 
     module _ (l1 l2 l3 l4 : List ℤ)
-        (e1 : l1 ≡ quadrantPut s 5 13 (getD m 0 []) l) (e2 : l2 ≡ quadrantPut s 7 21 (getD m 1 []) l1)
-        (e3 : l3 ≡ quadrantPut s 9 45 (getD m 2 []) l2) (e4 : l4 ≡ quadrantPut s 11 53 (getD m 3 []) l3) where
+        (e1 : l1 ≡ quadrantPut s 0 (getD m 0 []) l) (e2 : l2 ≡ quadrantPut s 1 (getD m 1 []) l1)
+        (e3 : l3 ≡ quadrantPut s 2 (getD m 2 []) l2) (e4 : l4 ≡ quadrantPut s 3 (getD m 3 []) l3) where
       in-turn : l4 ≡ wordOf l 0 ∷ wordOf l 1 ∷ wordOf l 2 ∷ wordOf l 3 ∷ wordOf l 4 ∷ motionWords
       in-turn =
-          e4 ∙ ap (quadrantPut s 11 53 (getD m 3 []))
-          (e3 ∙ ap (quadrantPut s 9 45 (getD m 2 [])) (e2 ∙ ap (quadrantPut s 7 21 (getD m 1 [])) e1))
+          e4 ∙ ap (quadrantPut s 3 (getD m 3 []))
+          (e3 ∙ ap (quadrantPut s 2 (getD m 2 [])) (e2 ∙ ap (quadrantPut s 1 (getD m 1 [])) e1))
           ∙ all-written
 
-      pub type-written : typeAmong l4 ≡ subTypeNumber (shapeOf (at (allScaled s m) 0 0) (at (allScaled s m) 1 0) (at (allScaled s m) 2 0) (at (allScaled s m) 3 0)) + 1
+      pub type-written : typeAmong l4 ≡ subTypeNumber (subChosen (four (λ q. at (allScaled s m) q 0))) + 1
       type-written = ap typeAmong in-turn ∙ among (wordOf l)
 
       -- with the types in front of them the record is whole

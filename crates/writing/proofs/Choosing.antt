@@ -21,11 +21,13 @@ use Rattle.definitions.proofs.Choices.{and-intro, both-true, four-same, no, yes
 use Rattle.definitions.proofs.Fewest.{chosen-is}
 use Rattle.definitions.proofs.Rounding.{number-apart}
 use Rattle.definitions.proofs.Scaling.{shape-kept}
-use Rattle.definitions.proofs.Shapes.{allWhole, isWhole, joined, quadrantShape, shapeOf, shapesOf, splitOf}
+use Rattle.definitions.proofs.Shapes.{allWhole, isWhole, joined, quadrantShape, shapesOf, splitOf}
 use Rattle.motion.specs.declared.Scale.{Scale}
 use Rattle.motion.specs.declared.Scales.{Scales}
 use Rattle.motion.specs.Scales.{AcceptedScale, AcceptedScales, allScaled, motionScaled, predictionScaled, scaledWith}
 use Rattle.motion.proofs.ByScales.{with-number}
+use Rattle.split.specs.Quadrant.{subChosen}
+use Rattle.split.proofs.Chosen.{sub-chosen-is}
 
 -- ---- a sub-type is 0 where the quadrant is whole
 zero-whole : (x : SubSplit) → subTypeNumber x ≡ 0 → isWhole x ≡ true
@@ -108,18 +110,18 @@ module _ (s : Scales) (accepted : AcceptedScales s) where
   -- ---- the split that is chosen of the scaled motions, by the sub-types of the quadrants that are not scaled
   module _
       (m : List (List Motion)) (a b c d : ℕ)
-      (ea : a ≡ subTypeNumber (quadrantShape (getD m 0 []))) (eb : b ≡ subTypeNumber (quadrantShape (getD m 1 [])))
-      (ec : c ≡ subTypeNumber (quadrantShape (getD m 2 []))) (ed : d ≡ subTypeNumber (quadrantShape (getD m 3 []))) where
+      (ea : a ≡ subTypeNumber (subChosen (getD m 0 []))) (eb : b ≡ subTypeNumber (subChosen (getD m 1 [])))
+      (ec : c ≡ subTypeNumber (subChosen (getD m 2 []))) (ed : d ≡ subTypeNumber (subChosen (getD m 3 []))) where
     top : SubSplit
-    top = shapeOf (at (allScaled s m) 0 0) (at (allScaled s m) 1 0) (at (allScaled s m) 2 0) (at (allScaled s m) 3 0)
+    top = quadrantShape (four (λ q. at (allScaled s m) q 0))
 
-    shape : (x : List Motion) → subTypeNumber (quadrantShape x) ≡ subTypeNumber (quadrantShape (four (λ k. motionScaled s (getD x k zeroMotion))))
-    shape x = ap subTypeNumber (sym (kept x))
+    shape : (x : List Motion) → subTypeNumber (subChosen x) ≡ subTypeNumber (quadrantShape (four (λ k. motionScaled s (getD x k zeroMotion))))
+    shape x = ap subTypeNumber (sub-chosen-is x ∙ sym (kept x))
 
     pub chosen-whole : (kind : ℕ) → a + b + c + d ≡ 0
-        → kind ≡ subTypeNumber (shapeOf (at (allScaled s m) 0 0) (at (allScaled s m) 1 0) (at (allScaled s m) 2 0) (at (allScaled s m) 3 0)) + 1
+        → kind ≡ subTypeNumber (subChosen (four (λ q. at (allScaled s m) q 0))) + 1
         → Said (chosen (allScaled s m)) kind a b c d
-    unfolding splitOf shapesOf allScaled top
+    unfolding splitOf shapesOf quadrantShape allScaled top
     chosen-whole kind z e =
         let sa = ea ∙ shape (getD m 0 []) in
         let sb = eb ∙ shape (getD m 1 []) in
@@ -127,7 +129,7 @@ module _ (s : Scales) (accepted : AcceptedScales s) where
         let sd = ed ∙ shape (getD m 3 []) in
         let t = shapesOf (allScaled s m) in
         let is : chosen (allScaled s m) ≡ joined top t = chosen-is (allScaled s m) ∙ yes _ _ (all-whole t a b c d sa sb sc sd z) in
-        subst (λ (k : ℕ). Said (chosen (allScaled s m)) k a b c d) (sym e)
+        subst (λ (k : ℕ). Said (chosen (allScaled s m)) k a b c d) (sym (e ∙ ap (λ (x : SubSplit). subTypeNumber x + 1) (sub-chosen-is (four (λ q. at (allScaled s m) q 0)))))
         (subst (λ (x : Split). Said x (subTypeNumber top + 1) a b c d) (sym is) (said-whole t a b c d sa sb sc sd z top))
 
     pub chosen-quarters : (kind : ℕ) → (a + b + c + d ≡ 0 → ⊥) → kind ≡ 4 → Said (chosen (allScaled s m)) kind a b c d

@@ -1,33 +1,47 @@
--- Written words that are compared tell whether the motions are the same. Assumes nothing.
+-- Written words that are compared tell whether the motions of two quadrants are the same, and so the type. Assumes nothing.
 use Prim.Native.Nat.{ℕ, _+_, _*_, _-_, _≤_, _<_}
-use mathlib.Core.Path.{_≡_, refl, ap, _∙_}
+use mathlib.Core.Path.{_≡_, refl, sym, ap, _∙_}
 use mathlib.Core.Bool.{Bool, true, false, _&&_}
-use mathlib.Core.List.{List}
+use mathlib.Core.List.{List, [], _∷_}
 use native.Mathlib.Omega.{arith}
 use lib.Dec.{T, lit<, ltb}
 use lib.IntN.{ℤ}
-use lib.ListN.{length}
+use lib.ListN.{length, getD}
 use mir.Syntax.{w64}
 use mir.Val.{Fits, boolByte}
-use Rattle.definitions.specs.Basics.{eqZ}
+use Rattle.definitions.specs.declared.Motion.{Motion}
+use Rattle.definitions.specs.Basics.{eqZ, four}
+use Rattle.definitions.specs.Blocks.{rasterOf}
 use Rattle.definitions.specs.Record.{motionOf, recordWords, subTypeNumber, wordOf}
 use Rattle.definitions.specs.Splits.{sameMotion, samePrediction}
-use Rattle.definitions.proofs.Shapes.{cut, samePairs, shapeOf}
+use Rattle.definitions.proofs.Choices.{each}
+use Rattle.definitions.proofs.Shapes.{cut, quadrantShape, samePairs, shapeOf}
+use Rattle.split.proofs.Chosen.{sub-chosen-is}
 use Rattle.split.proofs.Vectors.{number-fits, number-is}
-use Rattle.writing.specs.Words.{typeAmong, wordsSame}
+use Rattle.writing.specs.Words.{typeAmong}
+use Rattle.writing.proofs.Placed.{first-low}
 
--- ---- an index within the record, and its place in bytes
+-- ---- the vectors of quadrant q's first block: where they stand; and these, and its references, lie in the record
+abbrev vectorAt : ℕ → ℕ
+vectorAt q = 13 + 4 * getD (0 ∷ 2 ∷ 8 ∷ 10 ∷ []) q 0
+
 pub record Within (words : List ℤ) (i : ℕ) : Type 0 where
   pub below : i < length words
   pub fits : Fits w64 i
   pub scaled : Fits w64 (i * 2)
 
-module _ (words : List ℤ) (i n : ℕ) (long : length words ≡ recordWords) (room : i + n ≤ recordWords) where
-  pub first : T (ltb 0 n) → Within words i
-  first h = let l : 0 < n = lit< h in record { below = omega arith; fits = omega arith; scaled = omega arith }
+module _ (words : List ℤ) (q : ℕ) (long : length words ≡ recordWords) (h : q < 4) where
+  pub reference-first : Within words (5 + 2 * q)
+  reference-first = record { below = omega arith; fits = omega arith; scaled = omega arith }
 
-  pub further : (k : ℕ) → T (ltb k n) → Within words (i + k)
-  further k h = let l : k < n = lit< h in record { below = omega arith; fits = omega arith; scaled = omega arith }
+  pub reference-further : (k : ℕ) → T (ltb k 2) → Within words (5 + 2 * q + k)
+  reference-further k t = let u : k < 2 = lit< t in record { below = omega arith; fits = omega arith; scaled = omega arith }
+
+  pub vector-first : Within words (vectorAt q)
+  vector-first = let l = first-low q h in record { below = omega arith; fits = omega arith; scaled = omega arith }
+
+  pub vector-further : (k : ℕ) → T (ltb k 4) → Within words (vectorAt q + k)
+  vector-further k t = let l = first-low q h in let u : k < 4 = lit< t in record { below = omega arith; fits = omega arith; scaled = omega arith }
 
 -- ---- the same motion: references first, or list by list
 by-lists : (a b c d e f : Bool) → (a && b && c && d && e && f) ≡ ((a && (c && d)) && (b && (e && f)))
@@ -39,33 +53,44 @@ by-lists true false false d e f = refl
 by-lists true false true false e f = refl
 by-lists true false true true e f = refl
 
+-- ---- read back from a record
 module _ (r : List ℤ) where
-  same-at : (i j : ℕ) → Bool
-  same-at i j = eqZ (wordOf r i) (wordOf r j)
+  motion-at : ℕ → Motion
+  motion-at q = record {
+    list0 = record { reference = wordOf r (5 + 2 * q); x = wordOf r (vectorAt q); y = wordOf r (vectorAt q + 1) };
+    list1 = record { reference = wordOf r (5 + 2 * q + 1); x = wordOf r (vectorAt q + 2); y = wordOf r (vectorAt q + 3) };
+  }
 
-  upper : wordsSame r 5 7 13 21 ≡ sameMotion (motionOf r 0) (motionOf r 2)
-  unfolding wordsSame sameMotion samePrediction motionOf same-at
-  upper = by-lists (same-at 5 7) (same-at 6 8) (same-at 13 21) (same-at 14 22) (same-at 15 23) (same-at 16 24)
+  read-back : (q : ℕ) → q < 4 → motion-at q ≡ motionOf r (rasterOf q 0)
+  unfolding motionOf motion-at
+  read-back = each (λ q. motion-at q ≡ motionOf r (rasterOf q 0)) refl refl refl refl
 
-  lower : wordsSame r 9 11 45 53 ≡ sameMotion (motionOf r 8) (motionOf r 10)
-  unfolding wordsSame sameMotion samePrediction motionOf same-at
-  lower = by-lists (same-at 9 11) (same-at 10 12) (same-at 45 53) (same-at 46 54) (same-at 47 55) (same-at 48 56)
+  abbrev sameAt : ℕ → ℕ → Bool
+  sameAt i j = eqZ (wordOf r i) (wordOf r j)
 
-  left : wordsSame r 5 9 13 45 ≡ sameMotion (motionOf r 0) (motionOf r 8)
-  unfolding wordsSame sameMotion samePrediction motionOf same-at
-  left = by-lists (same-at 5 9) (same-at 6 10) (same-at 13 45) (same-at 14 46) (same-at 15 47) (same-at 16 48)
+  pub same-is : (q e : ℕ) → q < 4 → e < 4
+      → (sameAt (5 + 2 * q) (5 + 2 * e) && sameAt (5 + 2 * q + 1) (5 + 2 * e + 1)
+      && sameAt (vectorAt q) (vectorAt e) && sameAt (vectorAt q + 1) (vectorAt e + 1) && sameAt (vectorAt q + 2) (vectorAt e + 2) && sameAt (vectorAt q + 3) (vectorAt e + 3))
+      ≡ sameMotion (motionOf r (rasterOf q 0)) (motionOf r (rasterOf e 0))
+  unfolding sameMotion samePrediction motion-at
+  same-is q e h l =
+      let p = read-back q h in
+      let o = read-back e l in
+      by-lists (sameAt (5 + 2 * q) (5 + 2 * e)) (sameAt (5 + 2 * q + 1) (5 + 2 * e + 1))
+      (sameAt (vectorAt q) (vectorAt e)) (sameAt (vectorAt q + 1) (vectorAt e + 1)) (sameAt (vectorAt q + 2) (vectorAt e + 2)) (sameAt (vectorAt q + 3) (vectorAt e + 3))
+      ∙ (λ i. sameMotion (p i) (o i))
 
-  right : wordsSame r 7 11 21 53 ≡ sameMotion (motionOf r 2) (motionOf r 10)
-  unfolding wordsSame sameMotion samePrediction motionOf same-at
-  right = by-lists (same-at 7 11) (same-at 8 12) (same-at 21 53) (same-at 22 54) (same-at 23 55) (same-at 24 56)
+  -- ---- the type, by the rows and columns of quadrants
+  abbrev Same : Bool → ℕ → ℕ → Type 0
+  Same b q e = b ≡ sameMotion (motionOf r (rasterOf q 0)) (motionOf r (rasterOf e 0))
 
-  pub type-is : (a b c d : Bool) → a ≡ wordsSame r 5 7 13 21 → b ≡ wordsSame r 9 11 45 53 → c ≡ wordsSame r 5 9 13 45 → d ≡ wordsSame r 7 11 21 53
+  pub type-is : (a b c d : Bool) → Same a 0 1 → Same b 2 3 → Same c 0 2 → Same d 1 3
       → (4 - 2 * boolByte (a && b) - boolByte (c && d) ≡ typeAmong r) × (4 - 2 * boolByte (a && b) - boolByte (c && d) ≤ 4)
-  unfolding typeAmong shapeOf samePairs
+  unfolding typeAmong quadrantShape shapeOf samePairs
   type-is a b c d ea eb ec ed =
-      let ra = ea ∙ upper in
-      let rb = eb ∙ lower in
-      let ca = ec ∙ left in
-      let cb = ed ∙ right in
       let one : 4 - 2 * boolByte (a && b) - boolByte (c && d) ≡ 3 - 2 * boolByte (a && b) - boolByte (c && d) + 1 = omega (arith, number-fits (a && b) (c && d) .0, number-fits (a && b) (c && d) .1) in
-      (one ∙ (ap (λ (n : ℕ). n + 1) (number-is (a && b) (c && d)) ∙ (λ i. subTypeNumber (cut (ra i && rb i) (ca i && cb i)) + 1)), omega arith)
+      let shape = sub-chosen-is (four (λ q. motionOf r (rasterOf q 0))) in (
+        one ∙ (ap (λ (n : ℕ). n + 1) (number-is (a && b) (c && d))
+            ∙ ((λ i. subTypeNumber (cut (ea i && eb i) (ec i && ed i)) + 1) ∙ (λ i. subTypeNumber (sym shape i) + 1))),
+        omega arith,
+      )

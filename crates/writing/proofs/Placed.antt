@@ -1,14 +1,16 @@
--- Parts of a record that are lent and put back are words that are set; and what is set in four quadrants is the record's words. Assumes nothing.
-use Prim.Native.Nat.{ℕ, _+_, _≤_}
+-- Parts of a record that are lent and put back are words that are set. Assumes nothing.
+use Prim.Native.Nat.{ℕ, _+_, _*_, _≤_, _<_}
 use mathlib.Core.Path.{_≡_, sym, ap, _∙_}
-use mathlib.Core.List.{List, _++_, append-assoc}
+use mathlib.Core.List.{List, [], _∷_, _++_, append-assoc}
 use native.Mathlib.Omega.{arith}
 use lib.IntN.{ℤ}
 use lib.ListN.{length, getD, take, drop, length-drop, length-take}
 use lib.Seq.{drop-drop, length-sets, sets, sets-eq}
 use Rattle.definitions.specs.declared.Motion.{Motion}
+use Rattle.definitions.specs.Blocks.{rasterOf}
 use Rattle.definitions.specs.Inheriting.{zeroMotion}
 use Rattle.definitions.specs.Record.{recordWords, referencesOf}
+use Rattle.definitions.proofs.Choices.{each}
 use Rattle.motion.specs.declared.Scales.{Scales}
 use Rattle.writing.specs.Words.{pairOf, quadrantPut}
 
@@ -27,16 +29,23 @@ put-sets l part words a n e f h =
     ∙ (ap (λ (t : List ℤ). take a l ++ (words ++ t)) (drop-drop (length words) a l)
     ∙ (sym (append-assoc (take a l) words (drop (a + length words) l)) ∙ sym (sets-eq words l a h)))
 
--- ---- a quadrant
-module _ (s : Scales) (m : List Motion) (l : List ℤ) (r k : ℕ) (long : length l ≡ recordWords) (near : r + 2 ≤ k) (far : k + 24 ≤ recordWords) where
-  pub quadrant-put : (p q t : List ℤ) (a b c : ℕ) → p ≡ referencesOf (getD m 0 zeroMotion) → q ≡ pairOf s m 0 → t ≡ pairOf s m 2 → a ≡ 2 → b ≡ 8 → c ≡ 8
-      → put (k + 16) c (put k b (put r a l p) q) t ≡ quadrantPut s r k m l
+-- ---- a quadrant, by its first block
+pub first-low : (q : ℕ) → q < 4 → getD (0 ∷ 2 ∷ 8 ∷ 10 ∷ []) q 0 ≤ 10
+first-low = each (λ q. getD (0 ∷ 2 ∷ 8 ∷ 10 ∷ []) q 0 ≤ 10) (omega arith) (omega arith) (omega arith) (omega arith)
+
+module _ (s : Scales) (m : List Motion) (l : List ℤ) (q k : ℕ) (long : length l ≡ recordWords) (h : q < 4) (first : k ≡ rasterOf q 0) where
+  pub quadrant-put : (x y z : List ℤ) (a b c : ℕ) → x ≡ referencesOf (getD m 0 zeroMotion) → y ≡ pairOf s m 0 → z ≡ pairOf s m 2 → a ≡ 2 → b ≡ 8 → c ≡ 8
+      → put (13 + 4 * (k + 4)) c (put (13 + 4 * k) b (put (5 + 2 * q) a l x) y) z ≡ quadrantPut s q m l
   unfolding quadrantPut
-  quadrant-put p q t a b c ep eq et ea eb ec =
-      let one = sets l r (referencesOf (getD m 0 zeroMotion)) in
-      let two = sets one k (pairOf s m 0) in
-      let long1 : length one ≡ recordWords = length-sets l r (referencesOf (getD m 0 zeroMotion)) ∙ long in
-      let long2 : length two ≡ recordWords = length-sets one k (pairOf s m 0) ∙ long1 in
-      ap (λ (x : List ℤ). put (k + 16) c (put k b x q) t) (put-sets l p (referencesOf (getD m 0 zeroMotion)) r a ep ea (omega arith))
-      ∙ (ap (λ (x : List ℤ). put (k + 16) c x t) (put-sets one q (pairOf s m 0) k b eq eb (omega arith))
-      ∙ put-sets two t (pairOf s m 2) (k + 16) c et ec (omega arith))
+  quadrant-put x y z a b c ex ey ez ea eb ec =
+      let low = first-low q h in
+      let one = sets l (5 + 2 * q) (referencesOf (getD m 0 zeroMotion)) in
+      let two = sets one (13 + 4 * rasterOf q 0) (pairOf s m 0) in
+      let long1 : length one ≡ recordWords = length-sets l (5 + 2 * q) (referencesOf (getD m 0 zeroMotion)) ∙ long in
+      let long2 : length two ≡ recordWords = length-sets one (13 + 4 * rasterOf q 0) (pairOf s m 0) ∙ long1 in
+      let upper : 13 + 4 * k ≡ 13 + 4 * rasterOf q 0 = omega arith in
+      let lower : 13 + 4 * (k + 4) ≡ 13 + 4 * rasterOf q 2 = omega arith in
+      (λ i. put (lower i) c (put (upper i) b (put (5 + 2 * q) a l x) y) z)
+      ∙ (ap (λ (w : List ℤ). put (13 + 4 * rasterOf q 2) c (put (13 + 4 * rasterOf q 0) b w y) z) (put-sets l x (referencesOf (getD m 0 zeroMotion)) (5 + 2 * q) a ex ea (omega arith))
+      ∙ (ap (λ (w : List ℤ). put (13 + 4 * rasterOf q 2) c w z) (put-sets one y (pairOf s m 0) (13 + 4 * rasterOf q 0) b ey eb (omega arith))
+      ∙ put-sets two z (pairOf s m 2) (13 + 4 * rasterOf q 2) c ez ec (omega arith)))

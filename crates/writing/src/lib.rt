@@ -1,13 +1,15 @@
 // Writing what was made of a macroblock into a record of narrow words: step 4 of "Inheriting", as document 02's E3 has it, while the vectors are written, and step 5, the split.
-ghost use Prim.Native.Nat.{_+_, _-_, _≤_};
-ghost use Rattle.definitions.proofs.Shapes.{quadrantShape};
+ghost use Prim.Native.Nat.{_-_, _<_, _≤_};
 ghost use Rattle.definitions.specs.Answer.{dividedBy};
 ghost use Rattle.definitions.specs.Basics.{between, minus};
+ghost use Rattle.definitions.specs.Blocks.{rasterOf};
 ghost use Rattle.definitions.specs.Inheriting.{chosen, motionAt};
-ghost use Rattle.definitions.specs.Record.{laidOut, narrow, recordWords, referencesOf, subTypeNumber, vectorsOf};
+ghost use Rattle.definitions.specs.Record.{laidOut, motionOf, narrow, recordWords, referencesOf, subTypeNumber, vectorsOf};
+ghost use Rattle.definitions.specs.Splits.{sameMotion};
 ghost use Rattle.motion.specs.ByValue.{AllWritable, QuadrantWritable, Referring, Writable, motionIn, motionsIn, quadrantsIn};
 ghost use Rattle.motion.specs.Scales.{AcceptedScale, AcceptedScales, allScaled, motionScaled, scaledWith};
-ghost use Rattle.writing.specs.Words.{quadrantPut, typeAmong, wordsSame};
+ghost use Rattle.split.specs.Quadrant.{subChosen};
+ghost use Rattle.writing.specs.Words.{quadrantPut, typeAmong};
 ghost use lib.IntN.{pos};
 ghost use lib.ListN.{length};
 ghost use mathlib.Core.Bool.{true};
@@ -18,10 +20,11 @@ use motion::Scale;
 use motion::Scales;
 use records::layout::REFERENCES;
 use records::layout::TYPE;
+use records::layout::VECTORS;
 use split::sub_type_of;
 
 // ---- Step 4
-// A vector word: (v · scale + 32,768) / 65,536, rounded down, with the scale in its two parts. The shift rounds down, below zero too.
+// A vector word: (v · scale + 32,768) / 65,536, rounded down, with the scale in its two parts (`fitting` of proofs/Rounded). The shift rounds down, below zero too.
 fn scale_word(s: Scale, v: i32) -> i16
     requires { ⌜ AcceptedScale s × (between (minus narrow) (pos (narrow - 1)) v ≡ true) ⌝ }
     ensures { λ r. ⌜ r ≡ scaledWith s v ⌝ }
@@ -72,13 +75,19 @@ fn put_pair(out: &mut [i16], s: Scales, a: BlockMotion, b: BlockMotion)
     out[7] = scale_word(v, b.y1);
 }
 
-// A quadrant, whose references stand at word r and whose rows of blocks at k and a row of blocks further on. Gives its sub-type.
-fn put_quadrant(out: &mut [i16], s: Scales, r: usize, k: usize, m: [BlockMotion; 4]) -> u8
-    requires { ⌜ (length (now out) ≡ recordWords) × (r + 2 ≤ k) × (k + 24 ≤ recordWords) × AcceptedScales s × QuadrantWritable m ⌝ }
-    ensures words { λ _. ⌜ now (out .exit) ≡ quadrantPut s r k (motionsIn m) (now (out .entry)) ⌝ }
-    ensures sub { λ t. ⌜ (t ≡ subTypeNumber (quadrantShape (motionsIn m))) × (t ≤ 3) ⌝ }
+// The first block of each quadrant.
+const FIRST_BLOCK: [usize; 4] = [0, 2, 8, 10];
+
+// Quadrant q, whose first block is i (the caller looks it up, where q is a constant): its references, and its two rows of blocks. Gives its sub-type.
+// Its sub-type is found before step 4: scaling keeps different motions different (`motion-apart`).
+fn put_quadrant(out: &mut [i16], s: Scales, q: usize, i: usize, m: [BlockMotion; 4]) -> u8
+    requires { ⌜ (length (now out) ≡ recordWords) × (q < 4) × (i ≡ rasterOf q 0) × AcceptedScales s × QuadrantWritable m ⌝ }
+    ensures words { λ _. ⌜ now (out .exit) ≡ quadrantPut s q (motionsIn m) (now (out .entry)) ⌝ }
+    ensures sub { λ t. ⌜ (t ≡ subTypeNumber (subChosen (motionsIn m))) × (t ≤ 3) ⌝ }
 {
-    let below = k + 16;
+    let r = REFERENCES + 2 * q;
+    let k = VECTORS + 4 * i;
+    let below = VECTORS + 4 * (i + 4);
     put_references(&mut out[r..r + 2], m[0]);
     put_pair(&mut out[k..k + 8], s, m[0], m[1]);
     put_pair(&mut out[below..below + 8], s, m[2], m[3]);
@@ -86,11 +95,15 @@ fn put_quadrant(out: &mut [i16], s: Scales, r: usize, k: usize, m: [BlockMotion;
 }
 
 // ---- Step 5
-// Two quadrants have one motion each: whether it is the same. Their references stand at words r and t, the vectors of their first blocks at k and j.
-fn same_in(out: &[i16], r: usize, t: usize, k: usize, j: usize) -> bool
-    requires { ⌜ (length (now out) ≡ recordWords) × (r + 2 ≤ recordWords) × (t + 2 ≤ recordWords) × (k + 4 ≤ recordWords) × (j + 4 ≤ recordWords) ⌝ }
-    ensures { λ same. ⌜ same ≡ wordsSame (now (out .entry)) r t k j ⌝ }
+// Quadrants q and e have one motion each: whether it is the same.
+fn same_in(out: &[i16], q: usize, e: usize) -> bool
+    requires { ⌜ (length (now out) ≡ recordWords) × (q < 4) × (e < 4) ⌝ }
+    ensures { λ same. ⌜ same ≡ sameMotion (motionOf (now (out .entry)) (rasterOf q 0)) (motionOf (now (out .entry)) (rasterOf e 0)) ⌝ }
 {
+    let r = REFERENCES + 2 * q;
+    let t = REFERENCES + 2 * e;
+    let k = VECTORS + 4 * FIRST_BLOCK[q];
+    let j = VECTORS + 4 * FIRST_BLOCK[e];
     (out[r] == out[t])
         & (out[r + 1] == out[t + 1])
         & (out[k] == out[j])
@@ -99,14 +112,13 @@ fn same_in(out: &[i16], r: usize, t: usize, k: usize, j: usize) -> bool
         & (out[k + 3] == out[j + 3])
 }
 
-// The type of a record whose quadrants have one motion each: which of its rows and columns of quadrants have one. Scaling keeps different motions different
-// (`motion-apart`), so the written words tell.
+// The type of a record whose quadrants have one motion each: which rows and columns of quadrants have one. The words are those after step 4.
 fn type_in(out: &[i16]) -> u8
     requires { ⌜ length (now out) ≡ recordWords ⌝ }
     ensures { λ r. ⌜ (r ≡ typeAmong (now (out .entry))) × (r ≤ 4) ⌝ }
 {
-    let rows = same_in(out, 5, 7, 13, 21) & same_in(out, 9, 11, 45, 53);
-    let columns = same_in(out, 5, 9, 13, 45) & same_in(out, 7, 11, 21, 53);
+    let rows = same_in(out, 0, 1) & same_in(out, 2, 3);
+    let columns = same_in(out, 0, 2) & same_in(out, 1, 3);
     4 - 2 * (rows as u8) - columns as u8
 }
 
@@ -127,10 +139,10 @@ pub fn write_made(out: &mut [i16], s: Scales, m: [[BlockMotion; 4]; 4])
     requires { ⌜ (length (now out) ≡ recordWords) × AcceptedScales s × AllWritable m ⌝ }
     ensures { λ _. ⌜ now (out .exit) ≡ laidOut (dividedBy (chosen (allScaled s (quadrantsIn m))) (motionAt (allScaled s (quadrantsIn m)))) ⌝ }
 {
-    let a = put_quadrant(out, s, 5, 13, m[0]);
-    let b = put_quadrant(out, s, 7, 21, m[1]);
-    let c = put_quadrant(out, s, 9, 45, m[2]);
-    let d = put_quadrant(out, s, 11, 53, m[3]);
+    let a = put_quadrant(out, s, 0, FIRST_BLOCK[0], m[0]);
+    let b = put_quadrant(out, s, 1, FIRST_BLOCK[1], m[1]);
+    let c = put_quadrant(out, s, 2, FIRST_BLOCK[2], m[2]);
+    let d = put_quadrant(out, s, 3, FIRST_BLOCK[3], m[3]);
     let kind = if a + b + c + d == 0 { type_in(out) } else { 4 };
     put_types(&mut out[TYPE..REFERENCES], kind, a, b, c, d);
 }

@@ -5,10 +5,12 @@ use borrow.Author.Needs.{needs}
 use mir.Syntax.{w32}
 use Rattle.definitions.specs.Basics.{eqZ}
 use Rattle.definitions.proofs.Motions.{bits-same}
+use Rattle.motion.specs.ByValue.{sameVectorsIn}
 use Rattle.split.proofs.same_vectors.Statement.{statement}
 use Rattle.split.proofs.same_vectors.Tie as tie
 
 returns : tie.Need-returns
+unfolding sameVectorsIn
 returns c =
     let a = c .before .before .before .before .before .before .before .before .before .before .before .before .before .before .before .before .args in
     let x0 = bits-same w32 (a .p .x0) (a .q .x0) (search needs) (search needs) in

@@ -1,7 +1,6 @@
 -- `writing::write_made` meets its contract: four quadrants are put into the record, and then the types. Assumes nothing.
 use mathlib.Core.Logic.{⊎-elim}
-use mathlib.Core.Path.{_∙_}
-use native.Mathlib.Omega.{arith}
+use mathlib.Core.Path.{refl, _∙_}
 use lib.Dec.{lit<}
 use borrow.Author.Needs.{needs}
 use Rattle.definitions.specs.Inheriting.{chosen}
@@ -12,29 +11,41 @@ use Rattle.writing.proofs.Choosing.{Said, chosen-quarters, chosen-whole
 use Rattle.writing.proofs.write_made.Statement.{statement}
 use Rattle.writing.proofs.write_made.Tie as tie
 
+array-read-put-quadrant : tie.Need-array-read-put-quadrant
+array-read-put-quadrant c = search needs
+
 array-copy-out-put-quadrant : tie.Need-array-copy-out-put-quadrant
 array-copy-out-put-quadrant c = search needs
 
 put-quadrant-requires : tie.Need-put-quadrant-requires
-put-quadrant-requires c κs = let s = c .before .before in (search needs, omega arith, omega arith, s .pre .1, s .pre .2 _ (lit< tt))
+put-quadrant-requires c κs = let s = c .before .before in (search needs, lit< tt, refl, s .pre .1, s .pre .2 _ (lit< tt))
+
+array-read-put-quadrant-2 : tie.Need-array-read-put-quadrant-2
+array-read-put-quadrant-2 c = search needs
 
 array-copy-out-put-quadrant-2 : tie.Need-array-copy-out-put-quadrant-2
 array-copy-out-put-quadrant-2 c = search needs
 
 put-quadrant-requires-2 : tie.Need-put-quadrant-requires-2
-put-quadrant-requires-2 c κs = let s = c .before .before .before .before .before .before in (search needs, omega arith, omega arith, s .pre .1, s .pre .2 _ (lit< tt))
+put-quadrant-requires-2 c κs = let s = c .before .before .before .before .before .before in (search needs, lit< tt, refl, s .pre .1, s .pre .2 _ (lit< tt))
+
+array-read-put-quadrant-3 : tie.Need-array-read-put-quadrant-3
+array-read-put-quadrant-3 c = search needs
 
 array-copy-out-put-quadrant-3 : tie.Need-array-copy-out-put-quadrant-3
 array-copy-out-put-quadrant-3 c = search needs
 
 put-quadrant-requires-3 : tie.Need-put-quadrant-requires-3
-put-quadrant-requires-3 c κs = let s = c .before .before .before .before .before .before .before .before .before .before in (search needs, omega arith, omega arith, s .pre .1, s .pre .2 _ (lit< tt))
+put-quadrant-requires-3 c κs = let s = c .before .before .before .before .before .before .before .before .before .before in (search needs, lit< tt, refl, s .pre .1, s .pre .2 _ (lit< tt))
+
+array-read-put-quadrant-4 : tie.Need-array-read-put-quadrant-4
+array-read-put-quadrant-4 c = search needs
 
 array-copy-out-put-quadrant-4 : tie.Need-array-copy-out-put-quadrant-4
 array-copy-out-put-quadrant-4 c = search needs
 
 put-quadrant-requires-4 : tie.Need-put-quadrant-requires-4
-put-quadrant-requires-4 c κs = let s = c .before .before .before .before .before .before .before .before .before .before .before .before .before .before in (search needs, omega arith, omega arith, s .pre .1, s .pre .2 _ (lit< tt))
+put-quadrant-requires-4 c κs = let s = c .before .before .before .before .before .before .before .before .before .before .before .before .before .before in (search needs, lit< tt, refl, s .pre .1, s .pre .2 _ (lit< tt))
 
 add-if1 : tie.Need-add-if1
 add-if1 c = search needs
@@ -88,12 +99,16 @@ pub write-made-spec : {M : Type 1} → statement M
 write-made-spec =
     tie.close
     (tie.spec
+    array-read-put-quadrant
     array-copy-out-put-quadrant
     put-quadrant-requires
+    array-read-put-quadrant-2
     array-copy-out-put-quadrant-2
     put-quadrant-requires-2
+    array-read-put-quadrant-3
     array-copy-out-put-quadrant-3
     put-quadrant-requires-3
+    array-read-put-quadrant-4
     array-copy-out-put-quadrant-4
     put-quadrant-requires-4
     add-if1

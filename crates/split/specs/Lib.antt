@@ -1,0 +1,2 @@
+-- Step 5 of "Inheriting", on one quadrant.
+pub mod Quadrant
