@@ -51,7 +51,7 @@ same-quadrant : (u w x y : ℕ) → u / 2 ≡ x / 2 → w / 2 ≡ y / 2 → quad
 same-quadrant u w x y p q = quadrant-is u w ∙ ((λ i. 2 * half-is w y q i + half-is u x p i) ∙ sym (quadrant-is x y))
 
 -- a set of all sixteen, and of none
-all-or-none : (t : Bool) → setOf 16 (λ i. t) ≡ pick t 65535 0
+pub all-or-none : (t : Bool) → setOf 16 (λ i. t) ≡ pick t 65535 0
 unfolding setOf pick
 all-or-none true = refl
 all-or-none false = refl
