@@ -3,7 +3,7 @@
 // Where something goes round a step, its comment names the law that allows it.
 ghost use Prim.Native.Nat.{_<_, _≤_};
 ghost use Rattle.definitions.specs.Accepted.{AcceptedAxes, AcceptedAxis};
-ghost use Rattle.definitions.specs.Inheriting.{clearOf, filled, merged, resolved};
+ghost use Rattle.definitions.specs.Inheriting.{filled, merged, resolved};
 ghost use Rattle.definitions.specs.Record.{recordWords, splitSaid, subSplitOf};
 ghost use Rattle.gather.specs.Reads.{Readable, gatheredBy, quadrantFrom, setBy};
 ghost use Rattle.macroblock.specs.Made.{Makeable, Ready, Small, answerBy, fixedOf, inheritedInside, nowhere, onePart, originBy, readIn, readOf, setInside, sortBy, sortInside, writtenBy, writtenInside};
@@ -137,12 +137,6 @@ fn quadrant_merged(base: &[i16], x0: Spot, x1: Spot, y0: Spot, y1: Spot) -> [Blo
     merge(quadrant_read(base, x0, x1, y0, y1))
 }
 
-// A quadrant of the macroblock, and the set of the blocks that read intra macroblocks.
-struct Quadrant {
-    set: u16,
-    q: usize,
-}
-
 // Steps 1 and 2 of a quadrant. Of a plain one all blocks are intra or none is, and nothing is to fill (`filled-alike`) or to merge; nor is where none is intra (`filled-leaves`).
 fn quadrant_made(
     base: &[i16],
@@ -150,16 +144,15 @@ fn quadrant_made(
     x1: Spot,
     y0: Spot,
     y1: Spot,
-    of: Quadrant,
+    clear: [bool; 4],
 ) -> [BlockMotion; 4]
-    requires { ⌜ (of .q < 4) × Mergeable (now base) x0 x1 y0 y1 × ((plainAt x0 x1 y0 y1 ≡ true → Alike (clearOf (of .set) (of .q)))) ⌝ }
-    ensures { λ r. ⌜ motionsIn r ≡ merged (filled (clearOf (of .set) (of .q)) (motionsIn (quadrantFrom (now (base .entry)) x0 x1 y0 y1))) ⌝ }
+    requires { ⌜ Mergeable (now base) x0 x1 y0 y1 × ((plainAt x0 x1 y0 y1 ≡ true → Alike clear)) ⌝ }
+    ensures { λ r. ⌜ motionsIn r ≡ merged (filled clear (motionsIn (quadrantFrom (now (base .entry)) x0 x1 y0 y1))) ⌝ }
 {
     let m = quadrant_read(base, x0, x1, y0, y1);
     if is_plain(x0, x1, y0, y1) {
         return m;
     }
-    let clear = clear_of(of.set, of.q);
     if clear[0] & clear[1] & clear[2] & clear[3] {
         return merge(m);
     }
@@ -210,10 +203,10 @@ fn motions_filled(
     let y1 = down_of(width, down[1]);
     let y2 = down_of(width, down[2]);
     let y3 = down_of(width, down[3]);
-    let a = quadrant_made(base, x0, x1, y0, y1, Quadrant { set, q: 0 });
-    let b = quadrant_made(base, x2, x3, y0, y1, Quadrant { set, q: 1 });
-    let c = quadrant_made(base, x0, x1, y2, y3, Quadrant { set, q: 2 });
-    let d = quadrant_made(base, x2, x3, y2, y3, Quadrant { set, q: 3 });
+    let a = quadrant_made(base, x0, x1, y0, y1, clear_of(set, 0));
+    let b = quadrant_made(base, x2, x3, y0, y1, clear_of(set, 1));
+    let c = quadrant_made(base, x0, x1, y2, y3, clear_of(set, 2));
+    let d = quadrant_made(base, x2, x3, y2, y3, clear_of(set, 3));
     copy(set, [a, b, c, d])
 }
 

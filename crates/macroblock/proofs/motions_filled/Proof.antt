@@ -1,10 +1,8 @@
 -- `macroblock::motions_filled` meets its contract. Assumes nothing.
-use native.Mathlib.Omega.{arith}
-use mathlib.Core.List.{List}
-use mathlib.Core.Path.{ap, _∙_}
-use Rattle.definitions.specs.declared.Motion.{Motion}
-use Rattle.definitions.specs.Inheriting.{clearOf, filled, merged}
-use Rattle.macroblock.proofs.Motions.{alike-0, alike-1, alike-2, alike-3, made-of-quadrants, mergeable-at, quadrant-at, readable-0, readable-1, readable-2, readable-3}
+use mathlib.Core.Path.{subst, sym, _∙_}
+use Rattle.definitions.specs.Inheriting.{filled, merged}
+use Rattle.macroblock.specs.Quadrants.{Alike}
+use Rattle.macroblock.proofs.Motions.{Spotted, alike-0, alike-1, alike-2, alike-3, made-of-quadrants, placed-0, placed-1, placed-2, placed-3}
 use borrow.Author.Needs.{needs}
 use Rattle.macroblock.proofs.motions_filled.Statement.{statement}
 use Rattle.macroblock.proofs.motions_filled.Tie as tie
@@ -57,37 +55,67 @@ array-read-down-of-4 c = search needs
 down-of-requires-4 : tie.Need-down-of-requires-4
 down-of-requires-4 c κs = search needs
 
+-- what is known of the places
+module _ (c : tie.After-down-of4) where
+  abbrev s : tie.Start
+  s = c .before .before .before .before .before .before .before .before
+
+  spotted : Spotted (s .args .width) (s .args .t3) (s .args .t4) (s .args .base .now) (c .before .before .before .before .before .before .before .across-of .result) (c .before .before .before .before .before .before .across-of2 .result) (c .before .before .before .before .before .across-of3 .result) (c .before .before .before .before .across-of4 .result) (c .before .before .before .down-of .result) (c .before .before .down-of2 .result) (c .before .down-of3 .result) (c .down-of4 .result)
+  spotted = record {
+    readable = s .pre .0;
+    column-0 = c .before .before .before .before .before .before .before .across-of .ensures;
+    column-1 = c .before .before .before .before .before .before .across-of2 .ensures;
+    column-2 = c .before .before .before .before .before .across-of3 .ensures;
+    column-3 = c .before .before .before .before .across-of4 .ensures;
+    row-0 = c .before .before .before .down-of .ensures;
+    row-1 = c .before .before .down-of2 .ensures;
+    row-2 = c .before .down-of3 .ensures;
+    row-3 = c .down-of4 .ensures;
+  }
+
+clear-of-requires : tie.Need-clear-of-requires
+clear-of-requires c κs = search needs
+
 quadrant-made-requires : tie.Need-quadrant-made-requires
 quadrant-made-requires c κs =
-    let s = c .before .before .before .before .before .before .before .before in
-    (omega arith, mergeable-at (s .args .width) (s .args .base .now) _ _ _ _ (readable-0 (s .args .width) (s .args .t3) (s .args .t4) (s .args .base .now) (s .pre .0)) (c .before .before .before .before .before .before .before .across-of .ensures) (c .before .before .before .before .before .before .across-of2 .ensures) (c .before .before .before .down-of .ensures) (c .before .before .down-of2 .ensures), alike-0 (s .args .width) (s .args .t3) (s .args .t4) (s .args .base .now) (s .pre .2) (c .before .before .before .before .before .before .before .across-of .ensures) (c .before .before .before .before .before .before .across-of2 .ensures) (c .before .before .before .down-of .ensures) (c .before .before .down-of2 .ensures))
+    let k = c .before in
+    (placed-0 (spotted k) .mergeable, λ p. subst Alike (sym (c .clear-of .ensures)) (alike-0 (s k .args .width) (s k .args .t3) (s k .args .t4) (s k .args .base .now) (s k .pre .2) (spotted k) p))
+
+clear-of-requires-2 : tie.Need-clear-of-requires-2
+clear-of-requires-2 c κs = search needs
 
 quadrant-made-requires-2 : tie.Need-quadrant-made-requires-2
 quadrant-made-requires-2 c κs =
-    let s = c .before .before .before .before .before .before .before .before .before in
-    (omega arith, mergeable-at (s .args .width) (s .args .base .now) _ _ _ _ (readable-1 (s .args .width) (s .args .t3) (s .args .t4) (s .args .base .now) (s .pre .0)) (c .before .before .before .before .before .before .across-of3 .ensures) (c .before .before .before .before .before .across-of4 .ensures) (c .before .before .before .before .down-of .ensures) (c .before .before .before .down-of2 .ensures), alike-1 (s .args .width) (s .args .t3) (s .args .t4) (s .args .base .now) (s .pre .2) (c .before .before .before .before .before .before .across-of3 .ensures) (c .before .before .before .before .before .across-of4 .ensures) (c .before .before .before .before .down-of .ensures) (c .before .before .before .down-of2 .ensures))
+    let k = c .before .before .before in
+    (placed-1 (spotted k) .mergeable, λ p. subst Alike (sym (c .clear-of2 .ensures)) (alike-1 (s k .args .width) (s k .args .t3) (s k .args .t4) (s k .args .base .now) (s k .pre .2) (spotted k) p))
+
+clear-of-requires-3 : tie.Need-clear-of-requires-3
+clear-of-requires-3 c κs = search needs
 
 quadrant-made-requires-3 : tie.Need-quadrant-made-requires-3
 quadrant-made-requires-3 c κs =
-    let s = c .before .before .before .before .before .before .before .before .before .before in
-    (omega arith, mergeable-at (s .args .width) (s .args .base .now) _ _ _ _ (readable-2 (s .args .width) (s .args .t3) (s .args .t4) (s .args .base .now) (s .pre .0)) (c .before .before .before .before .before .before .before .before .before .across-of .ensures) (c .before .before .before .before .before .before .before .before .across-of2 .ensures) (c .before .before .before .down-of3 .ensures) (c .before .before .down-of4 .ensures), alike-2 (s .args .width) (s .args .t3) (s .args .t4) (s .args .base .now) (s .pre .2) (c .before .before .before .before .before .before .before .before .before .across-of .ensures) (c .before .before .before .before .before .before .before .before .across-of2 .ensures) (c .before .before .before .down-of3 .ensures) (c .before .before .down-of4 .ensures))
+    let k = c .before .before .before .before .before in
+    (placed-2 (spotted k) .mergeable, λ p. subst Alike (sym (c .clear-of3 .ensures)) (alike-2 (s k .args .width) (s k .args .t3) (s k .args .t4) (s k .args .base .now) (s k .pre .2) (spotted k) p))
+
+clear-of-requires-4 : tie.Need-clear-of-requires-4
+clear-of-requires-4 c κs = search needs
 
 quadrant-made-requires-4 : tie.Need-quadrant-made-requires-4
 quadrant-made-requires-4 c κs =
-    let s = c .before .before .before .before .before .before .before .before .before .before .before in
-    (omega arith, mergeable-at (s .args .width) (s .args .base .now) _ _ _ _ (readable-3 (s .args .width) (s .args .t3) (s .args .t4) (s .args .base .now) (s .pre .0)) (c .before .before .before .before .before .before .before .before .across-of3 .ensures) (c .before .before .before .before .before .before .before .across-of4 .ensures) (c .before .before .before .before .down-of3 .ensures) (c .before .before .before .down-of4 .ensures), alike-3 (s .args .width) (s .args .t3) (s .args .t4) (s .args .base .now) (s .pre .2) (c .before .before .before .before .before .before .before .before .across-of3 .ensures) (c .before .before .before .before .before .before .before .across-of4 .ensures) (c .before .before .before .before .down-of3 .ensures) (c .before .before .before .down-of4 .ensures))
+    let k = c .before .before .before .before .before .before .before in
+    (placed-3 (spotted k) .mergeable, λ p. subst Alike (sym (c .clear-of4 .ensures)) (alike-3 (s k .args .width) (s k .args .t3) (s k .args .t4) (s k .args .base .now) (s k .pre .2) (spotted k) p))
 
 copy-requires : tie.Need-copy-requires
 copy-requires c κs = search needs
 
 returns : tie.Need-returns
 returns c =
-    let s = c .before .before .before .before .before .before .before .before .before .before .before .before .before in
-    made-of-quadrants (s .args .width) (s .args .t3) (s .args .t4) (s .args .base .now) (s .pre .2)
-    (c .before .before .before .before .quadrant-made .ensures ∙ ap (λ (m : List Motion). merged (filled (clearOf (s .args .set) 0) m)) (quadrant-at (s .args .width) (s .args .base .now) _ _ _ _ (readable-0 (s .args .width) (s .args .t3) (s .args .t4) (s .args .base .now) (s .pre .0)) (c .before .before .before .before .before .before .before .before .before .before .before .before .across-of .ensures) (c .before .before .before .before .before .before .before .before .before .before .before .across-of2 .ensures) (c .before .before .before .before .before .before .before .before .down-of .ensures) (c .before .before .before .before .before .before .before .down-of2 .ensures)))
-    (c .before .before .before .quadrant-made2 .ensures ∙ ap (λ (m : List Motion). merged (filled (clearOf (s .args .set) 1) m)) (quadrant-at (s .args .width) (s .args .base .now) _ _ _ _ (readable-1 (s .args .width) (s .args .t3) (s .args .t4) (s .args .base .now) (s .pre .0)) (c .before .before .before .before .before .before .before .before .before .before .across-of3 .ensures) (c .before .before .before .before .before .before .before .before .before .across-of4 .ensures) (c .before .before .before .before .before .before .before .before .down-of .ensures) (c .before .before .before .before .before .before .before .down-of2 .ensures)))
-    (c .before .before .quadrant-made3 .ensures ∙ ap (λ (m : List Motion). merged (filled (clearOf (s .args .set) 2) m)) (quadrant-at (s .args .width) (s .args .base .now) _ _ _ _ (readable-2 (s .args .width) (s .args .t3) (s .args .t4) (s .args .base .now) (s .pre .0)) (c .before .before .before .before .before .before .before .before .before .before .before .before .across-of .ensures) (c .before .before .before .before .before .before .before .before .before .before .before .across-of2 .ensures) (c .before .before .before .before .before .before .down-of3 .ensures) (c .before .before .before .before .before .down-of4 .ensures)))
-    (c .before .quadrant-made4 .ensures ∙ ap (λ (m : List Motion). merged (filled (clearOf (s .args .set) 3) m)) (quadrant-at (s .args .width) (s .args .base .now) _ _ _ _ (readable-3 (s .args .width) (s .args .t3) (s .args .t4) (s .args .base .now) (s .pre .0)) (c .before .before .before .before .before .before .before .before .before .before .across-of3 .ensures) (c .before .before .before .before .before .before .before .before .before .across-of4 .ensures) (c .before .before .before .before .before .before .down-of3 .ensures) (c .before .before .before .before .before .down-of4 .ensures)))
+    let k = c .before .before .before .before .before .before .before .before .before in
+    made-of-quadrants (s k .args .width) (s k .args .t3) (s k .args .t4) (s k .args .base .now) (s k .pre .2)
+    (c .before .before .before .before .before .before .before .quadrant-made .ensures ∙ (λ i. merged (filled (c .before .before .before .before .before .before .before .before .clear-of .ensures i) (placed-0 (spotted k) .is i))))
+    (c .before .before .before .before .before .quadrant-made2 .ensures ∙ (λ i. merged (filled (c .before .before .before .before .before .before .clear-of2 .ensures i) (placed-1 (spotted k) .is i))))
+    (c .before .before .before .quadrant-made3 .ensures ∙ (λ i. merged (filled (c .before .before .before .before .clear-of3 .ensures i) (placed-2 (spotted k) .is i))))
+    (c .before .quadrant-made4 .ensures ∙ (λ i. merged (filled (c .before .before .clear-of4 .ensures i) (placed-3 (spotted k) .is i))))
     (c .copy .ensures)
 
 pub motions-filled-spec : {M : Type 1} → statement M
@@ -110,9 +138,13 @@ motions-filled-spec =
     down-of-requires-3
     array-read-down-of-4
     down-of-requires-4
+    clear-of-requires
     quadrant-made-requires
+    clear-of-requires-2
     quadrant-made-requires-2
+    clear-of-requires-3
     quadrant-made-requires-3
+    clear-of-requires-4
     quadrant-made-requires-4
     copy-requires
     returns)

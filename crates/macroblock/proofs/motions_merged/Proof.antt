@@ -1,7 +1,7 @@
 -- `macroblock::motions_merged` meets its contract. Assumes nothing.
 use mathlib.Core.Path.{ap, _∙_}
 use Rattle.definitions.specs.Inheriting.{merged}
-use Rattle.macroblock.proofs.Motions.{merged-only, mergeable-at, quadrant-at, readable-0, readable-1, readable-2, readable-3}
+use Rattle.macroblock.proofs.Motions.{Spotted, merged-only, placed-0, placed-1, placed-2, placed-3}
 use borrow.Author.Needs.{needs}
 use Rattle.macroblock.proofs.motions_merged.Statement.{statement}
 use Rattle.macroblock.proofs.motions_merged.Tie as tie
@@ -54,34 +54,44 @@ array-read-down-of-4 c = search needs
 down-of-requires-4 : tie.Need-down-of-requires-4
 down-of-requires-4 c κs = search needs
 
+-- what is known of the places
+module _ (c : tie.After-down-of4) where
+  abbrev s : tie.Start
+  s = c .before .before .before .before .before .before .before .before
+
+  spotted : Spotted (s .args .width) (s .args .t3) (s .args .t4) (s .args .base .now) (c .before .before .before .before .before .before .before .across-of .result) (c .before .before .before .before .before .before .across-of2 .result) (c .before .before .before .before .before .across-of3 .result) (c .before .before .before .before .across-of4 .result) (c .before .before .before .down-of .result) (c .before .before .down-of2 .result) (c .before .down-of3 .result) (c .down-of4 .result)
+  spotted = record {
+    readable = s .pre .0;
+    column-0 = c .before .before .before .before .before .before .before .across-of .ensures;
+    column-1 = c .before .before .before .before .before .before .across-of2 .ensures;
+    column-2 = c .before .before .before .before .before .across-of3 .ensures;
+    column-3 = c .before .before .before .before .across-of4 .ensures;
+    row-0 = c .before .before .before .down-of .ensures;
+    row-1 = c .before .before .down-of2 .ensures;
+    row-2 = c .before .down-of3 .ensures;
+    row-3 = c .down-of4 .ensures;
+  }
+
 quadrant-merged-requires : tie.Need-quadrant-merged-requires
-quadrant-merged-requires c κs =
-    let s = c .before .before .before .before .before .before .before .before in
-    mergeable-at (s .args .width) (s .args .base .now) _ _ _ _ (readable-0 (s .args .width) (s .args .t3) (s .args .t4) (s .args .base .now) (s .pre .0)) (c .before .before .before .before .before .before .before .across-of .ensures) (c .before .before .before .before .before .before .across-of2 .ensures) (c .before .before .before .down-of .ensures) (c .before .before .down-of2 .ensures)
+quadrant-merged-requires c κs = placed-0 (spotted (c)) .mergeable
 
 quadrant-merged-requires-2 : tie.Need-quadrant-merged-requires-2
-quadrant-merged-requires-2 c κs =
-    let s = c .before .before .before .before .before .before .before .before .before in
-    mergeable-at (s .args .width) (s .args .base .now) _ _ _ _ (readable-1 (s .args .width) (s .args .t3) (s .args .t4) (s .args .base .now) (s .pre .0)) (c .before .before .before .before .before .before .across-of3 .ensures) (c .before .before .before .before .before .across-of4 .ensures) (c .before .before .before .before .down-of .ensures) (c .before .before .before .down-of2 .ensures)
+quadrant-merged-requires-2 c κs = placed-1 (spotted (c .before)) .mergeable
 
 quadrant-merged-requires-3 : tie.Need-quadrant-merged-requires-3
-quadrant-merged-requires-3 c κs =
-    let s = c .before .before .before .before .before .before .before .before .before .before in
-    mergeable-at (s .args .width) (s .args .base .now) _ _ _ _ (readable-2 (s .args .width) (s .args .t3) (s .args .t4) (s .args .base .now) (s .pre .0)) (c .before .before .before .before .before .before .before .before .before .across-of .ensures) (c .before .before .before .before .before .before .before .before .across-of2 .ensures) (c .before .before .before .down-of3 .ensures) (c .before .before .down-of4 .ensures)
+quadrant-merged-requires-3 c κs = placed-2 (spotted (c .before .before)) .mergeable
 
 quadrant-merged-requires-4 : tie.Need-quadrant-merged-requires-4
-quadrant-merged-requires-4 c κs =
-    let s = c .before .before .before .before .before .before .before .before .before .before .before in
-    mergeable-at (s .args .width) (s .args .base .now) _ _ _ _ (readable-3 (s .args .width) (s .args .t3) (s .args .t4) (s .args .base .now) (s .pre .0)) (c .before .before .before .before .before .before .before .before .across-of3 .ensures) (c .before .before .before .before .before .before .before .across-of4 .ensures) (c .before .before .before .before .down-of3 .ensures) (c .before .before .before .down-of4 .ensures)
+quadrant-merged-requires-4 c κs = placed-3 (spotted (c .before .before .before)) .mergeable
 
 returns : tie.Need-returns
 returns c =
-    let s = c .before .before .before .before .before .before .before .before .before .before .before .before in
-    merged-only (s .args .width) (s .args .t3) (s .args .t4) (s .args .base .now)
-    (c .before .before .before .quadrant-merged .ensures ∙ ap merged (quadrant-at (s .args .width) (s .args .base .now) _ _ _ _ (readable-0 (s .args .width) (s .args .t3) (s .args .t4) (s .args .base .now) (s .pre .0)) (c .before .before .before .before .before .before .before .before .before .before .before .across-of .ensures) (c .before .before .before .before .before .before .before .before .before .before .across-of2 .ensures) (c .before .before .before .before .before .before .before .down-of .ensures) (c .before .before .before .before .before .before .down-of2 .ensures)))
-    (c .before .before .quadrant-merged2 .ensures ∙ ap merged (quadrant-at (s .args .width) (s .args .base .now) _ _ _ _ (readable-1 (s .args .width) (s .args .t3) (s .args .t4) (s .args .base .now) (s .pre .0)) (c .before .before .before .before .before .before .before .before .before .across-of3 .ensures) (c .before .before .before .before .before .before .before .before .across-of4 .ensures) (c .before .before .before .before .before .before .before .down-of .ensures) (c .before .before .before .before .before .before .down-of2 .ensures)))
-    (c .before .quadrant-merged3 .ensures ∙ ap merged (quadrant-at (s .args .width) (s .args .base .now) _ _ _ _ (readable-2 (s .args .width) (s .args .t3) (s .args .t4) (s .args .base .now) (s .pre .0)) (c .before .before .before .before .before .before .before .before .before .before .before .across-of .ensures) (c .before .before .before .before .before .before .before .before .before .before .across-of2 .ensures) (c .before .before .before .before .before .down-of3 .ensures) (c .before .before .before .before .down-of4 .ensures)))
-    (c .quadrant-merged4 .ensures ∙ ap merged (quadrant-at (s .args .width) (s .args .base .now) _ _ _ _ (readable-3 (s .args .width) (s .args .t3) (s .args .t4) (s .args .base .now) (s .pre .0)) (c .before .before .before .before .before .before .before .before .before .across-of3 .ensures) (c .before .before .before .before .before .before .before .before .across-of4 .ensures) (c .before .before .before .before .before .down-of3 .ensures) (c .before .before .before .before .down-of4 .ensures)))
+    let k = c .before .before .before .before in
+    merged-only (s k .args .width) (s k .args .t3) (s k .args .t4) (s k .args .base .now)
+    (c .before .before .before .quadrant-merged .ensures ∙ ap merged (placed-0 (spotted k) .is))
+    (c .before .before .quadrant-merged2 .ensures ∙ ap merged (placed-1 (spotted k) .is))
+    (c .before .quadrant-merged3 .ensures ∙ ap merged (placed-2 (spotted k) .is))
+    (c .quadrant-merged4 .ensures ∙ ap merged (placed-3 (spotted k) .is))
 
 pub motions-merged-spec : {M : Type 1} → statement M
 motions-merged-spec =
