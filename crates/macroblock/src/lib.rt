@@ -149,67 +149,16 @@ fn quadrant_made(
     requires { ⌜ Mergeable (now base) x0 x1 y0 y1 × ((plainAt x0 x1 y0 y1 ≡ true → Alike clear)) ⌝ }
     ensures { λ r. ⌜ motionsIn r ≡ merged (filled clear (motionsIn (quadrantFrom (now (base .entry)) x0 x1 y0 y1))) ⌝ }
 {
-    let m = quadrant_read(base, x0, x1, y0, y1);
     if is_plain(x0, x1, y0, y1) {
-        return m;
+        return quadrant_read(base, x0, x1, y0, y1);
     }
     if clear[0] & clear[1] & clear[2] & clear[3] {
-        return merge(m);
+        return merge(quadrant_read(base, x0, x1, y0, y1));
     }
-    merge(fill(clear, m))
+    merge(fill(clear, quadrant_read(base, x0, x1, y0, y1)))
 }
 
-// Where no macroblock that is read is intra: nothing is to fill, and nothing to copy (`merged-only`).
-fn motions_merged(
-    base: &[i16],
-    width: usize,
-    across: [u16; 4],
-    down: [u16; 4],
-) -> [[BlockMotion; 4]; 4]
-    requires { ⌜ Readable width across down (now base) × (width ≤ 256) ⌝ }
-    ensures { λ r. ⌜ quadrantsIn r ≡ resolved 0 (gatheredBy width across down (now (base .entry))) ⌝ }
-{
-    let x0 = across_of(across[0]);
-    let x1 = across_of(across[1]);
-    let x2 = across_of(across[2]);
-    let x3 = across_of(across[3]);
-    let y0 = down_of(width, down[0]);
-    let y1 = down_of(width, down[1]);
-    let y2 = down_of(width, down[2]);
-    let y3 = down_of(width, down[3]);
-    let a = quadrant_merged(base, x0, x1, y0, y1);
-    let b = quadrant_merged(base, x2, x3, y0, y1);
-    let c = quadrant_merged(base, x0, x1, y2, y3);
-    let d = quadrant_merged(base, x2, x3, y2, y3);
-    [a, b, c, d]
-}
-
-// Where some macroblock that is read is intra.
-fn motions_filled(
-    base: &[i16],
-    width: usize,
-    across: [u16; 4],
-    down: [u16; 4],
-    set: u16,
-) -> [[BlockMotion; 4]; 4]
-    requires { ⌜ Readable width across down (now base) × (width ≤ 256) × (set ≡ setBy width across down (now base)) ⌝ }
-    ensures { λ r. ⌜ quadrantsIn r ≡ resolved set (gatheredBy width across down (now (base .entry))) ⌝ }
-{
-    let x0 = across_of(across[0]);
-    let x1 = across_of(across[1]);
-    let x2 = across_of(across[2]);
-    let x3 = across_of(across[3]);
-    let y0 = down_of(width, down[0]);
-    let y1 = down_of(width, down[1]);
-    let y2 = down_of(width, down[2]);
-    let y3 = down_of(width, down[3]);
-    let a = quadrant_made(base, x0, x1, y0, y1, clear_of(set, 0));
-    let b = quadrant_made(base, x2, x3, y0, y1, clear_of(set, 1));
-    let c = quadrant_made(base, x0, x1, y2, y3, clear_of(set, 2));
-    let d = quadrant_made(base, x2, x3, y2, y3, clear_of(set, 3));
-    copy(set, [a, b, c, d])
-}
-
+// Steps 1 to 3. With an empty set steps 1 and 3 have nothing to do (`merged-only`).
 fn motions_made(
     base: &[i16],
     width: usize,
@@ -220,10 +169,26 @@ fn motions_made(
     requires { ⌜ Readable width across down (now base) × (width ≤ 256) × (set ≡ setBy width across down (now base)) ⌝ }
     ensures { λ r. ⌜ quadrantsIn r ≡ resolved set (gatheredBy width across down (now (base .entry))) ⌝ }
 {
+    let x0 = across_of(across[0]);
+    let x1 = across_of(across[1]);
+    let x2 = across_of(across[2]);
+    let x3 = across_of(across[3]);
+    let y0 = down_of(width, down[0]);
+    let y1 = down_of(width, down[1]);
+    let y2 = down_of(width, down[2]);
+    let y3 = down_of(width, down[3]);
     if set == 0 {
-        return motions_merged(base, width, across, down);
+        let a = quadrant_merged(base, x0, x1, y0, y1);
+        let b = quadrant_merged(base, x2, x3, y0, y1);
+        let c = quadrant_merged(base, x0, x1, y2, y3);
+        let d = quadrant_merged(base, x2, x3, y2, y3);
+        return [a, b, c, d];
     }
-    motions_filled(base, width, across, down, set)
+    let a = quadrant_made(base, x0, x1, y0, y1, clear_of(set, 0));
+    let b = quadrant_made(base, x2, x3, y0, y1, clear_of(set, 1));
+    let c = quadrant_made(base, x0, x1, y2, y3, clear_of(set, 2));
+    let d = quadrant_made(base, x2, x3, y2, y3, clear_of(set, 3));
+    copy(set, [a, b, c, d])
 }
 
 // ---- Steps 1 to 5
