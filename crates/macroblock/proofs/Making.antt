@@ -11,8 +11,8 @@ use Rattle.motion.specs.declared.BlockMotion.{BlockMotion}
 use Rattle.gather.specs.declared.Corners.{Corners}
 use Rattle.macroblock.specs.declared.AxisRead.{AxisRead}
 use Rattle.macroblock.specs.declared.Fixed.{Fixed}
-use Rattle.macroblock.specs.declared.Sort.{Sort}
-use Rattle.macroblock.specs.declared.Sort.the-variants.{Inherited, Intra, Outside}
+use Rattle.common.specs.declared.counts.Sort.{Sort}
+use Rattle.common.specs.declared.counts.Sort.the-variants.{Inherited, Intra, Outside}
 use Rattle.definitions.specs.Basics.{between, four, minus, pick}
 use Rattle.definitions.specs.Blocks.{rasterOf}
 use Rattle.definitions.specs.Record.{laidOut, narrow, splitSaid}

@@ -13,6 +13,7 @@ ghost use Rattle.motion.specs.ByValue.{motionsIn, quadrantsIn};
 ghost use lib.ListN.{length};
 ghost use mathlib.Core.Bool.{_&&_, true};
 ghost use mathlib.Core.Path.{_≡_};
+use common::counts::Sort;
 use definitions::Answer;
 use definitions::Axes;
 use definitions::Axis;
@@ -123,13 +124,6 @@ pub fn axis_read(a: Axis, x: u32) -> AxisRead
 }
 
 // ---- In or out of the window
-// Which answer it is.
-pub enum Sort {
-    Inherited,
-    Intra,
-    Outside,
-}
-
 pub fn make(base: &[i16], f: Fixed, h: AxisRead, v: AxisRead, out: &mut [i16]) -> Sort
     requires { ⌜ Makeable f h v (now base) × (length (now out) ≡ recordWords) ⌝ }
     ensures sort { λ r. ⌜ r ≡ sortBy f h v (now (base .entry)) ⌝ }
