@@ -1,7 +1,7 @@
 -- What the blocks of a macroblock read, by the coordinates that its two axes give (across and down) and the base's width in macroblocks.
 use Prim.Native.Nat.{ℕ, _+_, _*_, _/_, _%_, _≤_, _<_}
 use mathlib.Core.Path.{_≡_}
-use mathlib.Core.Bool.{Bool, true}
+use mathlib.Core.Bool.{true}
 use lib.Dec.{eqb}
 use mathlib.Core.List.{List, [], _∷_}
 use lib.IntN.{ℤ, pos}
@@ -55,8 +55,7 @@ pub record Rising (x : List ℕ) : Type 0 where
   pub third : getD x 2 0 ≤ getD x 3 0
   pub near : columnOf (getD x 3 0) ≤ columnOf (getD x 0 0) + 1
 
--- Whether the macroblocks are intra that are read at the first and the last coordinate of each axis, and the set by these four: the bits of a row of four blocks are 1, 2, 4
--- and 8, and a block stands in the column of the first block, or else of the last
+-- Whether the macroblocks are intra that are read at the first and the last coordinate of each axis
 abbrev pub cornersBy : ℕ → List ℕ → List ℕ → List ℤ → Corners
 cornersBy width across down base = record {
   first = isIntra (recordRead width base (getD across 0 0) (getD down 0 0));
@@ -65,21 +64,13 @@ cornersBy width across down base = record {
   diagonal = isIntra (recordRead width base (getD across 3 0) (getD down 3 0));
 }
 
-abbrev pub bitOf : Bool → ℕ
-bitOf on = pick on 1 0
-
+-- what holds of block i along an axis: it stands in the column (row) of the first block, or else of the last; and the set of the sixteen by the corners
 abbrev pub beside : {A : Type 0} → List ℕ → ℕ → A → A → A
 beside x i near far = pick (eqb (columnOf (getD x i 0)) (columnOf (getD x 0 0))) near far
 
-unfoldable pub rowAmong : List ℕ → Bool → Bool → ℕ
-rowAmong across near far =
-    bitOf near + 2 * beside across 1 (bitOf near) (bitOf far) + 4 * beside across 2 (bitOf near) (bitOf far) + 8 * beside across 3 (bitOf near) (bitOf far)
-
 unfoldable pub setAmong : Corners → List ℕ → List ℕ → ℕ
 setAmong c across down =
-    let upper = rowAmong across (c .first) (c .right) in
-    let lower = rowAmong across (c .below) (c .diagonal) in
-    upper + 16 * beside down 1 upper lower + 256 * beside down 2 upper lower + 4096 * beside down 3 upper lower
+    setOf 16 (λ i. beside down (i / 4) (beside across (i % 4) (c .first) (c .right)) (beside across (i % 4) (c .below) (c .diagonal)))
 
 -- Places in the base. What a coordinate adds to those of a block's vectors and references, along an axis and the other
 abbrev pub acrossOf : ℕ → Spot

@@ -1,9 +1,10 @@
 // Reading by the block map: the motions that the blocks of a macroblock read, and which of the macroblocks that are read are intra.
 ghost use Prim.Native.Nat.{ℕ, _<_, _≤_};
-ghost use Rattle.definitions.specs.Basics.{eqZ};
+ghost use Rattle.definitions.specs.Basics.{eqZ, pick};
 ghost use Rattle.definitions.specs.Blocks.{quadrantOf};
+ghost use Rattle.definitions.specs.Inheriting.{setOf};
 ghost use Rattle.definitions.specs.Record.{isIntra, subTypeOf, typeOf};
-ghost use Rattle.gather.specs.Reads.{PlaceIn, PlacesIn, Readable, ReadableAt, acrossOf, addressAt, beside, bitOf, blockAt, blockFrom, cornersBy, downOf, motionRead, quadrantFrom, recordRead, rowAmong, setAmong};
+ghost use Rattle.gather.specs.Reads.{PlaceIn, PlacesIn, Readable, ReadableAt, acrossOf, addressAt, beside, blockAt, blockFrom, cornersBy, downOf, motionRead, quadrantFrom, recordRead, setAmong};
 ghost use Rattle.motion.specs.ByValue.{motionIn};
 ghost use lib.IntN.{pos};
 ghost use lib.ListN.{getD, length};
@@ -105,6 +106,7 @@ pub fn quadrant_read(
     let d = block_from(base, right, lower);
     [a, b, c, d]
 }
+
 // ---- Macroblocks
 // The macroblock that a block with coordinates x and y reads is intra; is of type 1, 16×16.
 pub fn reads_intra(base: &[i16], width: usize, x: u16, y: u16) -> bool
@@ -156,7 +158,7 @@ pub fn corners_of(base: &[i16], width: usize, across: [u16; 4], down: [u16; 4]) 
 }
 
 fn bit_of(on: bool) -> u16
-    ensures { λ r. ⌜ (r ≡ bitOf on) × (r ≤ 1) ⌝ }
+    ensures { λ r. ⌜ (r ≡ pick on 1 0) × (r ≤ 1) ⌝ }
 {
     if on { 1 } else { 0 }
 }
@@ -172,7 +174,7 @@ fn beside_of(x: [u16; 4], i: usize, near: u16, far: u16) -> u16
 
 // The bits of a row of four blocks.
 fn row_set(across: [u16; 4], near: bool, far: bool) -> u16
-    ensures { λ r. ⌜ (r ≡ rowAmong across near far) × (r ≤ 15) ⌝ }
+    ensures { λ r. ⌜ (r ≡ setOf 4 (λ i. beside across i near far)) × (r ≤ 15) ⌝ }
 {
     let n = bit_of(near);
     let f = bit_of(far);

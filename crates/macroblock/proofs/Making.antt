@@ -1,5 +1,5 @@
 -- The cases of what is made of a macroblock. Assumes nothing.
-use Prim.Native.Nat.{ℕ, _-_, _<_}
+use Prim.Native.Nat.{ℕ, _-_, _/_, _%_, _<_}
 use mathlib.Core.Path.{_≡_, refl, sym, ap, subst, _∙_}
 use mathlib.Core.Bool.{Bool, true, false, true≢false, _&&_, _||_}
 use mathlib.Core.List.{List, []}
@@ -11,8 +11,8 @@ use Rattle.motion.specs.declared.BlockMotion.{BlockMotion}
 use Rattle.gather.specs.declared.Corners.{Corners}
 use Rattle.macroblock.specs.declared.AxisRead.{AxisRead}
 use Rattle.macroblock.specs.declared.Fixed.{Fixed}
-use Rattle.macroblock.specs.declared.Sort.{Sort}
-use Rattle.macroblock.specs.declared.Sort.the-variants.{Inherited, Intra, Outside}
+use Rattle.common.specs.declared.counts.Sort.{Sort}
+use Rattle.common.specs.declared.counts.Sort.the-variants.{Inherited, Intra, Outside}
 use Rattle.definitions.specs.Basics.{between, four, minus, pick}
 use Rattle.definitions.specs.Blocks.{rasterOf}
 use Rattle.definitions.specs.Record.{laidOut, narrow, splitSaid}
@@ -21,6 +21,7 @@ use Rattle.definitions.specs.Answer.{dividedBy, withoutMotion}
 use Rattle.definitions.proofs.Choices.{both-false, four-at, no, pick-cases, yes}
 use Rattle.definitions.proofs.Promises.{split-said}
 use Rattle.definitions.proofs.Records.{raster-below}
+use Rattle.definitions.proofs.Sameness.{set-same}
 use Rattle.definitions.proofs.Steps.{Both, resolved-keeps, resolved-settled}
 use Rattle.motion.specs.ByValue.{AllWritable, InWords, Writable, motionIn, motionsIn, quadrantsIn, zeroBlock}
 use Rattle.motion.specs.declared.Scale.{Scale}
@@ -29,10 +30,11 @@ use Rattle.motion.specs.Scales.{AcceptedScale, AcceptedScales, allScaled, motio
 use Rattle.writing.proofs.Rounded.{fitting, reference-fits}
 use mir.Syntax.{w16}
 use mir.Val.{SFits}
-use Rattle.gather.specs.Reads.{Readable, ReadableAt, Rising, beside, bitOf, cornersBy, gatheredBy, motionBy, motionRead, rowAmong, setAmong}
+use Rattle.gather.specs.Reads.{Readable, ReadableAt, Rising, beside, cornersBy, gatheredBy, motionBy, motionRead, setAmong}
 use Rattle.gather.proofs.Sets.{set-corners}
 use Rattle.macroblock.specs.Made.{answerBy, answerFor, inheritedInside, motionsInside, originBy, resolvedInside, setInside, sortBy, sortInside, writtenBy, writtenInside}
 use Rattle.macroblock.proofs.Motions.{Kept, read-kept}
+use Rattle.macroblock.proofs.Single.{all-or-none}
 
 -- ---- what steps 1 to 3 leave can be written
 module _ (width : ℕ) (across down : List ℕ) (base : List ℤ) (readable : Readable width across down base) where
@@ -66,15 +68,10 @@ module _ (width : ℕ) (across down : List ℕ) (base : List ℤ) (readable : Re
         );
       }
 
--- ---- bits of which none is set
-no-bit : bitOf false ≡ 0
-unfolding pick
-no-bit = refl
-
-either : (x : List ℕ) (i n : ℕ) → beside x i n n ≡ n
-either x i n = pick-cases (λ (k : ℕ). k ≡ n) _ n n (λ t. refl) (λ t. refl)
-
 -- ---- inside
+none-beside : {t u : Bool} (x : List ℕ) (i : ℕ) → t ≡ false → u ≡ false → beside x i t u ≡ false
+none-beside x i p q = pick-cases (λ (b : Bool). b ≡ false) _ _ _ (λ t. p) (λ t. q)
+
 module _ (f : Fixed) (across down : List ℕ) (base : List ℤ) where
   -- what a function hands back and leaves in its words
   abbrev Gives : Sort → List ℤ → Type 0
@@ -101,21 +98,14 @@ module _ (f : Fixed) (across down : List ℕ) (base : List ℤ) where
     pub set-is : {set : ℕ} → set ≡ setAmong c across down → set ≡ setInside f across down base
     set-is e = e ∙ (ap (λ (k : Corners). setAmong k across down) corners ∙ set-corners (f .width) across down base a d)
 
-    clear-corners : Corners
-    clear-corners = record { first = false; right = false; below = false; diagonal = false }
-
-    none-set : setAmong clear-corners across down ≡ 0
-    unfolding clear-corners setAmong rowAmong
-    none-set = rw (no-bit, either across 1 0, either across 2 0, either across 3 0, either down 1 0, either down 2 0, either down 3 0)
-
+    -- no corner is intra, and so no block
     pub no-corner : (((c .first || c .right) || c .below) || c .diagonal) ≡ false → 0 ≡ setInside f across down base
-    unfolding clear-corners
+    unfolding setAmong pick
     no-corner e =
         let abc = both-false ((c .first || c .right) || c .below) (c .diagonal) e in
         let ab = both-false (c .first || c .right) (c .below) (abc .0) in
         let a = both-false (c .first) (c .right) (ab .0) in
-        let clear : c ≡ clear-corners = λ i. record { first = a .0 i; right = a .1 i; below = ab .1 i; diagonal = abc .1 i } in
-        set-is (sym (ap (λ (k : Corners). setAmong k across down) clear ∙ none-set))
+        set-is (sym (set-same 16 _ (λ i. false) (λ i h. none-beside down (i / 4) (none-beside across (i % 4) (a .0) (a .1)) (none-beside across (i % 4) (ab .1) (abc .1))) ∙ all-or-none false))
 
 -- ---- a motion that is scaled fits its words
 module _ (s : Scales) (m r : BlockMotion) (accepted : AcceptedScales s) (writable-m : Writable m) (is : motionIn r ≡ motionScaled s (motionIn m)) where

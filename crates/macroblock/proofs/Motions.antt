@@ -152,18 +152,42 @@ module _ (width : ℕ) (across down : List ℕ) (base : List ℤ) where
   merged-only a b c d =
       four-same (a ∙ unfilled 0 0 0 (omega arith)) (b ∙ unfilled 1 2 0 (omega arith)) (c ∙ unfilled 2 0 2 (omega arith)) (d ∙ unfilled 3 2 2 (omega arith))
 
-  module _ (readable : Readable width across down base) where
-    pub readable-0 : QuadrantReadable width base (x 0) (x 1) (y 0) (y 1)
-    readable-0 = (readable 0 (omega arith), readable 1 (omega arith), readable 4 (omega arith), readable 5 (omega arith))
+-- ---- the quadrants, at the places of the four columns and the four rows
+pub record Spotted (width : ℕ) (across down : List ℕ) (base : List ℤ) (x0 x1 x2 x3 y0 y1 y2 y3 : Spot) : Type 0 where
+  pub readable : Readable width across down base
+  pub column-0 : x0 ≡ acrossOf (getD across 0 0)
+  pub column-1 : x1 ≡ acrossOf (getD across 1 0)
+  pub column-2 : x2 ≡ acrossOf (getD across 2 0)
+  pub column-3 : x3 ≡ acrossOf (getD across 3 0)
+  pub row-0 : y0 ≡ downOf width (getD down 0 0)
+  pub row-1 : y1 ≡ downOf width (getD down 1 0)
+  pub row-2 : y2 ≡ downOf width (getD down 2 0)
+  pub row-3 : y3 ≡ downOf width (getD down 3 0)
 
-    pub readable-1 : QuadrantReadable width base (x 2) (x 3) (y 0) (y 1)
-    readable-1 = (readable 2 (omega arith), readable 3 (omega arith), readable 6 (omega arith), readable 7 (omega arith))
+-- a quadrant can be merged, and what it reads
+pub record Placed (base : List ℤ) (left right upper lower : Spot) (m : List Motion) : Type 0 where
+  pub mergeable : Mergeable base left right upper lower
+  pub is : motionsIn (quadrantFrom base left right upper lower) ≡ m
 
-    pub readable-2 : QuadrantReadable width base (x 0) (x 1) (y 2) (y 3)
-    readable-2 = (readable 8 (omega arith), readable 9 (omega arith), readable 12 (omega arith), readable 13 (omega arith))
+module _ {width : ℕ} {across down : List ℕ} {base : List ℤ} {x0 x1 x2 x3 y0 y1 y2 y3 : Spot} (all : Spotted width across down base x0 x1 x2 x3 y0 y1 y2 y3) where
+  placed : {a b c d : ℕ} {left right upper lower : Spot} → QuadrantReadable width base a b c d → left ≡ acrossOf a → right ≡ acrossOf b → upper ≡ downOf width c → lower ≡ downOf width d
+      → Placed base left right upper lower (quadrantRead width base a b c d)
+  placed {a} {b} {c} {d} r p q s t = record { mergeable = mergeable-at width base a b c d r p q s t; is = quadrant-at width base a b c d r p q s t }
 
-    pub readable-3 : QuadrantReadable width base (x 2) (x 3) (y 2) (y 3)
-    readable-3 = (readable 10 (omega arith), readable 11 (omega arith), readable 14 (omega arith), readable 15 (omega arith))
+  ready : (i : ℕ) → i < 16 → ReadableAt width base (getD across (i % 4) 0) (getD down (i / 4) 0)
+  ready = all .readable
+
+  pub placed-0 : Placed base x0 x1 y0 y1 (readFrom width across down base 0 0)
+  placed-0 = placed (ready 0 (omega arith), ready 1 (omega arith), ready 4 (omega arith), ready 5 (omega arith)) (all .column-0) (all .column-1) (all .row-0) (all .row-1)
+
+  pub placed-1 : Placed base x2 x3 y0 y1 (readFrom width across down base 2 0)
+  placed-1 = placed (ready 2 (omega arith), ready 3 (omega arith), ready 6 (omega arith), ready 7 (omega arith)) (all .column-2) (all .column-3) (all .row-0) (all .row-1)
+
+  pub placed-2 : Placed base x0 x1 y2 y3 (readFrom width across down base 0 2)
+  placed-2 = placed (ready 8 (omega arith), ready 9 (omega arith), ready 12 (omega arith), ready 13 (omega arith)) (all .column-0) (all .column-1) (all .row-2) (all .row-3)
+
+  pub placed-3 : Placed base x2 x3 y2 y3 (readFrom width across down base 2 2)
+  placed-3 = placed (ready 10 (omega arith), ready 11 (omega arith), ready 14 (omega arith), ready 15 (omega arith)) (all .column-2) (all .column-3) (all .row-2) (all .row-3)
 
 -- ---- step 1
 -- where all blocks are clear, or none is, nothing is filled
@@ -238,33 +262,34 @@ module _ (width : ℕ) (across down : List ℕ) (base : List ℤ) {set : ℕ} (i
     pub lower-same : (x : ℕ) → addressAt width x (getD down (j + 1) 0) ≡ addressAt width x (getD down j 0)
     lower-same x = same-down width x _ _ rows-same
 
-  module _ {a b c d : Spot} where
-    pub alike-0 : a ≡ acrossOf (getD across 0 0) → b ≡ acrossOf (getD across 1 0) → c ≡ downOf width (getD down 0 0) → d ≡ downOf width (getD down 1 0) → plainAt a b c d ≡ true → Alike (clearOf set 0)
+  -- in a plain quadrant all blocks are clear or none is
+  module _ {x0 x1 x2 x3 y0 y1 y2 y3 : Spot} (all : Spotted width across down base x0 x1 x2 x3 y0 y1 y2 y3) where
+    pub alike-0 : plainAt x0 x1 y0 y1 ≡ true → Alike (clearOf set 0)
     unfolding clearOf
-    alike-0 p q s t e =
-        let r = right-same 0 0 p q s t e in
-        let l = lower-same 0 0 p q s t e in
+    alike-0 e =
+        let r = right-same 0 0 (all .column-0) (all .column-1) (all .row-0) (all .row-1) e in
+        let l = lower-same 0 0 (all .column-0) (all .column-1) (all .row-0) (all .row-1) e in
         each _ refl (clear-same 1 0 (omega arith) (omega arith) (r _)) (clear-same 4 0 (omega arith) (omega arith) (l _)) (clear-same 5 0 (omega arith) (omega arith) (r _ ∙ l _))
 
-    pub alike-1 : a ≡ acrossOf (getD across 2 0) → b ≡ acrossOf (getD across 3 0) → c ≡ downOf width (getD down 0 0) → d ≡ downOf width (getD down 1 0) → plainAt a b c d ≡ true → Alike (clearOf set 1)
+    pub alike-1 : plainAt x2 x3 y0 y1 ≡ true → Alike (clearOf set 1)
     unfolding clearOf
-    alike-1 p q s t e =
-        let r = right-same 2 0 p q s t e in
-        let l = lower-same 2 0 p q s t e in
+    alike-1 e =
+        let r = right-same 2 0 (all .column-2) (all .column-3) (all .row-0) (all .row-1) e in
+        let l = lower-same 2 0 (all .column-2) (all .column-3) (all .row-0) (all .row-1) e in
         each _ refl (clear-same 3 2 (omega arith) (omega arith) (r _)) (clear-same 6 2 (omega arith) (omega arith) (l _)) (clear-same 7 2 (omega arith) (omega arith) (r _ ∙ l _))
 
-    pub alike-2 : a ≡ acrossOf (getD across 0 0) → b ≡ acrossOf (getD across 1 0) → c ≡ downOf width (getD down 2 0) → d ≡ downOf width (getD down 3 0) → plainAt a b c d ≡ true → Alike (clearOf set 2)
+    pub alike-2 : plainAt x0 x1 y2 y3 ≡ true → Alike (clearOf set 2)
     unfolding clearOf
-    alike-2 p q s t e =
-        let r = right-same 0 2 p q s t e in
-        let l = lower-same 0 2 p q s t e in
+    alike-2 e =
+        let r = right-same 0 2 (all .column-0) (all .column-1) (all .row-2) (all .row-3) e in
+        let l = lower-same 0 2 (all .column-0) (all .column-1) (all .row-2) (all .row-3) e in
         each _ refl (clear-same 9 8 (omega arith) (omega arith) (r _)) (clear-same 12 8 (omega arith) (omega arith) (l _)) (clear-same 13 8 (omega arith) (omega arith) (r _ ∙ l _))
 
-    pub alike-3 : a ≡ acrossOf (getD across 2 0) → b ≡ acrossOf (getD across 3 0) → c ≡ downOf width (getD down 2 0) → d ≡ downOf width (getD down 3 0) → plainAt a b c d ≡ true → Alike (clearOf set 3)
+    pub alike-3 : plainAt x2 x3 y2 y3 ≡ true → Alike (clearOf set 3)
     unfolding clearOf
-    alike-3 p q s t e =
-        let r = right-same 2 2 p q s t e in
-        let l = lower-same 2 2 p q s t e in
+    alike-3 e =
+        let r = right-same 2 2 (all .column-2) (all .column-3) (all .row-2) (all .row-3) e in
+        let l = lower-same 2 2 (all .column-2) (all .column-3) (all .row-2) (all .row-3) e in
         each _ refl (clear-same 11 10 (omega arith) (omega arith) (r _)) (clear-same 14 10 (omega arith) (omega arith) (l _)) (clear-same 15 10 (omega arith) (omega arith) (r _ ∙ l _))
 
   pub made-of-quadrants : {a b c d : List Motion} {m : List (List Motion)} → a ≡ merged (filled (clearOf set 0) (readFrom width across down base 0 0))

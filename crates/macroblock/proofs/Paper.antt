@@ -5,25 +5,25 @@ use mathlib.Core.Bool.{Bool, true, false, and-false, _&&_}
 use mathlib.Core.List.{List, []}
 use lib.IntN.{ℤ}
 use Rattle.definitions.specs.declared.Axes.{Axes}
-use Rattle.definitions.specs.declared.Answer.{Answer}
 use Rattle.definitions.specs.declared.Answer.the-variants.{Inherited, Intra, Outside}
 use Rattle.definitions.specs.declared.Motion.{Motion}
 use Rattle.definitions.specs.declared.Origin.{Origin}
 use Rattle.macroblock.specs.declared.AxisRead.{AxisRead}
 use Rattle.macroblock.specs.declared.Fixed.{Fixed}
-use Rattle.macroblock.specs.declared.Sort.{Sort}
-use Rattle.macroblock.specs.declared.Sort.the-variants.{Inherited as SortInherited, Intra as SortIntra, Outside as SortOutside}
+use Rattle.common.specs.declared.counts.Sort.{Sort}
+use Rattle.common.specs.declared.counts.Sort.the-variants.{Inherited as SortInherited, Intra as SortIntra, Outside as SortOutside}
 use Rattle.definitions.specs.Basics.{pick}
 use Rattle.definitions.specs.Geometry.{insideAxis, inside, sampleOf}
 use Rattle.definitions.specs.BlockMap.{stepOf, addressRead, blockRead}
 use Rattle.definitions.specs.Inheriting.{chosen, gathered, inheritedMotions, intraSet, mostlyIntra, motionAt}
 use Rattle.definitions.specs.Record.{laidOut}
 use Rattle.definitions.specs.Answer.{Made, answerOf, dividedBy, madeOf, originAt, withoutMotion, writtenFor}
+use Rattle.common.specs.Sorts.{sortOf}
 use Rattle.definitions.proofs.Choices.{yes, no, and-intro}
 use Rattle.definitions.proofs.Answers.{made-outside}
 use Rattle.motion.proofs.ByScales.{all-by-scales}
 use Rattle.gather.specs.Reads.{motionRead, setBy, gatheredBy}
-use Rattle.macroblock.specs.Made.{answerBy, answerFor, fixedOf, inheritedInside, madeBy, motionsInside, nowhere, originBy, readIn, readOf, resolvedInside, setInside, sortBy, sortInside, sortOf, writtenBy, writtenInside}
+use Rattle.macroblock.specs.Made.{answerBy, answerFor, fixedOf, inheritedInside, madeBy, motionsInside, nowhere, originBy, readIn, readOf, resolvedInside, setInside, sortBy, sortInside, writtenBy, writtenInside}
 
 -- an answer and its record, where it is intra (u) or inherits
 inside-answer : (u : Bool) (o : Origin) (m : List (List Motion)) → pick u (Intra o) (Inherited o (chosen m)) ≡ answerFor (pick u SortIntra SortInherited) o m

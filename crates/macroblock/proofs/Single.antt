@@ -3,7 +3,7 @@ use Prim.Native.Nat.{ℕ, _+_, _*_, _/_, _%_, _≤_, _<_}
 use native.Mathlib.Nat.{div-mul-le-self, le-div-iff-mul-le, le-trans}
 use mathlib.Core.Path.{_≡_, refl, sym, ap, _∙_}
 use mathlib.Core.Bool.{Bool, true, false, _&&_, _||_}
-use mathlib.Core.List.{List, []}
+use mathlib.Core.List.{List, [], _∷_}
 use mathlib.Core.Logic.{⊎-elim}
 use native.Mathlib.Omega.{arith}
 use lib.IntN.{ℤ, pos}
@@ -14,7 +14,7 @@ use Rattle.definitions.specs.declared.Motion.{Motion}
 use Rattle.definitions.specs.declared.Split.the-variants.{S16x16}
 use Rattle.definitions.specs.Basics.{pick, eqZ, four, upTo}
 use Rattle.definitions.specs.Record.{allOne, recordAt, isIntra, typeOf, subTypeOf, motionOf, laidOut}
-use Rattle.definitions.specs.Inheriting.{zeroMotion, setOf, mostlyIntra, clearOf, filled, merged, copied, copiedFrom, liveOf, someOf, resolved, motionAt, chosen}
+use Rattle.definitions.specs.Inheriting.{zeroMotion, setOf, mostlyIntra, merged, resolved, motionAt, chosen}
 use Rattle.definitions.specs.Answer.{dividedBy}
 use Rattle.definitions.specs.Blocks.{quadrantOf}
 use Rattle.definitions.proofs.Choices.{both-true, either-true, each, four-same, yes, no}
@@ -23,12 +23,12 @@ use Rattle.definitions.proofs.Motions.{motion-same}
 use Rattle.records.proofs.Undivided.{whole, undivided}
 use Rattle.definitions.proofs.Sameness.{set-same}
 use Rattle.definitions.proofs.Shapes.{samePairs, shapeOf, quadrantShape, shapesOf, splitOf, allWhole}
-use Rattle.definitions.proofs.Steps.{filled-leaves, settled-merged}
+use Rattle.definitions.proofs.Steps.{settled-merged}
 use Rattle.gather.specs.Reads.{ReadableAt, Rising, blockAt, recordRead, motionRead, readBy, motionBy, setBy, gatheredBy}
 use Rattle.macroblock.specs.declared.Fixed.{Fixed}
 use Rattle.macroblock.specs.Made.{Ready, inheritedInside, motionsInside, onePart, resolvedInside}
 use Rattle.motion.specs.Scales.{allScaled, motionScaled}
-use Rattle.macroblock.proofs.Motions.{read-empty}
+use Rattle.macroblock.proofs.Motions.{merged-only, read-empty}
 
 div-rises : (d a b : ℕ) → 0 < d → a ≤ b → a / d ≤ b / d
 div-rises d a b p h = le-div-iff-mul-le p .1 (le-trans (div-mul-le-self a d) h)
@@ -51,16 +51,10 @@ same-quadrant : (u w x y : ℕ) → u / 2 ≡ x / 2 → w / 2 ≡ y / 2 → quad
 same-quadrant u w x y p q = quadrant-is u w ∙ ((λ i. 2 * half-is w y q i + half-is u x p i) ∙ sym (quadrant-is x y))
 
 -- a set of all sixteen, and of none
-all-or-none : (t : Bool) → setOf 16 (λ i. t) ≡ pick t 65535 0
+pub all-or-none : (t : Bool) → setOf 16 (λ i. t) ≡ pick t 65535 0
 unfolding setOf pick
 all-or-none true = refl
 all-or-none false = refl
-
--- in the empty set no block is marked
-none-marked : (q : ℕ) → q < 4 → (k : ℕ) → k < 4 → getD (clearOf 0 q) k false ≡ true
-unfolding clearOf
-none-marked =
-    each (λ q. (k : ℕ) → k < 4 → getD (clearOf 0 q) k false ≡ true) (each _ refl refl refl refl) (each _ refl refl refl refl) (each _ refl refl refl refl) (each _ refl refl refl refl)
 
 -- sixteen blocks of one motion are one piece
 uniform : (m : Motion) → splitOf (four (λ q. four (λ k. m))) ≡ S16x16
@@ -155,16 +149,6 @@ module _ (f : Fixed) (across down : List ℕ) (base : List ℤ) (ready : Ready f
       abbrev quadrant : List Motion
       quadrant = four (λ k. n)
 
-      gathered-is : gatheredBy width across down base ≡ four (λ q. quadrant)
-      unfolding gatheredBy
-      gathered-is =
-          let e : (i : ℕ) → i < 16 → motionBy width across down base i ≡ n = all in
-          four-same
-          (four-same (e 0 (omega arith)) (e 1 (omega arith)) (e 4 (omega arith)) (e 5 (omega arith)))
-          (four-same (e 2 (omega arith)) (e 3 (omega arith)) (e 6 (omega arith)) (e 7 (omega arith)))
-          (four-same (e 8 (omega arith)) (e 9 (omega arith)) (e 12 (omega arith)) (e 13 (omega arith)))
-          (four-same (e 10 (omega arith)) (e 11 (omega arith)) (e 14 (omega arith)) (e 15 (omega arith)))
-
       settled : merged quadrant ≡ quadrant
       settled =
           let empty = read-empty width base x y first-readable in
@@ -175,15 +159,19 @@ module _ (f : Fixed) (across down : List ℕ) (base : List ℤ) (ready : Ready f
             zero1 = each _ (empty .1) (empty .1) (empty .1) (empty .1);
           })
 
-      unchanged : (q : ℕ) → q < 4 → merged (filled (clearOf 0 q) quadrant) ≡ quadrant
-      unchanged q l = ap merged (filled-leaves (clearOf 0 q) quadrant (none-marked q l)) ∙ settled
+      -- four blocks of it, merged
+      unchanged : {a b c d : Motion} → a ≡ n → b ≡ n → c ≡ n → d ≡ n → quadrant ≡ merged (a ∷ b ∷ c ∷ d ∷ [])
+      unchanged p q s t = sym (ap merged (four-same p q s t) ∙ settled)
 
       resolved-is : resolvedInside f across down base ≡ four (λ q. quadrant)
-      unfolding resolvedInside resolved copied copiedFrom liveOf someOf clearOf pick
+      unfolding resolvedInside
       resolved-is =
           ap (λ (s : ℕ). resolved s (gatheredBy width across down base)) (sym (set-none not-intra))
-          ∙ (ap (resolved 0) gathered-is
-          ∙ four-same (unchanged 0 (omega arith)) (unchanged 1 (omega arith)) (unchanged 2 (omega arith)) (unchanged 3 (omega arith)))
+          ∙ sym (merged-only width across down base
+          (unchanged (all 0 (omega arith)) (all 1 (omega arith)) (all 4 (omega arith)) (all 5 (omega arith)))
+          (unchanged (all 2 (omega arith)) (all 3 (omega arith)) (all 6 (omega arith)) (all 7 (omega arith)))
+          (unchanged (all 8 (omega arith)) (all 9 (omega arith)) (all 12 (omega arith)) (all 13 (omega arith)))
+          (unchanged (all 10 (omega arith)) (all 11 (omega arith)) (all 14 (omega arith)) (all 15 (omega arith))))
 
       whole-motions : motionsInside f across down base ≡ four (λ q. four (λ k. motionScaled (f .scales) n))
       unfolding motionsInside allScaled

@@ -16,8 +16,8 @@ use Rattle.definitions.specs.declared.Answer.{Answer}
 use Rattle.definitions.specs.declared.Answer.the-variants.{Outside, Intra, Inherited}
 use Rattle.macroblock.specs.declared.AxisRead.{AxisRead}
 use Rattle.macroblock.specs.declared.Fixed.{Fixed}
-use Rattle.macroblock.specs.declared.Sort.{Sort}
-use Rattle.macroblock.specs.declared.Sort.the-variants.{Inherited as SortInherited, Intra as SortIntra, Outside as SortOutside}
+use Rattle.common.specs.declared.counts.Sort.{Sort}
+use Rattle.common.specs.declared.counts.Sort.the-variants.{Inherited as SortInherited, Intra as SortIntra, Outside as SortOutside}
 use Rattle.definitions.specs.Basics.{pick}
 use Rattle.definitions.specs.Geometry.{baseSize, classOf, macroblocks, insideAxis, sampleOf}
 use Rattle.definitions.specs.BlockMap.{stepOf}
@@ -89,11 +89,6 @@ abbrev pub answerFor : Sort → Origin → List (List Motion) → Answer
 answerFor SortOutside o m = Outside
 answerFor SortIntra o m = Intra o
 answerFor SortInherited o m = Inherited o (chosen m)
-
-abbrev pub sortOf : Answer → Sort
-sortOf Outside = SortOutside
-sortOf (Intra o) = SortIntra
-sortOf (Inherited o s) = SortInherited
 
 unfoldable pub answerBy : Fixed → AxisRead → AxisRead → List ℤ → Answer
 answerBy f h v base = answerFor (sortBy f h v base) (originBy h v) (motionsInside f (h .reads) (v .reads) base)

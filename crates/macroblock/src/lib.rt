@@ -1,9 +1,10 @@
 // What is made of one macroblock, on a geometry and records that were checked: the calls share it.
-// It is read (crate gather), made by value (steps 1 to 3 of "Inheriting": `fill`, `merge`, `copy`), and scaled and split as it is written (steps 4 and 5: `write_made`).
+// As document 01 has it: in or out of the window; inside, first the intra set and its count of nine (`corners_of`, `set_of`, `mostly_intra`), then steps 1 to 3 of "Inheriting"
+// on motions by value (`fill`, `merge`, `copy`), and steps 4 and 5 as the record is written (`write_made`).
 // Where something goes round a step, its comment names the law that allows it.
 ghost use Prim.Native.Nat.{_<_, _≤_};
 ghost use Rattle.definitions.specs.Accepted.{AcceptedAxes, AcceptedAxis};
-ghost use Rattle.definitions.specs.Inheriting.{clearOf, filled, merged, resolved};
+ghost use Rattle.definitions.specs.Inheriting.{filled, merged, resolved};
 ghost use Rattle.definitions.specs.Record.{recordWords, splitSaid, subSplitOf};
 ghost use Rattle.gather.specs.Reads.{Readable, gatheredBy, quadrantFrom, setBy};
 ghost use Rattle.macroblock.specs.Made.{Makeable, Ready, Small, answerBy, fixedOf, inheritedInside, nowhere, onePart, originBy, readIn, readOf, setInside, sortBy, sortInside, writtenBy, writtenInside};
@@ -12,6 +13,7 @@ ghost use Rattle.motion.specs.ByValue.{motionsIn, quadrantsIn};
 ghost use lib.ListN.{length};
 ghost use mathlib.Core.Bool.{_&&_, true};
 ghost use mathlib.Core.Path.{_≡_};
+use common::counts::Sort;
 use definitions::Answer;
 use definitions::Axes;
 use definitions::Axis;
@@ -43,6 +45,9 @@ use quadrant::fill;
 use quadrant::merge;
 use records::layout::INTRA;
 use records::layout::OUTSIDE;
+use records::layout::SUB_TYPES;
+use records::layout::TYPE;
+use records::layout::WHOLE;
 use records::write::write_one;
 use records::write::write_unused;
 use writing::scaled;
@@ -94,7 +99,7 @@ fn read_in(s: AxisStep) -> AxisRead
     }
 }
 
-// An axis outside: 65,535 is no column.
+// An axis outside: 65,535 is no column. (The answer outside holds none; why not 0: docs/DECISIONS.md.)
 pub fn read_nowhere() -> AxisRead
     ensures { λ r. ⌜ r ≡ nowhere ⌝ }
 {
@@ -118,165 +123,41 @@ pub fn axis_read(a: Axis, x: u32) -> AxisRead
     read_nowhere()
 }
 
-// ---- Steps 1 to 3
-// The four blocks of a quadrant read one quadrant of a base macroblock: their references stand in one place.
-fn is_plain(x0: Spot, x1: Spot, y0: Spot, y1: Spot) -> bool
-    ensures { λ r. ⌜ r ≡ plainAt x0 x1 y0 y1 ⌝ }
+// ---- In or out of the window
+pub fn make(base: &[i16], f: Fixed, h: AxisRead, v: AxisRead, out: &mut [i16]) -> Sort
+    requires { ⌜ Makeable f h v (now base) × (length (now out) ≡ recordWords) ⌝ }
+    ensures sort { λ r. ⌜ r ≡ sortBy f h v (now (base .entry)) ⌝ }
+    ensures written { λ r. ⌜ now (out .exit) ≡ writtenBy f h v (now (base .entry)) ⌝ }
 {
-    (x0.references == x1.references) & (y0.references == y1.references)
-}
-
-// Step 2 of a quadrant, at two columns and two rows. A plain one has one reference in each list: nothing is to merge (`settled-merged`), and it is read as it stands.
-fn quadrant_merged(base: &[i16], x0: Spot, x1: Spot, y0: Spot, y1: Spot) -> [BlockMotion; 4]
-    requires { ⌜ Mergeable (now base) x0 x1 y0 y1 ⌝ }
-    ensures { λ r. ⌜ motionsIn r ≡ merged (motionsIn (quadrantFrom (now (base .entry)) x0 x1 y0 y1)) ⌝ }
-{
-    if is_plain(x0, x1, y0, y1) {
-        return quadrant_read(base, x0, x1, y0, y1);
+    if h.inside & v.inside {
+        let across = h.reads;
+        let down = v.reads;
+        if is_one(across) & is_one(down) {
+            return make_of_one(base, f, across, down, out);
+        }
+        return make_of_more(base, f, across, down, out);
     }
-    merge(quadrant_read(base, x0, x1, y0, y1))
+    write_unused(out, OUTSIDE);
+    Sort::Outside
 }
 
-// A quadrant of the macroblock, and the set of the blocks that read intra macroblocks.
-struct Quadrant {
-    set: u16,
-    q: usize,
-}
-
-// Steps 1 and 2 of a quadrant. Of a plain one all blocks are intra or none is, and nothing is to fill (`filled-alike`) or to merge; nor is where none is intra (`filled-leaves`).
-fn quadrant_made(
-    base: &[i16],
-    x0: Spot,
-    x1: Spot,
-    y0: Spot,
-    y1: Spot,
-    of: Quadrant,
-) -> [BlockMotion; 4]
-    requires { ⌜ (of .q < 4) × Mergeable (now base) x0 x1 y0 y1 × ((plainAt x0 x1 y0 y1 ≡ true → Alike (clearOf (of .set) (of .q)))) ⌝ }
-    ensures { λ r. ⌜ motionsIn r ≡ merged (filled (clearOf (of .set) (of .q)) (motionsIn (quadrantFrom (now (base .entry)) x0 x1 y0 y1))) ⌝ }
-{
-    let m = quadrant_read(base, x0, x1, y0, y1);
-    if is_plain(x0, x1, y0, y1) {
-        return m;
-    }
-    let clear = clear_of(of.set, of.q);
-    if clear[0] & clear[1] & clear[2] & clear[3] {
-        return merge(m);
-    }
-    merge(fill(clear, m))
-}
-
-// Where no macroblock that is read is intra: nothing is to fill, and nothing to copy (`merged-only`).
-fn motions_merged(
-    base: &[i16],
-    width: usize,
-    across: [u16; 4],
-    down: [u16; 4],
-) -> [[BlockMotion; 4]; 4]
-    requires { ⌜ Readable width across down (now base) × (width ≤ 256) ⌝ }
-    ensures { λ r. ⌜ quadrantsIn r ≡ resolved 0 (gatheredBy width across down (now (base .entry))) ⌝ }
-{
-    let x0 = across_of(across[0]);
-    let x1 = across_of(across[1]);
-    let x2 = across_of(across[2]);
-    let x3 = across_of(across[3]);
-    let y0 = down_of(width, down[0]);
-    let y1 = down_of(width, down[1]);
-    let y2 = down_of(width, down[2]);
-    let y3 = down_of(width, down[3]);
-    let a = quadrant_merged(base, x0, x1, y0, y1);
-    let b = quadrant_merged(base, x2, x3, y0, y1);
-    let c = quadrant_merged(base, x0, x1, y2, y3);
-    let d = quadrant_merged(base, x2, x3, y2, y3);
-    [a, b, c, d]
-}
-
-// Where some macroblock that is read is intra.
-fn motions_filled(
-    base: &[i16],
-    width: usize,
-    across: [u16; 4],
-    down: [u16; 4],
-    set: u16,
-) -> [[BlockMotion; 4]; 4]
-    requires { ⌜ Readable width across down (now base) × (width ≤ 256) × (set ≡ setBy width across down (now base)) ⌝ }
-    ensures { λ r. ⌜ quadrantsIn r ≡ resolved set (gatheredBy width across down (now (base .entry))) ⌝ }
-{
-    let x0 = across_of(across[0]);
-    let x1 = across_of(across[1]);
-    let x2 = across_of(across[2]);
-    let x3 = across_of(across[3]);
-    let y0 = down_of(width, down[0]);
-    let y1 = down_of(width, down[1]);
-    let y2 = down_of(width, down[2]);
-    let y3 = down_of(width, down[3]);
-    let a = quadrant_made(base, x0, x1, y0, y1, Quadrant { set, q: 0 });
-    let b = quadrant_made(base, x2, x3, y0, y1, Quadrant { set, q: 1 });
-    let c = quadrant_made(base, x0, x1, y2, y3, Quadrant { set, q: 2 });
-    let d = quadrant_made(base, x2, x3, y2, y3, Quadrant { set, q: 3 });
-    copy(set, [a, b, c, d])
-}
-
-fn motions_made(
-    base: &[i16],
-    width: usize,
-    across: [u16; 4],
-    down: [u16; 4],
-    set: u16,
-) -> [[BlockMotion; 4]; 4]
-    requires { ⌜ Readable width across down (now base) × (width ≤ 256) × (set ≡ setBy width across down (now base)) ⌝ }
-    ensures { λ r. ⌜ quadrantsIn r ≡ resolved set (gatheredBy width across down (now (base .entry))) ⌝ }
-{
-    if set == 0 {
-        return motions_merged(base, width, across, down);
-    }
-    motions_filled(base, width, across, down, set)
-}
-
-// ---- Steps 1 to 5
-// Read and made by value, and scaled and split as it is written.
-fn make_inherited(
-    base: &[i16],
-    f: Fixed,
-    across: [u16; 4],
-    down: [u16; 4],
-    set: u16,
-    out: &mut [i16],
-)
-    requires { ⌜ Ready f across down (now base) × (set ≡ setInside f across down (now base)) × (length (now out) ≡ recordWords) ⌝ }
-    ensures { λ _. ⌜ now (out .exit) ≡ inheritedInside f across down (now (base .entry)) ⌝ }
-{
-    write_made(
-        out,
-        f.scales,
-        motions_made(base, f.width, across, down, set),
-    );
-}
-
-// ---- Inside
-// Which answer it is.
-pub enum Sort {
-    Inherited,
-    Intra,
-    Outside,
-}
-
-// All four coordinates lie in one column (row): the first and the last do.
+// ---- Inside: the intra set, and its count
+// All four coordinates lie in one column (row): the first and the last do, and coordinates rise (`one-part`).
 fn is_one(reads: [u16; 4]) -> bool
     ensures { λ r. ⌜ r ≡ onePart 4 reads ⌝ }
 {
     reads[3] / 4 == reads[0] / 4
 }
 
-// All four coordinates lie in one half of a column (row).
+// The same of one half of a column (row).
 fn is_half(reads: [u16; 4]) -> bool
     ensures { λ r. ⌜ r ≡ onePart 2 reads ⌝ }
 {
     reads[3] / 2 == reads[0] / 2
 }
 
-// Where one macroblock is read. If it is intra, all blocks are (`set-all`). If it is 16×16, or one quadrant of it is read that is not divided, all blocks have one motion,
-// which no step but the fourth changes, and the split is 16×16 (`whole-written`).
+// Where one macroblock is read. If it is intra, all blocks are (`set-all`), else the set is empty (`set-none`). If it is 16×16, or one quadrant of it is read that is not
+// divided, all blocks have one motion (`one-read`), which no step but the fourth changes, and the split is 16×16 (`whole-written`).
 fn make_of_one(base: &[i16], f: Fixed, across: [u16; 4], down: [u16; 4], out: &mut [i16]) -> Sort
     requires { ⌜ Ready f across down (now base) × ((onePart 4 across && onePart 4 down) ≡ true) × (length (now out) ≡ recordWords) ⌝ }
     ensures sort { λ r. ⌜ r ≡ sortInside f across down (now (base .entry)) ⌝ }
@@ -291,7 +172,7 @@ fn make_of_one(base: &[i16], f: Fixed, across: [u16; 4], down: [u16; 4], out: &m
     }
     let quarter = is_half(across) & is_half(down);
     if reads_whole(base, width, x, y) | (quarter & reads_single(base, width, x, y)) {
-        write_one(out, 1, scaled(f.scales, block_read(base, width, x, y)));
+        write_one(out, WHOLE, scaled(f.scales, block_read(base, width, x, y)));
         return Sort::Inherited;
     }
     make_inherited(base, f, across, down, 0, out);
@@ -314,26 +195,102 @@ fn make_of_more(base: &[i16], f: Fixed, across: [u16; 4], down: [u16; 4], out: &
         make_inherited(base, f, across, down, set, out);
         return Sort::Inherited;
     }
+    // None is intra: the set is empty (`no-corner`).
     make_inherited(base, f, across, down, 0, out);
     Sort::Inherited
 }
 
-// ---- In or out of the window
-pub fn make(base: &[i16], f: Fixed, h: AxisRead, v: AxisRead, out: &mut [i16]) -> Sort
-    requires { ⌜ Makeable f h v (now base) × (length (now out) ≡ recordWords) ⌝ }
-    ensures sort { λ r. ⌜ r ≡ sortBy f h v (now (base .entry)) ⌝ }
-    ensures written { λ r. ⌜ now (out .exit) ≡ writtenBy f h v (now (base .entry)) ⌝ }
+// ---- Steps 1 to 5
+// Made by value, and scaled and split as it is written.
+fn make_inherited(
+    base: &[i16],
+    f: Fixed,
+    across: [u16; 4],
+    down: [u16; 4],
+    set: u16,
+    out: &mut [i16],
+)
+    requires { ⌜ Ready f across down (now base) × (set ≡ setInside f across down (now base)) × (length (now out) ≡ recordWords) ⌝ }
+    ensures { λ _. ⌜ now (out .exit) ≡ inheritedInside f across down (now (base .entry)) ⌝ }
 {
-    if h.inside & v.inside {
-        let across = h.reads;
-        let down = v.reads;
-        if is_one(across) & is_one(down) {
-            return make_of_one(base, f, across, down, out);
-        }
-        return make_of_more(base, f, across, down, out);
+    write_made(
+        out,
+        f.scales,
+        motions_made(base, f.width, across, down, set),
+    );
+}
+
+// Steps 1 to 3. With an empty set steps 1 and 3 have nothing to do (`merged-only`).
+fn motions_made(
+    base: &[i16],
+    width: usize,
+    across: [u16; 4],
+    down: [u16; 4],
+    set: u16,
+) -> [[BlockMotion; 4]; 4]
+    requires { ⌜ Readable width across down (now base) × (width ≤ 256) × (set ≡ setBy width across down (now base)) ⌝ }
+    ensures { λ r. ⌜ quadrantsIn r ≡ resolved set (gatheredBy width across down (now (base .entry))) ⌝ }
+{
+    let x0 = across_of(across[0]);
+    let x1 = across_of(across[1]);
+    let x2 = across_of(across[2]);
+    let x3 = across_of(across[3]);
+    let y0 = down_of(width, down[0]);
+    let y1 = down_of(width, down[1]);
+    let y2 = down_of(width, down[2]);
+    let y3 = down_of(width, down[3]);
+    if set == 0 {
+        let a = quadrant_merged(base, x0, x1, y0, y1);
+        let b = quadrant_merged(base, x2, x3, y0, y1);
+        let c = quadrant_merged(base, x0, x1, y2, y3);
+        let d = quadrant_merged(base, x2, x3, y2, y3);
+        return [a, b, c, d];
     }
-    write_unused(out, OUTSIDE);
-    Sort::Outside
+    let a = quadrant_made(base, x0, x1, y0, y1, clear_of(set, 0));
+    let b = quadrant_made(base, x2, x3, y0, y1, clear_of(set, 1));
+    let c = quadrant_made(base, x0, x1, y2, y3, clear_of(set, 2));
+    let d = quadrant_made(base, x2, x3, y2, y3, clear_of(set, 3));
+    copy(set, [a, b, c, d])
+}
+
+// The four blocks of a quadrant read one quadrant of a base macroblock: their references stand in one place.
+fn is_plain(x0: Spot, x1: Spot, y0: Spot, y1: Spot) -> bool
+    ensures { λ r. ⌜ r ≡ plainAt x0 x1 y0 y1 ⌝ }
+{
+    (x0.references == x1.references) & (y0.references == y1.references)
+}
+
+// Step 2 of a quadrant, at two columns and two rows. A plain one has one reference in each list: nothing is to merge (`settled-merged`), and it is read as it stands.
+fn quadrant_merged(base: &[i16], x0: Spot, x1: Spot, y0: Spot, y1: Spot) -> [BlockMotion; 4]
+    requires { ⌜ Mergeable (now base) x0 x1 y0 y1 ⌝ }
+    ensures { λ r. ⌜ motionsIn r ≡ merged (motionsIn (quadrantFrom (now (base .entry)) x0 x1 y0 y1)) ⌝ }
+{
+    if is_plain(x0, x1, y0, y1) {
+        return quadrant_read(base, x0, x1, y0, y1);
+    }
+    merge(quadrant_read(base, x0, x1, y0, y1))
+}
+
+// Steps 1 and 2 of a quadrant. A plain one's blocks are all intra or none is: nothing is to fill (`filled-alike`) or to merge (`settled-merged`). Where no block is intra,
+// nothing is to fill (`filled-leaves`).
+fn quadrant_made(
+    base: &[i16],
+    x0: Spot,
+    x1: Spot,
+    y0: Spot,
+    y1: Spot,
+    clear: [bool; 4],
+) -> [BlockMotion; 4]
+    requires { ⌜ Mergeable (now base) x0 x1 y0 y1 × ((plainAt x0 x1 y0 y1 ≡ true → Alike clear)) ⌝ }
+    ensures { λ r. ⌜ motionsIn r ≡ merged (filled clear (motionsIn (quadrantFrom (now (base .entry)) x0 x1 y0 y1))) ⌝ }
+{
+    if is_plain(x0, x1, y0, y1) {
+        return quadrant_read(base, x0, x1, y0, y1);
+    }
+    if clear[0] & clear[1] & clear[2] & clear[3] {
+        return merge(quadrant_read(base, x0, x1, y0, y1));
+    }
+    merge(fill(clear, quadrant_read(base, x0, x1, y0, y1)))
 }
 
 // ---- The answer
@@ -367,7 +324,7 @@ fn split_said(out: &[i16]) -> Split
     requires { ⌜ length (now out) ≡ recordWords ⌝ }
     ensures { λ r. ⌜ r ≡ splitSaid (now (out .entry)) ⌝ }
 {
-    let kind = out[0];
+    let kind = out[TYPE];
     if kind == 1 {
         return Split::S16x16;
     }
@@ -377,10 +334,10 @@ fn split_said(out: &[i16]) -> Split
     if kind == 3 {
         return Split::S8x16;
     }
-    let a = sub_split_of(out[1]);
-    let b = sub_split_of(out[2]);
-    let c = sub_split_of(out[3]);
-    let d = sub_split_of(out[4]);
+    let a = sub_split_of(out[SUB_TYPES]);
+    let b = sub_split_of(out[SUB_TYPES + 1]);
+    let c = sub_split_of(out[SUB_TYPES + 2]);
+    let d = sub_split_of(out[SUB_TYPES + 3]);
     Split::S8x8(SubSplits { a, b, c, d })
 }
 

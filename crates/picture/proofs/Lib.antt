@@ -1,4 +1,3 @@
 pub mod Filling
 pub mod Stages
 pub mod Promises
-mod Sorting

@@ -1,13 +1,12 @@
 // The picture call of document 01: all base records are checked, then every macroblock is made in raster order.
 ghost use Prim.Native.Nat.{_*_, _+_, _<_};
-ghost use Rattle.definitions.specs.declared.Answer.{Answer};
 ghost use Rattle.definitions.specs.Accepted.{AcceptedAxes, AcceptedAxis};
-ghost use Rattle.definitions.specs.Calls.{counted, countsOf, madeAt, pictureCall, sumOf};
+ghost use Rattle.definitions.specs.Calls.{countsOf, madeAt, pictureCall};
 ghost use Rattle.definitions.specs.Record.{recordWords, narrow};
 ghost use Rattle.definitions.specs.Basics.{forEach, upTo};
 ghost use Rattle.definitions.specs.Geometry.{fullSize, macroblocks};
 ghost use Rattle.definitions.specs.Raster.{fullCount};
-ghost use Rattle.macroblock.specs.Made.{readOf, sortOf};
+ghost use Rattle.macroblock.specs.Made.{readOf};
 ghost use Rattle.picture.specs.Reads.{AxisReads};
 ghost use Rattle.common.specs.Bases.{BaseFormed};
 ghost use Rattle.picture.specs.Promised.{PicturePromised, SinglyCounted};
@@ -15,6 +14,7 @@ ghost use Rattle.picture.specs.Staged.{axesPicture};
 ghost use lib.ListN.{length};
 ghost use mathlib.Core.Path.{_≡_};
 use common::counts::NO_COUNTS;
+use common::counts::count_sort;
 use common::raster::base_count;
 use common::raster::full_count;
 use common::refusals;
@@ -31,7 +31,6 @@ use definitions::Verdict;
 use geometry::Checked;
 use geometry::Geometry;
 use macroblock::AxisRead;
-use macroblock::Sort;
 use macroblock::axis_read;
 use macroblock::fixed_of;
 use macroblock::make;
@@ -85,30 +84,6 @@ fn row_read(a: Axis, p: Position, kept: AxisRead) -> AxisRead
         return axis_read(a, p.row);
     }
     kept
-}
-
-// One more of an answer's sort.
-fn count_sort(c: Counts, s: Sort) -> Counts
-    requires { ⌜ sumOf c < 65536 ⌝ }
-    ensures { λ r. ⌜ ((a : Answer) → s ≡ sortOf a → r ≡ counted a c) ⌝ }
-{
-    match s {
-        Sort::Inherited => Counts {
-            inherited: c.inherited + 1,
-            intra: c.intra,
-            outside: c.outside,
-        },
-        Sort::Intra => Counts {
-            inherited: c.inherited,
-            intra: c.intra + 1,
-            outside: c.outside,
-        },
-        Sort::Outside => Counts {
-            inherited: c.inherited,
-            intra: c.intra,
-            outside: c.outside + 1,
-        },
-    }
 }
 
 // Every macroblock, in raster order.

@@ -2,7 +2,7 @@
 ghost use Prim.Native.Nat.{_<_};
 ghost use lib.Dec.{ltb};
 ghost use Rattle.definitions.specs.Basics.{pick};
-ghost use Rattle.definitions.specs.Inheriting.{filled, lower, merged, source};
+ghost use Rattle.definitions.specs.Inheriting.{filled, merged, source};
 ghost use Rattle.motion.specs.ByValue.{AllReferring, Reference, motionsIn};
 ghost use Rattle.quadrant.specs.Merging.{AllEmpty, having4, joinedOf, lowestOf, rankOf};
 ghost use mathlib.Core.Path.{_≡_};

@@ -22,6 +22,8 @@ pub const VECTORS: usize = 13;
 // ---- Types and sub-types
 pub const INTRA: u8 = 0;
 
+pub const WHOLE: u8 = 1;
+
 pub const OUTSIDE: u8 = 5;
 
 // The number of a split's type.

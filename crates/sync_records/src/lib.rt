@@ -147,7 +147,7 @@ fn put_whole(out: &mut [i16], from: usize, six: [i16; 6])
     requires { ⌜ from + recordWords ≤ length (now out) ⌝ }
     ensures { λ _. ⌜ now (out .exit) ≡ sets (now (out .entry)) from (wordsFor whole six) ⌝ }
 {
-    put_record(out, from, 1, motion_of(six));
+    put_record(out, from, layout::WHOLE, motion_of(six));
 }
 
 // What comes after the letter of a line (intra). The record is stored once all of it is read.

@@ -6,7 +6,7 @@ ghost use Rattle.definitions.specs.Answer.{addressesOf};
 ghost use Rattle.definitions.specs.Calls.{macroblockCall};
 ghost use Rattle.definitions.specs.Geometry.{baseSize};
 ghost use Rattle.definitions.specs.Record.{recordWords, narrow};
-ghost use Rattle.definitions.specs.Refusals.{recordTests, refusal, verdictOf};
+ghost use Rattle.definitions.specs.Refusals.{recordTests, verdictOf};
 ghost use Rattle.macroblock.specs.Made.{originBy};
 ghost use Rattle.upsample.specs.Promised.{SinglyPromised};
 ghost use Rattle.upsample.specs.Staged.{InBase, axesCall, sizedCall, rowAddresses};

@@ -9,8 +9,8 @@ use Rattle.definitions.specs.declared.Axes.{Axes}
 use Rattle.definitions.specs.declared.Answer.the-variants.{Outside}
 use Rattle.macroblock.specs.declared.AxisRead.{AxisRead}
 use Rattle.macroblock.specs.declared.Fixed.{Fixed}
-use Rattle.macroblock.specs.declared.Sort.{Sort}
-use Rattle.macroblock.specs.declared.Sort.the-variants.{Outside as SortOutside}
+use Rattle.common.specs.declared.counts.Sort.{Sort}
+use Rattle.common.specs.declared.counts.Sort.the-variants.{Outside as SortOutside}
 use Rattle.definitions.specs.Answer.{Made, madeOf}
 use Rattle.definitions.specs.Record.{narrow}
 use Rattle.definitions.proofs.Choices.{no}

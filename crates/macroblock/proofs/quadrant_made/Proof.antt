@@ -1,10 +1,8 @@
 -- `macroblock::quadrant_made` meets its contract. Assumes nothing.
-use mathlib.Core.Path.{_≡_, sym, ap, subst, _∙_}
-use mathlib.Core.Bool.{Bool, true, false, _&&_}
-use lib.ListN.{getD}
+use mathlib.Core.Path.{sym, ap, subst, _∙_}
 use mathlib.Core.List.{List}
 use Rattle.motion.specs.declared.BlockMotion.{BlockMotion}
-use Rattle.definitions.specs.Inheriting.{clearOf, filled, merged}
+use Rattle.definitions.specs.Inheriting.{filled, merged}
 use Rattle.motion.specs.ByValue.{AllReferring, motionsIn}
 use Rattle.quadrant.specs.Merging.{AllEmpty}
 use Rattle.macroblock.proofs.Motions.{filled-mergeable, made-clear, made-plain}
@@ -12,20 +10,17 @@ use borrow.Author.Needs.{needs}
 use Rattle.macroblock.proofs.quadrant_made.Statement.{statement}
 use Rattle.macroblock.proofs.quadrant_made.Tie as tie
 
-quadrant-read-requires : tie.Need-quadrant-read-requires
-quadrant-read-requires c κs = search needs
-
 is-plain-requires : tie.Need-is-plain-requires
 is-plain-requires c κs = search needs
+
+quadrant-read-requires : tie.Need-quadrant-read-requires
+quadrant-read-requires c κs = search needs
 
 returns : tie.Need-returns
 returns c =
     let s = c .before .before .before in
-    let p = sym (c .before .is-plain .ensures) ∙ c .if1 .taken in
-    ap motionsIn (c .before .before .quadrant-read .ensures) ∙ made-plain (s .args .base .now) (s .args .x0) (s .args .x1) (s .args .y0) (s .args .y1) (s .pre .1) (clearOf (s .args .of .set) (s .args .of .q)) p (s .pre .2 p)
-
-clear-of-requires : tie.Need-clear-of-requires
-clear-of-requires c κs = search needs
+    let p = sym (c .before .before .is-plain .ensures) ∙ c .before .if1 .taken in
+    ap motionsIn (c .quadrant-read .ensures) ∙ made-plain (s .args .base .now) (s .args .x0) (s .args .x1) (s .args .y0) (s .args .y1) (s .pre .0) (s .args .t6) p (s .pre .1 p)
 
 array-read-if2 : tie.Need-array-read-if2
 array-read-if2 c = search needs
@@ -39,50 +34,54 @@ array-read-if2-3 c = search needs
 array-read-if2-4 : tie.Need-array-read-if2-4
 array-read-if2-4 c = search needs
 
+quadrant-read-requires-2 : tie.Need-quadrant-read-requires-2
+quadrant-read-requires-2 c κs = search needs
+
 merge-requires : tie.Need-merge-requires
 merge-requires c κs =
-    let q = c .before .before .before .before in
-    let s = q .before in
-    let e = sym (q .quadrant-read .ensures) in
-    (subst (λ (m : List BlockMotion). AllEmpty (motionsIn m)) e (s .pre .1 .empty), subst AllReferring e (s .pre .1 .referring))
+    let s = c .before .before .before .before in
+    let e = sym (c .quadrant-read2 .ensures) in
+    (subst (λ (m : List BlockMotion). AllEmpty (motionsIn m)) e (s .pre .0 .empty), subst AllReferring e (s .pre .0 .referring))
 
 returns-2 : tie.Need-returns-2
 returns-2 c =
-    let q = c .before .before .before .before .before in
-    let s = q .before in
+    let s = c .before .before .before .before .before in
     c .merge .ensures
-    ∙ (ap (λ (m : List BlockMotion). merged (motionsIn m)) (q .quadrant-read .ensures)
-    ∙ made-clear (s .args .base .now) (s .args .x0) (s .args .x1) (s .args .y0) (s .args .y1) (s .pre .1) (clearOf (s .args .of .set) (s .args .of .q)) (subst (λ (l : List Bool). (((getD l 0 false && getD l 1 false) && getD l 2 false) && getD l 3 false) ≡ true) (c .before .before .clear-of .ensures) (c .before .if2 .taken)))
+    ∙ (ap (λ (m : List BlockMotion). merged (motionsIn m)) (c .before .quadrant-read2 .ensures)
+    ∙ made-clear (s .args .base .now) (s .args .x0) (s .args .x1) (s .args .y0) (s .args .y1) (s .pre .0) (s .args .t6) (c .before .before .if2 .taken))
+
+quadrant-read-requires-3 : tie.Need-quadrant-read-requires-3
+quadrant-read-requires-3 c κs = search needs
 
 fill-requires : tie.Need-fill-requires
 fill-requires c κs = search needs
 
 merge-requires-2 : tie.Need-merge-requires-2
 merge-requires-2 c κs =
-    let q = c .before .before .before .before .before in
-    let s = q .before in
-    filled-mergeable (s .args .base .now) (s .args .x0) (s .args .x1) (s .args .y0) (s .args .y1) (s .pre .1) (clearOf (s .args .of .set) (s .args .of .q)) (c .fill .result)
-    (c .fill .ensures ∙ (λ i. filled (c .before .before .clear-of .ensures i) (motionsIn (q .quadrant-read .ensures i))))
+    let s = c .before .before .before .before .before in
+    filled-mergeable (s .args .base .now) (s .args .x0) (s .args .x1) (s .args .y0) (s .args .y1) (s .pre .0) (s .args .t6) (c .fill .result)
+    (c .fill .ensures ∙ ap (λ (m : List BlockMotion). filled (s .args .t6) (motionsIn m)) (c .before .quadrant-read3 .ensures))
 
 returns-3 : tie.Need-returns-3
 returns-3 c =
-    let q = c .before .before .before .before .before .before in
-    c .merge2 .ensures ∙ ap merged (c .before .fill .ensures ∙ (λ i. filled (c .before .before .before .clear-of .ensures i) (motionsIn (q .quadrant-read .ensures i))))
+    let s = c .before .before .before .before .before .before in
+    c .merge2 .ensures ∙ ap merged (c .before .fill .ensures ∙ ap (λ (m : List BlockMotion). filled (s .args .t6) (motionsIn m)) (c .before .before .quadrant-read3 .ensures))
 
 pub quadrant-made-spec : {M : Type 1} → statement M
 quadrant-made-spec =
     tie.close
     (tie.spec
-    quadrant-read-requires
     is-plain-requires
+    quadrant-read-requires
     returns
-    clear-of-requires
     array-read-if2
     array-read-if2-2
     array-read-if2-3
     array-read-if2-4
+    quadrant-read-requires-2
     merge-requires
     returns-2
+    quadrant-read-requires-3
     fill-requires
     merge-requires-2
     returns-3)

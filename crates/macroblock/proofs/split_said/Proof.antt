@@ -27,17 +27,35 @@ shared-slice-copy-out-sub-split-of c = search needs
 sub-split-of-requires : tie.Need-sub-split-of-requires
 sub-split-of-requires c κs = search needs
 
+add-sub-split-of : tie.Need-add-sub-split-of
+add-sub-split-of c = search needs
+
+mul-sub-split-of : tie.Need-mul-sub-split-of
+mul-sub-split-of c = search needs
+
 shared-slice-copy-out-sub-split-of-2 : tie.Need-shared-slice-copy-out-sub-split-of-2
 shared-slice-copy-out-sub-split-of-2 c = search needs
 
 sub-split-of-requires-2 : tie.Need-sub-split-of-requires-2
 sub-split-of-requires-2 c κs = search needs
 
+add-sub-split-of-2 : tie.Need-add-sub-split-of-2
+add-sub-split-of-2 c = search needs
+
+mul-sub-split-of-2 : tie.Need-mul-sub-split-of-2
+mul-sub-split-of-2 c = search needs
+
 shared-slice-copy-out-sub-split-of-3 : tie.Need-shared-slice-copy-out-sub-split-of-3
 shared-slice-copy-out-sub-split-of-3 c = search needs
 
 sub-split-of-requires-3 : tie.Need-sub-split-of-requires-3
 sub-split-of-requires-3 c κs = search needs
+
+add-sub-split-of-3 : tie.Need-add-sub-split-of-3
+add-sub-split-of-3 c = search needs
+
+mul-sub-split-of-3 : tie.Need-mul-sub-split-of-3
+mul-sub-split-of-3 c = search needs
 
 shared-slice-copy-out-sub-split-of-4 : tie.Need-shared-slice-copy-out-sub-split-of-4
 shared-slice-copy-out-sub-split-of-4 c = search needs
@@ -67,10 +85,16 @@ split-said-spec =
     returns-3
     shared-slice-copy-out-sub-split-of
     sub-split-of-requires
+    add-sub-split-of
+    mul-sub-split-of
     shared-slice-copy-out-sub-split-of-2
     sub-split-of-requires-2
+    add-sub-split-of-2
+    mul-sub-split-of-2
     shared-slice-copy-out-sub-split-of-3
     sub-split-of-requires-3
+    add-sub-split-of-3
+    mul-sub-split-of-3
     shared-slice-copy-out-sub-split-of-4
     sub-split-of-requires-4
     returns-4)

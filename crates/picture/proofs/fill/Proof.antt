@@ -12,7 +12,8 @@ use Rattle.definitions.specs.Raster.{fullCount}
 use Rattle.definitions.proofs.Demand.{made-length}
 use Rattle.definitions.proofs.Parts.{parts, parts-none, parts-all, part-back}
 use Rattle.macroblock.specs.declared.Fixed.{Fixed}
-use Rattle.macroblock.specs.Made.{Makeable, madeBy, readOf, sortOf}
+use Rattle.macroblock.specs.Made.{Makeable, madeBy, readOf}
+use Rattle.common.specs.Sorts.{sortOf}
 use Rattle.macroblock.proofs.Paper.{sort-is}
 use Rattle.picture.specs.Reads.{noRead}
 use Rattle.common.proofs.Located.{row-below}

@@ -1,9 +1,9 @@
--- `picture::count_sort` meets its contract. Assumes nothing.
+-- `common::counts::count_sort` meets its contract. Assumes nothing.
 use mathlib.Core.Path.{sym, _∙_}
-use Rattle.picture.proofs.Sorting.{one-inherited, one-intra, one-outside}
+use Rattle.common.proofs.Counted.{one-more}
 use borrow.Author.Needs.{needs}
-use Rattle.picture.proofs.count_sort.Statement.{statement}
-use Rattle.picture.proofs.count_sort.Tie as tie
+use Rattle.common.proofs.counts.count_sort.Statement.{statement}
+use Rattle.common.proofs.counts.count_sort.Tie as tie
 
 enum-told : tie.Need-enum-told
 enum-told c = search needs
@@ -24,13 +24,13 @@ add-t6 : tie.Need-add-t6
 add-t6 c = search needs
 
 returns : tie.Need-returns
-returns c = λ a e. one-inherited (c .before .before .before .args .c) a (sym (c .before .enum-told .given .1) ∙ e)
+returns c = λ a e. one-more (c .before .before .before .args .c) a (sym (c .before .enum-told .given .1) ∙ e)
 
 returns-2 : tie.Need-returns-2
-returns-2 c = λ a e. one-intra (c .before .before .before .args .c) a (sym (c .before .enum-told2 .given .1) ∙ e)
+returns-2 c = λ a e. one-more (c .before .before .before .args .c) a (sym (c .before .enum-told2 .given .1) ∙ e)
 
 returns-3 : tie.Need-returns-3
-returns-3 c = λ a e. one-outside (c .before .before .before .args .c) a (sym (c .before .enum-told3 .given .1) ∙ e)
+returns-3 c = λ a e. one-more (c .before .before .before .args .c) a (sym (c .before .enum-told3 .given .1) ∙ e)
 
 pub count-sort-spec : {M : Type 1} → statement M
 count-sort-spec =
