@@ -64,7 +64,7 @@ cornersBy width across down base = record {
   diagonal = isIntra (recordRead width base (getD across 3 0) (getD down 3 0));
 }
 
--- what holds of block i along an axis: it stands in the column (row) of the first block, or else of the last; and the set of the sixteen by the corners
+-- what holds of block i along an axis: it reads the column (row) that the first block reads, or else the last one's; and the set of the sixteen by the corners
 abbrev pub beside : {A : Type 0} → List ℕ → ℕ → A → A → A
 beside x i near far = pick (eqb (columnOf (getD x i 0)) (columnOf (getD x 0 0))) near far
 
@@ -105,10 +105,3 @@ PlacesIn base left right upper lower = PlaceIn base left upper × PlaceIn base r
 -- the records that the blocks read lie in the base and are well formed
 abbrev pub Readable : ℕ → List ℕ → List ℕ → List ℤ → Type 0
 Readable width across down base = (i : ℕ) → i < 16 → ReadableAt width base (getD across (i % 4) 0) (getD down (i / 4) 0)
-
--- those of a quadrant's blocks, whose columns read x0 and x1 and whose rows y0 and y1, and the motions that they read
-abbrev pub QuadrantReadable : ℕ → List ℤ → ℕ → ℕ → ℕ → ℕ → Type 0
-QuadrantReadable width base x0 x1 y0 y1 = ReadableAt width base x0 y0 × ReadableAt width base x1 y0 × ReadableAt width base x0 y1 × ReadableAt width base x1 y1
-
-abbrev pub quadrantRead : ℕ → List ℤ → ℕ → ℕ → ℕ → ℕ → List Motion
-quadrantRead width base x0 x1 y0 y1 = motionRead width base x0 y0 ∷ motionRead width base x1 y0 ∷ motionRead width base x0 y1 ∷ motionRead width base x1 y1 ∷ []

@@ -123,7 +123,7 @@ pub fn reads_whole(base: &[i16], width: usize, x: u16, y: u16) -> bool
     is_whole(base, address_of(width, x, y))
 }
 
-// The quadrant in which it stands there is not divided.
+// The quadrant of that macroblock in which the block read lies is not divided.
 pub fn reads_single(base: &[i16], width: usize, x: u16, y: u16) -> bool
     requires { ⌜ ReadableAt width (now base) x y × (width ≤ 256) ⌝ }
     ensures { λ r. ⌜ r ≡ eqZ (subTypeOf (recordRead width (now (base .entry)) x y) (quadrantOf (blockAt x y))) (pos 0) ⌝ }
@@ -133,7 +133,7 @@ pub fn reads_single(base: &[i16], width: usize, x: u16, y: u16) -> bool
 }
 
 // ---- The intra set
-// Which of the macroblocks that are read are intra. What is read lies in the columns of the first and the last block, and in their rows: these are all.
+// Which of the macroblocks that are read are intra. What is read lies in the columns of the first and the last block, and in their rows, since coordinates rise: these are all (`set-corners`).
 pub struct Corners {
     pub first: bool,
     pub right: bool,

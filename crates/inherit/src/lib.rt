@@ -85,7 +85,7 @@ fn copied_from(live: [bool; 4], q: usize) -> usize
     v
 }
 
-// Each quadrant as it is copied.
+// Each quadrant as it is copied. Where all are live nothing is (`copied-all`).
 pub fn copy(set: u16, m: [[BlockMotion; 4]; 4]) -> [[BlockMotion; 4]; 4]
     ensures { λ r. ⌜ quadrantsIn r ≡ copied (liveOf set) (quadrantsIn m) ⌝ }
 {

@@ -23,9 +23,16 @@ use Rattle.definitions.proofs.Steps.{Both, filled-keeps, filled-leaves, not-use
 use Rattle.motion.specs.ByValue.{AllReferring, Reference, motionIn, motionsIn, zeroBlock}
 use Rattle.motion.specs.Range.{InRange}
 use Rattle.quadrant.specs.Merging.{Empty, AllEmpty}
-use Rattle.gather.specs.Reads.{QuadrantReadable, Readable, ReadableAt, acrossOf, addressAt, blockAt, blockFrom, downOf, gatheredBy, motionRead, quadrantFrom, quadrantRead, recordRead, setBy}
+use Rattle.gather.specs.Reads.{Readable, ReadableAt, acrossOf, addressAt, blockAt, blockFrom, downOf, gatheredBy, motionRead, quadrantFrom, recordRead, setBy}
 use Rattle.gather.proofs.Places.{place-in, spot-read}
 use Rattle.macroblock.specs.Quadrants.{Alike, Mergeable, plainAt}
+
+-- ---- The records that a quadrant's blocks read, whose columns read x0 and x1 and whose rows y0 and y1, and the motions that they read
+abbrev QuadrantReadable : ℕ → List ℤ → ℕ → ℕ → ℕ → ℕ → Type 0
+QuadrantReadable width base x0 x1 y0 y1 = ReadableAt width base x0 y0 × ReadableAt width base x1 y0 × ReadableAt width base x0 y1 × ReadableAt width base x1 y1
+
+abbrev quadrantRead : ℕ → List ℤ → ℕ → ℕ → ℕ → ℕ → List Motion
+quadrantRead width base x0 x1 y0 y1 = motionRead width base x0 y0 ∷ motionRead width base x1 y0 ∷ motionRead width base x0 y1 ∷ motionRead width base x1 y1 ∷ []
 
 -- ---- a motion that is read
 zero-word : (t : Bool) (z : ℤ) → t ≡ false → (t || eqZ z (pos 0)) ≡ true → z ≡ pos 0

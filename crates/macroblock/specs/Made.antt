@@ -93,6 +93,7 @@ answerFor SortInherited o m = Inherited o (chosen m)
 unfoldable pub answerBy : Fixed → AxisRead → AxisRead → List ℤ → Answer
 answerBy f h v base = answerFor (sortBy f h v base) (originBy h v) (motionsInside f (h .reads) (v .reads) base)
 
+-- both, as the laws of the calls have it
 unfoldable pub madeBy : Fixed → AxisRead → AxisRead → List ℤ → Made
 madeBy f h v base = record { answer = answerBy f h v base; written = writtenBy f h v base }
 

@@ -272,7 +272,7 @@ fn quadrant_merged(base: &[i16], x0: Spot, x1: Spot, y0: Spot, y1: Spot) -> [Blo
 }
 
 // Steps 1 and 2 of a quadrant. A plain one's blocks are all intra or none is: nothing is to fill (`filled-alike`) or to merge (`settled-merged`). Where no block is intra,
-// nothing is to fill (`filled-leaves`).
+// nothing is to fill (`filled-leaves`). A quadrant all intra goes through too: step 3 writes it over.
 fn quadrant_made(
     base: &[i16],
     x0: Spot,

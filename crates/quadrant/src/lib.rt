@@ -129,7 +129,7 @@ fn joined(r0: i32, r1: i32, one: BlockMotion, other: BlockMotion) -> BlockMotion
     }
 }
 
-// Both lists of the four blocks.
+// Both lists of the four blocks. Where no block uses a list all have -1 there, and each keeps its own vector, which is 0 (`AllEmpty`).
 pub fn merge(m: [BlockMotion; 4]) -> [BlockMotion; 4]
     requires { ⌜ AllEmpty (motionsIn m) × AllReferring m ⌝ }
     ensures { λ r. ⌜ motionsIn r ≡ merged (motionsIn m) ⌝ }

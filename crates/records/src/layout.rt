@@ -27,7 +27,7 @@ pub const WHOLE: u8 = 1;
 pub const OUTSIDE: u8 = 5;
 
 // The number of a split's type.
-pub fn type_number(s: Split) -> u8
+fn type_number(s: Split) -> u8
     ensures { λ r. ⌜ r ≡ typeNumber s ⌝ }
 {
     match s {

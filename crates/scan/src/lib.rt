@@ -208,7 +208,7 @@ fn first_not_quick(base: &[i16], from: usize, to: usize) -> usize
     a
 }
 
-// Records from..to-1 are well formed, or refusal 8 at the lowest that is not, with its first broken rule.
+// Records from..to-1 are well formed, or refusal 8 at the lowest that is not, with its first broken rule. Records that are well formed leave it to those after them (`verdict-from`).
 pub fn check(base: &[i16], from: usize, to: usize) -> Verdict
     requires { ⌜ (to * recordWords ≤ length (now base)) × (from ≤ to) × (to ≤ 65536) ⌝ }
     ensures { λ v. ⌜ v ≡ verdictOf (recordTests narrow (now (base .entry)) (addresses from to)) ⌝ }

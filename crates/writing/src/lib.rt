@@ -79,7 +79,7 @@ fn put_pair(out: &mut [i16], s: Scales, a: BlockMotion, b: BlockMotion)
 const FIRST_BLOCK: [usize; 4] = [0, 2, 8, 10];
 
 // Quadrant q, whose first block is i (the caller looks it up, where q is a constant): its references, and its two rows of blocks. Gives its sub-type.
-// Its sub-type is found before step 4: scaling keeps different motions different (`motion-apart`).
+// Its sub-type is found before step 4: scaling keeps different motions different (`motion-apart` of proofs/Choosing).
 fn put_quadrant(out: &mut [i16], s: Scales, q: usize, i: usize, m: [BlockMotion; 4]) -> u8
     requires { ⌜ (length (now out) ≡ recordWords) × (q < 4) × (i ≡ rasterOf q 0) × AcceptedScales s × QuadrantWritable m ⌝ }
     ensures words { λ _. ⌜ now (out .exit) ≡ quadrantPut s q (motionsIn m) (now (out .entry)) ⌝ }
@@ -135,6 +135,7 @@ fn put_types(out: &mut [i16], kind: u8, a: u8, b: u8, c: u8, d: u8)
 }
 
 // The record of four quadrants of four blocks, as steps 1 to 3 have left them: scaled, and with the fewest pieces.
+// With a divided quadrant the type is 4 (`chosen-quarters`), else the first blocks of the quadrants tell it (`chosen-whole`).
 pub fn write_made(out: &mut [i16], s: Scales, m: [[BlockMotion; 4]; 4])
     requires { ⌜ (length (now out) ≡ recordWords) × AcceptedScales s × AllWritable m ⌝ }
     ensures { λ _. ⌜ now (out .exit) ≡ laidOut (dividedBy (chosen (allScaled s (quadrantsIn m))) (motionAt (allScaled s (quadrantsIn m)))) ⌝ }
