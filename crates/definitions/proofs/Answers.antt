@@ -13,14 +13,14 @@ use Rattle.definitions.specs.declared.Answer.{Answer}
 use Rattle.definitions.specs.declared.Answer.the-variants.{Outside, Intra, Inherited}
 use Rattle.definitions.specs.Geometry.{inside}
 use Rattle.definitions.specs.Inheriting.{intraSet, inheritedMotions, chosen}
-use Rattle.definitions.specs.Answer.{originAt, answerOf, writtenFor, madeOf}
+use Rattle.definitions.specs.Answer.{basisAt, answerOf, writtenFor, madeOf}
 use Rattle.definitions.proofs.Choices.{yes, no}
 
 -- an answer, and why it is the one
 pub data Decided (g : Axes) (base : List ℤ) (column row : ℕ) : Answer → Type 0 where
   is-outside : inside g column row ≡ false → Decided g base column row Outside
-  is-intra : inside g column row ≡ true → 9 ≤ ones (intraSet g base column row) → Decided g base column row (Intra (originAt g column row))
-  is-inherited : inside g column row ≡ true → ones (intraSet g base column row) ≤ 8 → Decided g base column row (Inherited (originAt g column row) (chosen (inheritedMotions g base column row)))
+  is-intra : inside g column row ≡ true → 9 ≤ ones (intraSet g base column row) → Decided g base column row (Intra (basisAt g base column row))
+  is-inherited : inside g column row ≡ true → ones (intraSet g base column row) ≤ 8 → Decided g base column row (Inherited (basisAt g base column row) (chosen (inheritedMotions g base column row)))
 
 module _ (g : Axes) (base : List ℤ) (column row : ℕ) where
   by-count : (many : Bool) → inside g column row ≡ true → leb 9 (ones (intraSet g base column row)) ≡ many → Decided g base column row (answerOf g base column row)

@@ -26,7 +26,7 @@ use Rattle.definitions.specs.declared.MacroblockReply.the-variants.{Answ
 use Rattle.definitions.specs.Basics.{upTo, forEach}
 use Rattle.definitions.specs.Geometry.{axesOf, fullSize, macroblocks, inside}
 use Rattle.definitions.specs.Record.{recordWords, recordAt, wellFormed, firstBroken}
-use Rattle.definitions.specs.Answer.{Made, answerOf, writtenFor, madeOf, addressesNamed}
+use Rattle.definitions.specs.Answer.{basisAt, Made, answerOf, writtenFor, madeOf, addressesNamed}
 use Rattle.definitions.specs.Refusals.{test, refusal, verdictOf, geometryTests, geometryVerdict, baseTest, outputTest, positionTest, recordTests, withinAxis, addressesRead, allAddresses, AllFormed}
 use Rattle.definitions.specs.Calls.{Outcome, byVerdict, macroblockTests, macroblockCall, pictureTests, madeAt, countsOf, pictureCall}
 use Rattle.definitions.specs.Demand3.{Demand3, AnyWords, SinglyGives, Demand3Singly, FormedWords, PictureGives, Demand3Picture, Case, SinglyCase, PictureCase, Demand3Entire}
@@ -40,7 +40,7 @@ use Rattle.definitions.proofs.Sameness.{same-made}
 use Rattle.definitions.proofs.Addresses.{address-named, address-below}
 use Rattle.definitions.proofs.Pieces.{covered}
 use Rattle.definitions.proofs.Records.{laid-length}
-use Rattle.definitions.proofs.Promises.{origin-right, inherited-when, intra-when, outside-when, nothing-written, motions-written, fewest-written, split-written, said-written, columns-below, rows-below}
+use Rattle.definitions.proofs.Promises.{origin-right, detail-right, detail-written, inherited-when, intra-when, outside-when, nothing-written, motions-written, fewest-written, split-written, said-written, columns-below, rows-below}
 
 -- ---- bases that agree on some records
 -- the records at the addresses are the same
@@ -50,7 +50,7 @@ Agree addresses base other = (a : ℕ) → List·Memᴰ a addresses → recordAt
 module _ (g : Axes) (base : List ℤ) (column row : ℕ) where
   -- a call checks the records that its answer names
   pub read-named : {answer : Answer} → Decided g base column row answer → addressesRead g column row ≡ addressesNamed g answer
-  unfolding addressesRead
+  unfolding addressesRead basisAt
   read-named (is-outside e) = no _ _ e
   read-named (is-intra e m) = yes _ _ e
   read-named (is-inherited e m) = yes _ _ e
@@ -62,6 +62,7 @@ module _ (n : Numbers) (column row : ℕ) (accepted : geometryVerdict n ≡ Acce
 
   -- other records do not matter
   pub made-same : (base other : List ℤ) → Agree (addressesNamed axes (answerOf axes base column row)) base other → madeOf axes other column row ≡ madeOf axes base column row
+  unfolding basisAt
   made-same base other e = by (decided axes base column row) e
     where
       by : {answer : Answer} → Decided axes base column row answer → Agree (addressesNamed axes answer) base other → madeOf axes other column row ≡ madeOf axes base column row
@@ -93,6 +94,8 @@ module _ (n : Numbers) (column row : ℕ) (accepted : geometryVerdict n ≡ Acce
         rivals = λ m s e. fewest-written axes base column row d m s e .more;
         says-split = split-written axes base column row;
         split-said = said-written axes base column row;
+        detail = detail-right axes base column row d;
+        says-detail = detail-written axes base column row _;
       }
 
 -- ---- what is written, and when a column (row) lies in the picture

@@ -1,4 +1,4 @@
--- A well-formed record keeps each of the six rules; and what rule 5 says of a block's vectors. Assumes nothing.
+-- A well-formed record keeps each of the seven rules; and what rule 5 says of a block's vectors. Assumes nothing.
 use Prim.Native.Nat.{ℕ, _<_}
 use mathlib.Core.Path.{_≡_, refl}
 use mathlib.Core.Bool.{Bool, true, false, not}
@@ -7,11 +7,11 @@ use native.Mathlib.Omega.{arith}
 use lib.IntN.{ℤ}
 use borrow.Author.Tests.{eqb-true}
 use Rattle.definitions.specs.Basics.{pick}
-use Rattle.definitions.specs.Record.{vectorXOf, vectorYOf, referenceOf, used, vectorWord, rule1, rule2, rule3, rule4, rule5, rule6, firstBroken, wellFormed}
+use Rattle.definitions.specs.Record.{vectorXOf, vectorYOf, referenceOf, used, vectorWord, rule1, rule2, rule3, rule4, rule5, rule6, rule7, firstBroken, wellFormed}
 use Rattle.definitions.specs.Blocks.{quadrantOf}
 use Rattle.definitions.proofs.Choices.{both-true, below-true}
 
--- the six rules of a record
+-- the seven rules of a record
 pub record Rules (limit : ℕ) (r : List ℤ) : Type 0 where
   pub types : rule1 r ≡ true
   pub sub-types : rule2 r ≡ true
@@ -19,6 +19,7 @@ pub record Rules (limit : ℕ) (r : List ℤ) : Type 0 where
   pub lists : rule4 r ≡ true
   pub vectors : rule5 limit r ≡ true
   pub pieces : rule6 r ≡ true
+  pub detail : rule7 r ≡ true
 
 -- where the first broken rule is none, the first of them is kept, and the rest is none
 kept : (rule : Bool) (n : ℕ) (rest : ℕ) → 0 < n → pick (not rule) n rest ≡ 0 → (rule ≡ true) × (rest ≡ 0)
@@ -35,7 +36,8 @@ rules-of limit r e =
     let d = kept (rule4 r) 4 _ (omega arith) (c .1) in
     let f = kept (rule5 limit r) 5 _ (omega arith) (d .1) in
     let g = kept (rule6 r) 6 _ (omega arith) (f .1) in
-    record { types = a .0; sub-types = b .0; references = c .0; lists = d .0; vectors = f .0; pieces = g .0 }
+    let h = kept (rule7 r) 7 _ (omega arith) (g .1) in
+    record { types = a .0; sub-types = b .0; references = c .0; lists = d .0; vectors = f .0; pieces = g .0; detail = h .0 }
 
 -- a vector word of block b in list l: in the range, and 0 where the list is unused
 pub record Vectors (limit : ℕ) (r : List ℤ) (b l : ℕ) : Type 0 where

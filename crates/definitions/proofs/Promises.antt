@@ -10,7 +10,7 @@ use lib.Dec.{T, ltb, lit<}
 use lib.IntN.{ℤ, pos}
 use lib.ListN.{getD, take}
 use Rattle.definitions.specs.declared.Axes.{Axes}
-use Rattle.definitions.specs.declared.Origin.{Origin}
+use Rattle.definitions.specs.declared.Basis.{Basis}
 use Rattle.definitions.specs.declared.Motion.{Motion}
 use Rattle.definitions.specs.declared.SubSplit.{SubSplit}
 use Rattle.definitions.specs.declared.SubSplit.the-variants.{S8x8, S8x4, S4x8, S4x4}
@@ -22,10 +22,10 @@ use Rattle.definitions.specs.Basics.{pick, upTo}
 use Rattle.definitions.specs.Accepted.{Inside}
 use Rattle.definitions.specs.Geometry.{baseSize, scaledSize, cOf, sampleOf, macroblocks, inside}
 use Rattle.definitions.specs.Splits.{oneEach, count}
-use Rattle.definitions.specs.Record.{motionOf, typeNumber, subTypeNumber, subSplitOf, splitSaid, laidOut, allOne}
+use Rattle.definitions.specs.Record.{motionOf, detailOf, typeNumber, subTypeNumber, subSplitOf, splitSaid, laidOut, allOne}
 use Rattle.definitions.specs.Inheriting.{blocksReadingIntra, intraSet, gathered, resolved, at, motionAt, scaledPrediction, scaledMotion, inheritedMotions, chosen}
-use Rattle.definitions.specs.Answer.{answerOrigin, columnsNamed, rowsNamed, subTypes, dividedBy, unusedMotion, writtenFor}
-use Rattle.definitions.specs.Demand3.{originByPaper}
+use Rattle.definitions.specs.Answer.{basisAt, answerOrigin, answerDetail, columnsNamed, rowsNamed, subTypes, dividedBy, unusedMotion, writtenFor}
+use Rattle.definitions.specs.Demand3.{originByPaper, detailByPaper}
 use Rattle.definitions.specs.Blocks.{quadrantOf, rasterOf}
 use Rattle.definitions.proofs.Choices.{yes, no}
 use Rattle.definitions.proofs.Sets.{intra-count}
@@ -34,7 +34,7 @@ use Rattle.definitions.proofs.Addresses.{column-below, row-below}
 use Rattle.definitions.proofs.Blocks.{one-same}
 use Rattle.definitions.proofs.Fewest.{Fewest, chosen-fewest}
 use Rattle.definitions.proofs.Steps.{resolved-settled}
-use Rattle.definitions.proofs.Records.{each16, laid-types, laid-motion}
+use Rattle.definitions.proofs.Records.{each16, laid-types, laid-motion, laid-detail}
 
 -- two answers of different sorts are not the same
 unfoldable pub sort : Answer → ℕ
@@ -53,12 +53,12 @@ sub-said S8x4 = refl
 sub-said S4x8 = refl
 sub-said S4x4 = refl
 
-pub split-said : (s : Split) (m : ℕ → Motion) → splitSaid (laidOut (dividedBy s m)) ≡ s
+pub split-said : (s : Split) (m : ℕ → Motion) (d : ℤ) → splitSaid (laidOut (dividedBy s m d)) ≡ s
 unfolding pick splitSaid laidOut upTo
-split-said S16x16 m = refl
-split-said S16x8 m = refl
-split-said S8x16 m = refl
-split-said (Quarters t) m =
+split-said S16x16 m d = refl
+split-said S16x8 m d = refl
+split-said S8x16 m d = refl
+split-said (Quarters t) m d =
     λ i. Quarters (record { a = sub-said (t .a) i; b = sub-said (t .b) i; c = sub-said (t .c) i; d = sub-said (t .d) i })
 
 module _ (g : Axes) (base : List ℤ) (column row : ℕ) where
@@ -70,21 +70,35 @@ module _ (g : Axes) (base : List ℤ) (column row : ℕ) where
 
   -- class, first column and row
   pub origin-right : {answer : Answer} → Decided g base column row answer → answerOrigin answer ≡ originByPaper g column row
+  unfolding basisAt
   origin-right (is-outside e) = sym (no _ _ e)
   origin-right (is-intra e m) = sym (yes _ _ e)
   origin-right (is-inherited e m) = sym (yes _ _ e)
+
+  -- detail, and the last word of the record
+  pub detail-right : {answer : Answer} → Decided g base column row answer → answerDetail answer ≡ detailByPaper g base column row
+  unfolding basisAt
+  detail-right (is-outside e) = sym (no _ _ e)
+  detail-right (is-intra e m) = sym (yes _ _ e)
+  detail-right (is-inherited e m) = sym (yes _ _ e)
+
+  pub detail-written : (answer : Answer) → detailOf (writtenFor answer motions) ≡ pos (answerDetail answer)
+  unfolding writtenFor
+  detail-written Outside = laid-detail (allOne 5 unusedMotion (pos 0))
+  detail-written (Intra b) = laid-detail (allOne 0 unusedMotion (pos (b .detail)))
+  detail-written (Inherited b s) = laid-detail (dividedBy s (motionAt motions) (pos (b .detail)))
 
   -- the sort
   count-is : ones set ≡ blocksReadingIntra g base column row
   count-is = intra-count g base column row
 
-  pub inherited-when : {answer : Answer} → Decided g base column row answer → ((o : Origin) × (s : Split) × (answer ≡ Inherited o s)) ↔ ((inside g column row ≡ true) × (blocksReadingIntra g base column row ≤ 8))
+  pub inherited-when : {answer : Answer} → Decided g base column row answer → ((b : Basis) × (s : Split) × (answer ≡ Inherited b s)) ↔ ((inside g column row ≡ true) × (blocksReadingIntra g base column row ≤ 8))
   unfolding sort
   inherited-when (is-outside e) = (λ w. absurd (other-sort (w .2) (λ q. omega arith)), λ w. absurd (true≢false (sym (w .0) ∙ e)))
   inherited-when (is-intra e m) = (λ w. absurd (other-sort (w .2) (λ q. omega arith)), λ w. absurd (omega (arith, count-is, m, w .1)))
   inherited-when (is-inherited e m) = (λ w. (e, omega (arith, count-is, m)), λ w. (_, _, refl))
 
-  pub intra-when : {answer : Answer} → Decided g base column row answer → ((o : Origin) × (answer ≡ Intra o)) ↔ ((inside g column row ≡ true) × (9 ≤ blocksReadingIntra g base column row))
+  pub intra-when : {answer : Answer} → Decided g base column row answer → ((b : Basis) × (answer ≡ Intra b)) ↔ ((inside g column row ≡ true) × (9 ≤ blocksReadingIntra g base column row))
   unfolding sort
   intra-when (is-outside e) = (λ w. absurd (other-sort (w .1) (λ q. omega arith)), λ w. absurd (true≢false (sym (w .0) ∙ e)))
   intra-when (is-intra e m) = (λ w. (e, omega (arith, count-is, m)), λ w. (_, refl))
@@ -99,12 +113,12 @@ module _ (g : Axes) (base : List ℤ) (column row : ℕ) where
   -- the written record outside
   pub nothing-written : {answer : Answer} → Decided g base column row answer → inside g column row ≡ false → (i : ℕ) → i < 16 → motionOf (writtenFor answer motions) i ≡ unusedMotion
   unfolding writtenFor
-  nothing-written (is-outside e) w = λ i h. laid-motion (allOne 5 unusedMotion) i h refl refl
+  nothing-written (is-outside e) w = λ i h. laid-motion (allOne 5 unusedMotion (pos 0)) i h refl refl
   nothing-written (is-intra e m) w = λ i h. absurd (true≢false (sym e ∙ w))
   nothing-written (is-inherited e m) w = λ i h. absurd (true≢false (sym e ∙ w))
 
   -- inherited, the split is the one that is chosen
-  split-chosen : {answer : Answer} → Decided g base column row answer → (o : Origin) (s : Split) → answer ≡ Inherited o s → s ≡ chosen motions
+  split-chosen : {answer : Answer} → Decided g base column row answer → (b : Basis) (s : Split) → answer ≡ Inherited b s → s ≡ chosen motions
   unfolding sort
   split-chosen (is-outside e) n s q = absurd (other-sort q (λ r. omega arith))
   split-chosen (is-intra e m) n s q = absurd (other-sort q (λ r. omega arith))
@@ -130,13 +144,13 @@ module _ (g : Axes) (base : List ℤ) (column row : ℕ) where
           (sym (s .one0 k (lit< y)), sym (s .one1 k (lit< y)))
 
   -- inherited, each block read back from the written record has the motion that map and steps fix;
-  pub motions-written : {answer : Answer} → (o : Origin) (s : Split) → answer ≡ Inherited o s → (i : ℕ) → i < 16 → motionOf (writtenFor answer motions) i ≡ motionAt motions i
+  pub motions-written : {answer : Answer} → (b : Basis) (s : Split) → answer ≡ Inherited b s → (i : ℕ) → i < 16 → motionOf (writtenFor answer motions) i ≡ motionAt motions i
   unfolding writtenFor
   motions-written n s q i h =
-      ap (λ (a : Answer). motionOf (writtenFor a motions) i) q ∙ laid-motion (dividedBy s (motionAt motions)) i h (shared i h .0) (shared i h .1)
+      ap (λ (a : Answer). motionOf (writtenFor a motions) i) q ∙ laid-motion (dividedBy s (motionAt motions) (pos (n .detail))) i h (shared i h .0) (shared i h .1)
 
   -- one motion in each piece, and every other split with one motion in each has more pieces;
-  pub fewest-written : {answer : Answer} → Decided g base column row answer → (o : Origin) (s : Split) → answer ≡ Inherited o s → Fewest (motionOf (writtenFor answer motions)) s
+  pub fewest-written : {answer : Answer} → Decided g base column row answer → (b : Basis) (s : Split) → answer ≡ Inherited b s → Fewest (motionOf (writtenFor answer motions)) s
   fewest-written {answer} d n s q =
       let f = chosen-fewest motions in
       let e = split-chosen d n s q in
@@ -147,10 +161,10 @@ module _ (g : Axes) (base : List ℤ) (column row : ℕ) where
       }
 
   -- and the first five words say the split
-  pub split-written : {answer : Answer} → (o : Origin) (s : Split) → answer ≡ Inherited o s → take 5 (writtenFor answer motions) ≡ pos (typeNumber s) ∷ map pos (subTypes s)
+  pub split-written : {answer : Answer} → (b : Basis) (s : Split) → answer ≡ Inherited b s → take 5 (writtenFor answer motions) ≡ pos (typeNumber s) ∷ map pos (subTypes s)
   unfolding writtenFor
   split-written n s q =
-      ap (λ (a : Answer). take 5 (writtenFor a motions)) q ∙ (laid-types (dividedBy s (motionAt motions)) ∙ types-are s)
+      ap (λ (a : Answer). take 5 (writtenFor a motions)) q ∙ (laid-types (dividedBy s (motionAt motions) (pos (n .detail))) ∙ types-are s)
     where
       types-are : (s : Split)
           → pos (typeNumber s) ∷ pos (getD (subTypes s) 0 0) ∷ pos (getD (subTypes s) 1 0) ∷ pos (getD (subTypes s) 2 0) ∷ pos (getD (subTypes s) 3 0) ∷ []
@@ -160,18 +174,20 @@ module _ (g : Axes) (base : List ℤ) (column row : ℕ) where
       types-are S8x16 = refl
       types-are (Quarters t) = refl
 
-  pub said-written : {answer : Answer} → (o : Origin) (s : Split) → answer ≡ Inherited o s → splitSaid (writtenFor answer motions) ≡ s
+  pub said-written : {answer : Answer} → (b : Basis) (s : Split) → answer ≡ Inherited b s → splitSaid (writtenFor answer motions) ≡ s
   unfolding writtenFor
-  said-written n s q = ap (λ (a : Answer). splitSaid (writtenFor a motions)) q ∙ split-said s (motionAt motions)
+  said-written n s q = ap (λ (a : Answer). splitSaid (writtenFor a motions)) q ∙ split-said s (motionAt motions) (pos (n .detail))
 
   -- the base macroblocks that are named lie inside the base
   module _ (h : inside g column row ≡ true → Inside (baseSize (g .horizontal)) (scaledSize (g .horizontal)) (cOf (g .horizontal) (sampleOf column))) (v : inside g column row ≡ true → Inside (baseSize (g .vertical)) (scaledSize (g .vertical)) (cOf (g .vertical) (sampleOf row))) where
     pub columns-below : {answer : Answer} → Decided g base column row answer → (x : ℕ) → List·Memᴰ x (columnsNamed answer) → x < macroblocks (baseSize (g .horizontal))
+    unfolding basisAt
     columns-below (is-outside e) x m = absurd (List·Memᴰ·not-nil m)
     columns-below (is-intra e k) x m = column-below g column row (h e) (v e) m
     columns-below (is-inherited e k) x m = column-below g column row (h e) (v e) m
 
     pub rows-below : {answer : Answer} → Decided g base column row answer → (y : ℕ) → List·Memᴰ y (rowsNamed answer) → y < macroblocks (baseSize (g .vertical))
+    unfolding basisAt
     rows-below (is-outside e) y m = absurd (List·Memᴰ·not-nil m)
     rows-below (is-intra e k) y m = row-below g column row (h e) (v e) m
     rows-below (is-inherited e k) y m = row-below g column row (h e) (v e) m

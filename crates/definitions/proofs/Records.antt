@@ -8,7 +8,7 @@ use lib.IntN.{ℤ, pos}
 use lib.ListN.{length, getD, take, drop, length-take, length-drop}
 use Rattle.definitions.specs.declared.Motion.{Motion}
 use Rattle.definitions.specs.Basics.{upTo}
-use Rattle.definitions.specs.Record.{recordWords, recordAt, typeOf, subTypeOf, referenceOf, vectorXOf, vectorYOf, motionOf, Contents, laidOut}
+use Rattle.definitions.specs.Record.{recordWords, recordAt, typeOf, subTypeOf, referenceOf, vectorXOf, vectorYOf, detailOf, motionOf, Contents, laidOut}
 use Rattle.definitions.specs.Inheriting.{at, motionAt}
 use Rattle.definitions.specs.Blocks.{quadrantOf, inQuadrant, rasterOf}
 use Rattle.definitions.proofs.Choices.{each}
@@ -83,6 +83,10 @@ module _ (c : Contents) where
   pub laid-types : take 5 (laidOut c) ≡ pos (c .kind) ∷ pos (c .sub 0) ∷ pos (c .sub 1) ∷ pos (c .sub 2) ∷ pos (c .sub 3) ∷ []
   unfolding laidOut upTo
   laid-types = refl
+
+  pub laid-detail : detailOf (laidOut c) ≡ c .detail
+  unfolding laidOut upTo
+  laid-detail = refl
 
   pub laid-type : typeOf (laidOut c) ≡ pos (c .kind)
   unfolding laidOut

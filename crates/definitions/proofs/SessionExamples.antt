@@ -14,9 +14,10 @@ use Rattle.definitions.specs.Basics.{pick, allBelow, allOf, upTo}
 use Rattle.definitions.specs.Geometry.{insideAxis, mOf, nOf, fOf, twoOf, columnsRead}
 use Rattle.definitions.specs.BlockMap.{digitsOf, coordinateOf, stepOf, addressRead, blockRead}
 use Rattle.definitions.specs.Splits.{sameMotion, samePrediction, alike, oneEach, fewestIn}
-use Rattle.definitions.specs.Record.{recordWords, recordAt, motionOf, splitSaid, rule1, rule2, rule3, rule4, rule5, rule6, firstBroken, laidOut}
+use Rattle.definitions.specs.Record.{recordWords, recordAt, motionOf, splitSaid, rule1, rule2, rule3, rule4, rule5, rule6, rule7, firstBroken, laidOut}
 use Rattle.definitions.specs.Inheriting.{setOf, intraSet, gathered, source, clearOf, filled, lower, lowest, having, mergedList, merged, someOf, liveOf, copiedFrom, copied, resolved, scaledPrediction, scaledMotion, inheritedMotions}
-use Rattle.definitions.specs.Answer.{originAt, answerOf, addressesOf, writtenFor, madeOf}
+use Rattle.definitions.specs.Detail.{quadrantDetail, detailAt}
+use Rattle.definitions.specs.Answer.{originAt, basisAt, answerOf, addressesOf, writtenFor, madeOf}
 use Rattle.definitions.specs.Refusals.{geometryTests, recordTests, addressesRead}
 use Rattle.definitions.specs.Calls.{macroblockTests, macroblockCall}
 use Rattle.definitions.specs.Examples.{wholeRecord, wholeCase}
@@ -60,5 +61,5 @@ calls =
     ∷ on ∷ on ∷ on ∷ on ∷ on ∷ begin wholeCase ∷ on ∷ on ∷ abandon ∷ totals ∷ begin wholeCase ∷ abandon ∷ []
 
 pub refused-there : map numberOf (exchanges fresh calls) ≡ 20 ∷ 20 ∷ 0 ∷ 4 ∷ 0 ∷ 22 ∷ 5 ∷ 6 ∷ 8 ∷ 0 ∷ 0 ∷ 20 ∷ 0 ∷ 0 ∷ 0 ∷ 0 ∷ 0 ∷ 0 ∷ 22 ∷ 0 ∷ 21 ∷ 21 ∷ 0 ∷ 0 ∷ 0 ∷ []
-unfolding allOf allBelow pick upTo insideAxis mOf nOf fOf twoOf columnsRead digitsOf coordinateOf stepOf addressRead blockRead sameMotion samePrediction alike oneEach fewestIn recordAt motionOf splitSaid rule1 rule2 rule3 rule4 rule5 rule6 firstBroken laidOut setOf intraSet gathered source clearOf filled lower lowest having mergedList merged someOf liveOf copiedFrom copied resolved scaledPrediction scaledMotion inheritedMotions originAt answerOf addressesOf writtenFor madeOf geometryTests recordTests addressesRead macroblockTests macroblockCall ones onesIn beginVerdict abandonVerdict nextCall exchange stateNext exchanges
+unfolding allOf allBelow pick upTo insideAxis mOf nOf fOf twoOf columnsRead digitsOf coordinateOf stepOf addressRead blockRead sameMotion samePrediction alike oneEach fewestIn recordAt motionOf splitSaid rule1 rule2 rule3 rule4 rule5 rule6 rule7 firstBroken laidOut setOf intraSet gathered source clearOf filled lower lowest having mergedList merged someOf liveOf copiedFrom copied resolved scaledPrediction scaledMotion inheritedMotions originAt basisAt quadrantDetail detailAt answerOf addressesOf writtenFor madeOf geometryTests recordTests addressesRead macroblockTests macroblockCall ones onesIn beginVerdict abandonVerdict nextCall exchange stateNext exchanges
 refused-there = refl

@@ -11,7 +11,7 @@ use Rattle.definitions.specs.declared.LogReply.the-variants.{Refused as 
 use Rattle.definitions.specs.declared.TextReply.{TextReply}
 use Rattle.definitions.specs.declared.TextReply.the-variants.{Refused as NotRead}
 use Rattle.definitions.specs.Basics.{pick, minus, allBelow, upTo}
-use Rattle.definitions.specs.Record.{recordWords, laidOut, recordAt, rule1, rule2, rule3, rule4, rule5, rule6, firstBroken}
+use Rattle.definitions.specs.Record.{recordWords, laidOut, recordAt, rule1, rule2, rule3, rule4, rule5, rule6, rule7, firstBroken}
 use Rattle.definitions.specs.Refusals.{refusal, geometryTests, recordTests}
 use Rattle.definitions.specs.Text.{Digit, none, each, valued, zeroAlone, digits, word, Number, unsigned, negative, close, item, isWord, Note, note, Part, Form, nothing, isByte, isSpaced, isEnded, numbersThen, mbLine, LineOf, Notes, noHead, head, noRecord, aRecord, Text, textRecords, Reading, notRead, readAs, Reads, tooLong, broken, tooMany, read, TextAnswer, wrongWords, refused, given}
 use Rattle.definitions.specs.Log.{digitsIn, decimal, lineOf, refusedLine, programTests, LogAnswer, tooFew, logged}
@@ -38,10 +38,10 @@ zeros-form : (n : ℕ) {ps : List Part} {vs : List ℤ} {t : List ℕ} → Form 
 zeros-form zero f = isEnded zero-is f
 zeros-form (suc n) f = isSpaced zero-is (zeros-form n f)
 
-mb-line : LineOf mbLine (pos 0 ∷ zeroNumbers 3 (zeroNumbers 7 (zeroNumbers 63 []))) mbLineText
+mb-line : LineOf mbLine (pos 0 ∷ zeroNumbers 3 (zeroNumbers 7 (zeroNumbers 63 (zeroNumbers 0 [])))) mbLineText
 mb-line =
     isByte (isByte (isByte (isByte (isSpaced zero-is (isByte
-    (zeros-form 3 (isByte (isByte (zeros-form 7 (isByte (isByte (zeros-form 63 (isByte (isByte nothing))))))))))))))
+    (zeros-form 3 (isByte (isByte (zeros-form 7 (isByte (isByte (zeros-form 63 (isByte (zeros-form 0 (isByte nothing)))))))))))))))
 
 mb-text : Text mbNumbers mbEntries mbText
 mb-text =
@@ -59,7 +59,7 @@ mb-text =
           (head Notes.none (isByte (isByte (isByte (isByte (isByte (isByte (isByte (isByte (isSpaced n48 (isEnded n18 (isByte nothing)))))))))))
           (head Notes.none (isByte (isByte (isByte (isByte (isSpaced four-is (isEnded minus-two-is (isByte nothing)))))))
           (head Notes.none (isByte (isByte (isByte (isByte (isByte (isByte (isSpaced n64 (isEnded n80 (isByte nothing))))))))) noHead)));
-      lines = aRecord (isByte (isByte (isByte (isByte (isByte (isByte (isByte (isByte nothing)))))))) (aRecord mb-line noRecord);
+      lines = aRecord (isByte (isByte (isByte (isByte (isByte (isByte (isByte (zeros-form 0 (isByte nothing))))))))) (aRecord mb-line noRecord);
       parts = refl;
     }
 
@@ -82,11 +82,11 @@ letters : Note (40 ∷ 110 ∷ 111 ∷ 116 ∷ 101 ∷ 32 ∷ 97 ∷ 122 ∷ 41 
 letters = note (item (inl (isWord (word {c = 97} (omega arith, omega arith) (each {c = 122} (omega arith, omega arith) none)))) close)
 
 pub texts-hold : TextsHold
-unfolding pick allBelow upTo laidOut recordAt rule1 rule2 rule3 rule4 rule5 rule6 firstBroken geometryTests recordTests digitsIn decimal lineOf refusedLine programTests
+unfolding pick allBelow upTo laidOut recordAt rule1 rule2 rule3 rule4 rule5 rule6 rule7 firstBroken geometryTests recordTests digitsIn decimal lineOf refusedLine programTests
 texts-hold = record {
   mb-text = mb-text;
   mb-log = record { reading = readAs _ _; reads = read (omega arith) mb-text (omega arith); is = refl };
-  whole-line = isByte (isByte (isByte (isByte (isByte (isByte (isByte (isByte (zeros-form 1 (isByte (isByte (zeros-form 3 (isByte (isByte nothing)))))))))))));
+  whole-line = isByte (isByte (isByte (isByte (isByte (isByte (isByte (isByte (zeros-form 1 (isByte (isByte (zeros-form 3 (isByte (zeros-form 0 (isByte nothing))))))))))))));
   note-line = note close;
   most-bytes = λ t place l b. broken (omega arith) b;
   too-many-bytes = λ t r l x. long l x;

@@ -13,10 +13,10 @@ use Rattle.definitions.specs.declared.Motion.{Motion}
 use Rattle.definitions.specs.declared.Refusal.{Refusal}
 use Rattle.definitions.specs.declared.TextReply.{TextReply}
 use Rattle.definitions.specs.declared.TextReply.the-variants.{Read, Refused}
-use Rattle.definitions.specs.Record.{recordWords, typeOf, subTypeOf, motionOf, allOne}
+use Rattle.definitions.specs.Record.{recordWords, typeOf, subTypeOf, motionOf, detailOf, allOne}
 use Rattle.definitions.specs.Answer.{unusedMotion}
 use Rattle.definitions.specs.Text.{Belongs, CanGoOn, BreaksAt, intra, whole, wordsFor, TextAnswer, wrongWords, refused, given}
-use Rattle.definitions.proofs.Records.{laid-length, laid-type, laid-sub-type, laid-motion}
+use Rattle.definitions.proofs.Records.{laid-length, laid-type, laid-sub-type, laid-motion, laid-detail}
 
 -- ---- The place
 goes-shorter : (t : List ℕ) (m n : ℕ) → m ≤ n → CanGoOn (take n t) → CanGoOn (take m t)
@@ -53,30 +53,33 @@ kept (given e x) = tt
 pub refused-keeps : {t : List ℕ} {old : List ℤ} {r : Refusal} {new : List ℤ} → TextAnswer t old (Refused r) new → new ≡ old
 refused-keeps h = kept h
 
--- ---- The words of (intra) and (whole ..): a record of a type, with no sub-types and one motion in all blocks
-record Uniform (words : List ℤ) (type : ℕ) (m : Motion) : Type 0 where
+-- ---- The words of (intra ..) and (whole ..): a record of a type, with no sub-types, one motion in all blocks, and this last word
+record Uniform (words : List ℤ) (type : ℕ) (m : Motion) (d : ℤ) : Type 0 where
   many : length words ≡ recordWords
   type-is : typeOf words ≡ pos type
   sub-types : (q : ℕ) → q < 4 → subTypeOf words q ≡ pos 0
   motions : (b : ℕ) → b < 16 → motionOf words b ≡ m
+  detail-is : detailOf words ≡ d
 
-intra-words : (v : List ℤ) → Uniform (wordsFor intra v) 0 unusedMotion
-intra-words v =
+intra-words : (d : ℤ) → Uniform (wordsFor intra (d ∷ [])) 0 unusedMotion d
+intra-words d =
     record {
-      many = laid-length (allOne 0 unusedMotion);
-      type-is = laid-type (allOne 0 unusedMotion);
-      sub-types = laid-sub-type (allOne 0 unusedMotion);
-      motions = λ b h. laid-motion (allOne 0 unusedMotion) b h refl refl;
+      many = laid-length (allOne 0 unusedMotion d);
+      type-is = laid-type (allOne 0 unusedMotion d);
+      sub-types = laid-sub-type (allOne 0 unusedMotion d);
+      motions = λ b h. laid-motion (allOne 0 unusedMotion d) b h refl refl;
+      detail-is = laid-detail (allOne 0 unusedMotion d);
     }
 
-whole-words : (r0 r1 x0 y0 x1 y1 : ℤ) →
-    Uniform (wordsFor whole (r0 ∷ r1 ∷ x0 ∷ y0 ∷ x1 ∷ y1 ∷ [])) 1
-    (record { list0 = record { reference = r0; x = x0; y = y0 }; list1 = record { reference = r1; x = x1; y = y1 } })
-whole-words r0 r1 x0 y0 x1 y1 =
+whole-words : (r0 r1 x0 y0 x1 y1 d : ℤ) →
+    Uniform (wordsFor whole (r0 ∷ r1 ∷ x0 ∷ y0 ∷ x1 ∷ y1 ∷ d ∷ [])) 1
+    (record { list0 = record { reference = r0; x = x0; y = y0 }; list1 = record { reference = r1; x = x1; y = y1 } }) d
+whole-words r0 r1 x0 y0 x1 y1 d =
     let m : Motion = record { list0 = record { reference = r0; x = x0; y = y0 }; list1 = record { reference = r1; x = x1; y = y1 } } in
     record {
-      many = laid-length (allOne 1 m);
-      type-is = laid-type (allOne 1 m);
-      sub-types = laid-sub-type (allOne 1 m);
-      motions = λ b h. laid-motion (allOne 1 m) b h refl refl;
+      many = laid-length (allOne 1 m d);
+      type-is = laid-type (allOne 1 m d);
+      sub-types = laid-sub-type (allOne 1 m d);
+      motions = λ b h. laid-motion (allOne 1 m d) b h refl refl;
+      detail-is = laid-detail (allOne 1 m d);
     }

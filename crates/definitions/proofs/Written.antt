@@ -27,9 +27,10 @@ use Rattle.definitions.specs.Accepted.{Sized}
 use Rattle.definitions.specs.BlockMap.{addressRead, blockRead}
 use Rattle.definitions.specs.Blocks.{quadrantOf, inQuadrant, rasterOf}
 use Rattle.definitions.specs.Splits.{oneEach}
-use Rattle.definitions.specs.Record.{recordAt, referenceOf, vectorXOf, vectorYOf, isIntra, motionOf, used, typeNumber, subTypeNumber, rule1, rule2, rule3, rule4, rule5, rule6, firstBroken, vectorWord, wellFormed, laidOut, allOne}
+use Rattle.definitions.specs.Record.{recordAt, referenceOf, vectorXOf, vectorYOf, isIntra, motionOf, used, typeNumber, subTypeNumber, rule1, rule2, rule3, rule4, rule5, rule6, rule7, firstBroken, vectorWord, wellFormed, laidOut, allOne}
 use Rattle.definitions.specs.Inheriting.{readsIntra, marked, intraSet, zeroMotion, at, motionAt, gathered, unused, clearOf, filled, merged, liveOf, copied, resolved, scaledWord, scaledPrediction, scaledMotion, inheritedMotions, chosen}
-use Rattle.definitions.specs.Answer.{originAt, dividedBy, unusedMotion, withoutMotion, writtenFor, madeOf}
+use Rattle.definitions.specs.Detail.{quadrantDetail, detailAt}
+use Rattle.definitions.specs.Answer.{basisAt, dividedBy, unusedMotion, withoutMotion, writtenFor, madeOf}
 use Rattle.definitions.specs.Calls.{Outcome}
 use Rattle.definitions.specs.Demand3.{Case}
 use Rattle.definitions.specs.Written.{vectorsInRange, AsRecord, WrittenEntire, withoutStep1, Step1Unseen}
@@ -39,7 +40,7 @@ use Rattle.definitions.proofs.Accepted.{accepted-axes, across-inside, d
 use Rattle.definitions.proofs.Addresses.{address-named, address-below}
 use Rattle.definitions.proofs.Steps.{Both, usesList, resolved-keeps, resolved-settled, resolved-uses, not-used}
 use Rattle.definitions.proofs.StepOne.{unseen}
-use Rattle.definitions.proofs.Records.{References, raster-below, raster-motion, laid-references, laid-vectors}
+use Rattle.definitions.proofs.Records.{References, raster-below, raster-motion, laid-references, laid-vectors, laid-detail}
 use Rattle.definitions.proofs.Formed.{rules-of, vectors-of}
 use Rattle.definitions.proofs.Sets.{set-below, intra-bit}
 use Rattle.definitions.proofs.Answers.{Decided, is-outside, is-intra, is-inherited, decided}
@@ -93,27 +94,31 @@ zero-pair limit r b l x y =
     let q : vectorWord limit u (vectorYOf r b l) ≡ true = zero-word limit u _ y in
     and-intro p q
 
-no-vectors : (any : ℕ) → rule5 any (withoutMotion 0) ≡ true
+no-vectors : (any : ℕ) (d : ℤ) → rule5 any (withoutMotion 0 d) ≡ true
 unfolding rule5
-no-vectors any =
+no-vectors any d =
     below-intro 16 _ (λ b hb.
-    let v = laid-vectors (allOne 0 unusedMotion) b hb in
-    below-intro 2 _ (two (λ l. vectorPair any (withoutMotion 0) b l ≡ true) (zero-pair any (withoutMotion 0) b 0 (v .0) (v .1)) (zero-pair any (withoutMotion 0) b 1 (v .2) (v .3))))
+    let v = laid-vectors (allOne 0 unusedMotion d) b hb in
+    below-intro 2 _ (two (λ l. vectorPair any (withoutMotion 0 d) b l ≡ true) (zero-pair any (withoutMotion 0 d) b 0 (v .0) (v .1)) (zero-pair any (withoutMotion 0 d) b 1 (v .2) (v .3))))
 
-intra-formed : (any : ℕ) → firstBroken any (withoutMotion 0) ≡ 0
-unfolding pick allBelow upTo laidOut rule1 rule2 rule3 rule4 rule6 firstBroken
-intra-formed any = ap (λ (t : Bool). pick (not t) 5 0) (no-vectors any)
+-- four bits are as rule 7 asks
+four-bits : (d : ℕ) → d < 16 → between (pos 0) (pos 15) (pos d) ≡ true
+four-bits d h = and-intro (le-leb 0 d (omega arith)) (le-leb d 15 (omega arith))
 
-outside-formed : (any : ℕ) → firstBroken any (withoutMotion 5) ≡ 1
+intra-formed : (any d : ℕ) → d < 16 → firstBroken any (withoutMotion 0 (pos d)) ≡ 0
+unfolding pick allBelow upTo laidOut rule1 rule2 rule3 rule4 rule6 rule7 firstBroken
+intra-formed any d h = λ i. pick (not (no-vectors any (pos d) i)) 5 (pick (not (four-bits d h i)) 7 0)
+
+outside-formed : (any : ℕ) → firstBroken any (withoutMotion 5 (pos 0)) ≡ 1
 unfolding pick allBelow upTo laidOut rule1 firstBroken
 outside-formed any = refl
 
 -- ---- the rule that is left
-left-over : (any : ℕ) (r : List ℤ) → rule1 r ≡ true → rule2 r ≡ true → rule3 r ≡ true → rule4 r ≡ true → rule6 r ≡ true → rule5 any r ≡ vectorsInRange any r
+left-over : (any : ℕ) (r : List ℤ) → rule1 r ≡ true → rule2 r ≡ true → rule3 r ≡ true → rule4 r ≡ true → rule6 r ≡ true → rule7 r ≡ true → rule5 any r ≡ vectorsInRange any r
     → firstBroken any r ≡ pick (vectorsInRange any r) 0 5
 unfolding pick firstBroken
-left-over any r a b c d f e =
-    (λ i. pick (not (a i)) 1 (pick (not (b i)) 2 (pick (not (c i)) 3 (pick (not (d i)) 4 (pick (not (e i)) 5 (pick (not (f i)) 6 0))))))
+left-over any r a b c d f g e =
+    (λ i. pick (not (a i)) 1 (pick (not (b i)) 2 (pick (not (c i)) 3 (pick (not (d i)) 4 (pick (not (e i)) 5 (pick (not (f i)) 6 (pick (not (g i)) 7 0)))))))
     ∙ turned (vectorsInRange any r)
   where
     turned : (t : Bool) → pick {A = ℕ} (not t) 5 0 ≡ pick t 0 5
@@ -127,9 +132,9 @@ sub-between S8x4 = refl
 sub-between S4x8 = refl
 sub-between S4x4 = refl
 
-module _ (s : Split) (m : ℕ → Motion) where
+module _ (s : Split) (m : ℕ → Motion) (d : ℤ) where
   abbrev said : List ℤ
-  said = laidOut (dividedBy s m)
+  said = laidOut (dividedBy s m d)
 
   said-1 : rule1 said ≡ true
   unfolding rule1 laidOut
@@ -145,7 +150,7 @@ module _ (s : Split) (m : ℕ → Motion) where
   unfolding rule2 laidOut upTo allBelow
   said-2 = by s
     where
-      by : (s : Split) → rule2 (laidOut (dividedBy s m)) ≡ true
+      by : (s : Split) → rule2 (laidOut (dividedBy s m d)) ≡ true
       by S16x16 = refl
       by S16x8 = refl
       by S8x16 = refl
@@ -273,15 +278,15 @@ module _ (limit : ℕ) (g : Axes) (base : List ℤ) (column row : ℕ) (formed :
         ∙ read-uses (rasterOf q k) (raster-below q k hq hk) (sym (intra-bit g base column row (rasterOf q k) (raster-below q k hq hk)) ∙ u))
 
     -- ---- inherited
-    module _ (h : Sized (baseSize (g .horizontal)) (scaledSize (g .horizontal))) (v : Sized (baseSize (g .vertical)) (scaledSize (g .vertical))) (s : Split) where
+    module _ (h : Sized (baseSize (g .horizontal)) (scaledSize (g .horizontal))) (v : Sized (baseSize (g .vertical)) (scaledSize (g .vertical))) (s : Split) (d : ℕ) where
       abbrev written : List ℤ
-      written = laidOut (dividedBy s (motionAt motions))
+      written = laidOut (dividedBy s (motionAt motions) (pos d))
 
       -- the references that are written are those of the quadrant's first block, and so of each of its blocks
       references-are : (q k : ℕ) → q < 4 → k < 4 → References written q (at there q k)
       unfolding scaledMotion scaledPrediction
       references-are q k hq hk =
-          let w = laid-references (dividedBy s (motionAt motions)) q hq in
+          let w = laid-references (dividedBy s (motionAt motions) (pos d)) q hq in
           let e = raster-motion q 0 hq (omega arith) motions ∙ scaled-is q 0 hq (omega arith) in
           let t = resolved-settled set gatheredThere q hq in
           (w .0 ∙ (ap (λ (m : Motion). m .list0 .reference) e ∙ sym (t .one0 k hk)), w .1 ∙ (ap (λ (m : Motion). m .list1 .reference) e ∙ sym (t .one1 k hk)))
@@ -296,7 +301,7 @@ module _ (limit : ℕ) (g : Axes) (base : List ℤ) (column row : ℕ) (formed :
       written-4 : rule4 written ≡ true
       unfolding rule4
       written-4 =
-          no _ _ (said-not-intra s (motionAt motions))
+          no _ _ (said-not-intra s (motionAt motions) (pos d))
           ∙ below-intro 4 _ (λ q hq.
           let r = references-are q 0 hq (omega arith) in
           (λ i. used (r .0 i) || used (r .1 i)) ∙ uses-there q 0 hq (omega arith))
@@ -322,7 +327,7 @@ module _ (limit : ℕ) (g : Axes) (base : List ℤ) (column row : ℕ) (formed :
           let k = inQuadrant b in
           let hq : q < 4 = omega arith in
           let hk : k < 4 = omega arith in
-          let w = laid-vectors (dividedBy s (motionAt motions)) b hb in
+          let w = laid-vectors (dividedBy s (motionAt motions) (pos d)) b hb in
           let m = motion-there b hb in
           let r = references-are q k hq hk in
           let t = resolved-settled set gatheredThere q hq in
@@ -361,7 +366,7 @@ module _ (limit : ℕ) (g : Axes) (base : List ℤ) (column row : ℕ) (formed :
           below-intro 16 _ (λ b hb.
           let q = quadrantOf b in
           let k = inQuadrant b in
-          let w = laid-vectors (dividedBy s (motionAt motions)) b hb in
+          let w = laid-vectors (dividedBy s (motionAt motions) (pos d)) b hb in
           let m = motion-there b hb in
           let f = resolved-fit q k (omega arith) (omega arith) in
           let within : ℤ → Bool = between (minus (2 * limit)) (pos (2 * limit - 1)) in
@@ -377,12 +382,20 @@ module _ (limit : ℕ) (g : Axes) (base : List ℤ) (column row : ℕ) (formed :
 
       written-6 : oneEach (motionOf written) s ≡ true → rule6 written ≡ true
       unfolding rule6
-      written-6 o = or-right (isIntra written) (ap (oneEach (motionOf written)) (split-said s (motionAt motions)) ∙ o)
+      written-6 o = or-right (isIntra written) (ap (oneEach (motionOf written)) (split-said s (motionAt motions) (pos d)) ∙ o)
 
-      written-rule : oneEach (motionOf written) s ≡ true → (any : ℕ) → firstBroken any written ≡ pick (vectorsInRange any written) 0 5
-      written-rule o any = left-over any written (said-1 s (motionAt motions)) (said-2 s (motionAt motions)) written-3 written-4 (written-6 o) (written-5 any)
+      written-7 : d < 16 → rule7 written ≡ true
+      unfolding rule7
+      written-7 small = ap (between (pos 0) (pos 15)) (laid-detail (dividedBy s (motionAt motions) (pos d))) ∙ four-bits d small
+
+      written-rule : d < 16 → oneEach (motionOf written) s ≡ true → (any : ℕ) → firstBroken any written ≡ pick (vectorsInRange any written) 0 5
+      written-rule small o any = left-over any written (said-1 s (motionAt motions) (pos d)) (said-2 s (motionAt motions) (pos d)) written-3 written-4 (written-6 o) (written-7 small) (written-5 any)
 
 -- ---- what is made in a case
+detail-below : (g : Axes) (base : List ℤ) (column row : ℕ) → detailAt g base column row < 16
+unfolding detailAt
+detail-below g base column row = set-below 4 (quadrantDetail g base column row)
+
 module _ (limit : ℕ) (n : Numbers) (column row : ℕ) (base : List ℤ) (case : Case limit n column row base) where
   abbrev axes : Axes
   axes = axesOf n
@@ -395,7 +408,7 @@ module _ (limit : ℕ) (n : Numbers) (column row : ℕ) (base : List ℤ) (case 
       case .formed _ (address-below axes column row x y (address-named axes column row x y i h))
 
   made-as : {answer : Answer} → Decided axes base column row answer → AsRecord limit answer (writtenFor answer (inheritedMotions axes base column row))
-  unfolding writtenFor sort
+  unfolding writtenFor sort basisAt
   made-as (is-outside e) = record {
     uses = λ o s q. absurd (other-sort q (λ r. omega arith));
     inherited = λ o s q. absurd (other-sort q (λ r. omega arith));
@@ -407,7 +420,7 @@ module _ (limit : ℕ) (n : Numbers) (column row : ℕ) (base : List ℤ) (case 
     uses = λ o s q. absurd (other-sort q (λ r. omega arith));
     inherited = λ o s q. absurd (other-sort q (λ r. omega arith));
     doubled = λ o s q. absurd (other-sort q (λ r. omega arith));
-    intra = λ o q any. intra-formed any;
+    intra = λ o q any. intra-formed any _ (detail-below axes base column row);
     outside = λ q. absurd (other-sort q (λ r. omega arith));
   }
   made-as (is-inherited e few) =
@@ -415,13 +428,15 @@ module _ (limit : ℕ) (n : Numbers) (column row : ℕ) (base : List ℤ) (case 
       let h = a .horizontal .sized in
       let v = a .vertical .sized in
       let f = read-formed e in
-      let named = originAt axes column row in
+      let named = basisAt axes base column row in
+      let bits = detailAt axes base column row in
+      let small = detail-below axes base column row in
       let split = chosen (inheritedMotions axes base column row) in
       let one = fewest-written axes base column row (is-inherited e few) named split refl .one in
       record {
-        uses = λ o s q i hi. written-uses limit axes base column row f few h v split i hi (motions-written axes base column row named split refl i hi);
-        inherited = λ o s q any. written-rule limit axes base column row f few h v split one any;
-        doubled = λ o s q. written-rule limit axes base column row f few h v split one (2 * limit) ∙ yes 0 5 (written-doubled limit axes base column row f few h v split);
+        uses = λ o s q i hi. written-uses limit axes base column row f few h v split bits i hi (motions-written axes base column row named split refl i hi);
+        inherited = λ o s q any. written-rule limit axes base column row f few h v split bits small one any;
+        doubled = λ o s q. written-rule limit axes base column row f few h v split bits small one (2 * limit) ∙ yes 0 5 (written-doubled limit axes base column row f few h v split bits);
         intra = λ o q. absurd (other-sort q (λ r. omega arith));
         outside = λ q. absurd (other-sort q (λ r. omega arith));
       }

@@ -1,5 +1,5 @@
 -- Tests on numbers, and lists made by an index: the words that the other files are written in.
-use Prim.Native.Nat.{ℕ, zero, suc, _+_}
+use Prim.Native.Nat.{ℕ, zero, suc, _+_, _/_, _%_, _^_}
 use mathlib.Core.Bool.{Bool, true, false, _&&_}
 use mathlib.Core.List.{List, [], _∷_, _++_}
 use lib.Dec.{eqb}
@@ -34,6 +34,10 @@ down z n = shrZ z n
 abbrev pub signed : ℤ → ℕ → ℤ
 signed (pos z) n = pos n
 signed (negsuc z) n = minus n
+
+-- bit i of n is set
+abbrev pub bitSet : ℕ → ℕ → Bool
+bitSet n i = eqb (n / 2 ^ i % 2) 1
 
 -- the test holds at each of 0..n−1
 unfoldable pub allBelow : ℕ → (ℕ → Bool) → Bool

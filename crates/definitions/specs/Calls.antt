@@ -34,7 +34,7 @@ abbrev pub byVerdict : {Reply : Type 0} → Verdict → (Refusal → Reply) → 
 byVerdict Accepted refused words made = made
 byVerdict (Refused r) refused words made = record { reply = refused r; words = words }
 
--- One macroblock: geometry, base, column, row, and 77 words to write. It checks only the records that it reads; outside it reads none.
+-- One macroblock: geometry, base, column, row, and 78 words to write. It checks only the records that it reads; outside it reads none.
 unfoldable pub macroblockTests : ℕ → Numbers → List ℤ → ℤ → ℤ → List ℤ → List Test
 macroblockTests limit n base column row words =
     let g = axesOf n in
@@ -58,8 +58,8 @@ madeAt g base address = madeOf g base (columnAt g address) (rowAt g address)
 -- one more of an answer's sort
 abbrev pub counted : Answer → Counts → Counts
 counted Outside c = record { inherited = c .inherited; intra = c .intra; outside = c .outside + 1 }
-counted (Intra o) c = record { inherited = c .inherited; intra = c .intra + 1; outside = c .outside }
-counted (Inherited o s) c = record { inherited = c .inherited + 1; intra = c .intra; outside = c .outside }
+counted (Intra b) c = record { inherited = c .inherited; intra = c .intra + 1; outside = c .outside }
+counted (Inherited b s) c = record { inherited = c .inherited + 1; intra = c .intra; outside = c .outside }
 
 abbrev pub noCounts : Counts
 noCounts = record { inherited = 0; intra = 0; outside = 0 }
@@ -92,24 +92,24 @@ callAt limit n base address words = macroblockCall limit n base (pos (columnAt (
 -- a reply is an answer of a sort
 abbrev pub repliesInherited : MacroblockReply → Bool
 repliesInherited (Answered Outside) = false
-repliesInherited (Answered (Intra o)) = false
-repliesInherited (Answered (Inherited o s)) = true
+repliesInherited (Answered (Intra b)) = false
+repliesInherited (Answered (Inherited b s)) = true
 repliesInherited (Declined r) = false
 
 abbrev pub repliesIntra : MacroblockReply → Bool
 repliesIntra (Answered Outside) = false
-repliesIntra (Answered (Intra o)) = true
-repliesIntra (Answered (Inherited o s)) = false
+repliesIntra (Answered (Intra b)) = true
+repliesIntra (Answered (Inherited b s)) = false
 repliesIntra (Declined r) = false
 
 abbrev pub repliesOutside : MacroblockReply → Bool
 repliesOutside (Answered Outside) = true
-repliesOutside (Answered (Intra o)) = false
-repliesOutside (Answered (Inherited o s)) = false
+repliesOutside (Answered (Intra b)) = false
+repliesOutside (Answered (Inherited b s)) = false
 repliesOutside (Declined r) = false
 
 -- Each macroblock's words are those that the one-macroblock call writes for it, and each count is the number of macroblocks for which that call's answer
--- is of its sort. (lent a: the 77 words lent to the call at address a, whatever they hold. Each macroblock is counted, so that each call answers.)
+-- is of its sort. (lent a: the 78 words lent to the call at address a, whatever they hold. Each macroblock is counted, so that each call answers.)
 pub record AsSingly (limit : ℕ) (n : Numbers) (base : List ℤ) (counts : Counts) (written : List ℤ) (lent : ℕ → List ℤ) : Type 0 where
   pub inherited : counts .inherited ≡ howMany (fullCount (axesOf n)) (λ a. repliesInherited (callAt limit n base a (lent a) .reply))
   pub intra : counts .intra ≡ howMany (fullCount (axesOf n)) (λ a. repliesIntra (callAt limit n base a (lent a) .reply))

@@ -8,7 +8,7 @@ use Rattle.definitions.specs.declared.Numbers.{Numbers}
 use Rattle.definitions.specs.declared.Counts.{Counts}
 use Rattle.definitions.specs.declared.Class.{Class}
 use Rattle.definitions.specs.declared.Class.the-variants.{Corner, Center}
-use Rattle.definitions.specs.declared.Origin.{Origin}
+use Rattle.definitions.specs.declared.Basis.{Basis}
 use Rattle.definitions.specs.declared.Split.the-variants.{S16x16}
 use Rattle.definitions.specs.declared.Answer.{Answer}
 use Rattle.definitions.specs.declared.Answer.the-variants.{Outside, Intra, Inherited}
@@ -35,16 +35,16 @@ pub record Concrete (n : Numbers) (column row : ℕ) (base : List ℤ) (answer :
   pub picture : PictureGives narrow n column row (blank (fullCount (axesOf n))) (blank 1) base answer written
   pub picture-counts : picture .counts ≡ counts
 
--- a class, from column and row 0 on
-abbrev pub fromZero : Class → Origin
-fromZero class = record { class = class; column = 0; row = 0 }
+-- a class, from column and row 0 on, without detail
+abbrev pub fromZero : Class → Basis
+fromZero class = record { origin = record { class = class; column = 0; row = 0 }; detail = 0 }
 
 -- the whole case's record with its vector doubled, and the record of an outside macroblock
 abbrev pub doubledRecord : List ℤ
-doubledRecord = laidOut (allOne 1 (record { list0 = record { reference = pos 0; x = pos 8; y = minus 16 }; list1 = unused }))
+doubledRecord = laidOut (allOne 1 (record { list0 = record { reference = pos 0; x = pos 8; y = minus 16 }; list1 = unused }) (pos 0))
 
 abbrev pub outsideRecord : List ℤ
-outsideRecord = withoutMotion 5
+outsideRecord = withoutMotion 5 (pos 0)
 
 abbrev pub threeCounts : ℕ → ℕ → ℕ → Counts
 threeCounts inherited intra outside = record { inherited = inherited; intra = intra; outside = outside }

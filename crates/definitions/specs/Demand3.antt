@@ -13,6 +13,7 @@ use Rattle.definitions.specs.declared.Counts.{Counts}
 use Rattle.definitions.specs.declared.Verdict.the-variants.{Accepted}
 use Rattle.definitions.specs.declared.Class.the-variants.{Corner}
 use Rattle.definitions.specs.declared.Origin.{Origin}
+use Rattle.definitions.specs.declared.Basis.{Basis}
 use Rattle.definitions.specs.declared.Split.{Split}
 use Rattle.definitions.specs.declared.Answer.{Answer}
 use Rattle.definitions.specs.declared.Answer.the-variants.{Outside, Intra, Inherited}
@@ -21,9 +22,10 @@ use Rattle.definitions.specs.declared.PictureReply.the-variants.{Counted
 use Rattle.definitions.specs.Basics.{pick}
 use Rattle.definitions.specs.Geometry.{axesOf, baseSize, fullSize, macroblocks, inside}
 use Rattle.definitions.specs.Splits.{Covers, pieces, oneEach, count}
-use Rattle.definitions.specs.Record.{recordWords, recordAt, wellFormed, motionOf, typeNumber, splitSaid}
+use Rattle.definitions.specs.Record.{recordWords, recordAt, wellFormed, motionOf, detailOf, typeNumber, splitSaid}
 use Rattle.definitions.specs.Inheriting.{blocksReadingIntra, inheritedMotions, motionAt}
-use Rattle.definitions.specs.Answer.{originAt, answerOrigin, columnsNamed, rowsNamed, addressesNamed, subTypes, unusedMotion}
+use Rattle.definitions.specs.Answer.{originAt, answerOrigin, answerDetail, columnsNamed, rowsNamed, addressesNamed, subTypes, unusedMotion}
+use Rattle.definitions.specs.Detail.{detailAt}
 use Rattle.definitions.specs.Refusals.{geometryVerdict, addressesRead, AllFormed}
 use Rattle.definitions.specs.Calls.{macroblockCall, pictureCall}
 use Rattle.definitions.specs.Raster.{baseCount, fullCount, fullAddress}
@@ -31,6 +33,10 @@ use Rattle.definitions.specs.Raster.{baseCount, fullCount, fullAddress}
 -- what document 01 names for a macroblock: outside class Corner, column and row 0
 abbrev pub originByPaper : Axes → ℕ → ℕ → Origin
 originByPaper g column row = pick (inside g column row) (originAt g column row) (record { class = Corner; column = 0; row = 0 })
+
+-- and the detail bits of document 02's E7: outside 0
+abbrev pub detailByPaper : Axes → List ℤ → ℕ → ℕ → ℕ
+detailByPaper g base column row = pick (inside g column row) (detailAt g base column row) 0
 
 -- The answer and the written record of the macroblock at a column and row, on a base. Other says which bases are compared with it, and Gives that on
 -- a base a call hands over an answer and a written record. Motions are those read back from the written words, and their first five say the split.
@@ -45,24 +51,27 @@ pub record Demand3 (g : Axes) (column row : ℕ) (base : List ℤ) (answer : Ans
   -- Whatever the other base records hold, the answer and its written record are the same.
   pub others : (other : List ℤ) → Other other → ((a : ℕ) → List·Memᴰ a (addressesNamed g answer) → recordAt other a ≡ recordAt base a) → Gives other answer written
   -- It is inherited exactly when the macroblock is inside the window and at most eight of its sixteen blocks read intra macroblocks,
-  pub inherited : ((o : Origin) × (s : Split) × (answer ≡ Inherited o s)) ↔ ((inside g column row ≡ true) × (blocksReadingIntra g base column row ≤ 8))
+  pub inherited : ((b : Basis) × (s : Split) × (answer ≡ Inherited b s)) ↔ ((inside g column row ≡ true) × (blocksReadingIntra g base column row ≤ 8))
   -- and intra exactly when it is inside and nine or more do;
-  pub intra : ((o : Origin) × (answer ≡ Intra o)) ↔ ((inside g column row ≡ true) × (9 ≤ blocksReadingIntra g base column row))
+  pub intra : ((b : Basis) × (answer ≡ Intra b)) ↔ ((inside g column row ≡ true) × (9 ≤ blocksReadingIntra g base column row))
   -- outside the window it inherits nothing.
   pub outside : (answer ≡ Outside) ↔ (inside g column row ≡ false)
   pub nothing : inside g column row ≡ false → (i : ℕ) → i < 16 → motionOf written i ≡ unusedMotion
   -- Inherited, its pieces cover the sixteen blocks once each,
-  pub cover : (o : Origin) (s : Split) → answer ≡ Inherited o s → Covers (pieces s)
+  pub cover : (b : Basis) (s : Split) → answer ≡ Inherited b s → Covers (pieces s)
   -- with one motion in each;
-  pub one-motion : (o : Origin) (s : Split) → answer ≡ Inherited o s → oneEach (motionOf written) s ≡ true
+  pub one-motion : (b : Basis) (s : Split) → answer ≡ Inherited b s → oneEach (motionOf written) s ≡ true
   -- each block has the motion that document 01's block map and steps fix;
-  pub motions : (o : Origin) (s : Split) → answer ≡ Inherited o s → (i : ℕ) → i < 16 → motionOf written i ≡ motionAt (inheritedMotions g base column row) i
+  pub motions : (b : Basis) (s : Split) → answer ≡ Inherited b s → (i : ℕ) → i < 16 → motionOf written i ≡ motionAt (inheritedMotions g base column row) i
   -- and every other of the 259 splits whose pieces each carry one motion has more pieces. (The type has no split but those: proofs/Pieces, all-listed.)
-  pub rivals : (o : Origin) (s : Split) → answer ≡ Inherited o s → (t : Split) → oneEach (motionOf written) t ≡ true → t ≢ s → count s < count t
+  pub rivals : (b : Basis) (s : Split) → answer ≡ Inherited b s → (t : Split) → oneEach (motionOf written) t ≡ true → t ≢ s → count s < count t
   -- Inherited, words 0 to 4 of the written record say the answer's split.
-  pub says-split : (o : Origin) (s : Split) → answer ≡ Inherited o s → take 5 written ≡ pos (typeNumber s) ∷ map pos (subTypes s)
+  pub says-split : (b : Basis) (s : Split) → answer ≡ Inherited b s → take 5 written ≡ pos (typeNumber s) ∷ map pos (subTypes s)
   -- (And read as a base record, it says that split.)
-  pub split-said : (o : Origin) (s : Split) → answer ≡ Inherited o s → splitSaid written ≡ s
+  pub split-said : (b : Basis) (s : Split) → answer ≡ Inherited b s → splitSaid written ≡ s
+  -- (Document 02, E7.) The answer's detail bits are those that the base quadrants read have, outside 0, and the written record's word 77 says them.
+  pub detail : answerDetail answer ≡ detailByPaper g base column row
+  pub says-detail : detailOf written ≡ pos (answerDetail answer)
 
 -- Made singly: the other records may hold any words.
 abbrev pub AnyWords : List ℤ → List ℤ → Type 0
@@ -76,7 +85,7 @@ Demand3Singly limit n column row words base answer written =
     Demand3 (axesOf n) column row base answer written (AnyWords base) (SinglyGives limit n column row words)
 
 -- Made with the whole picture: the other records are any well-formed ones, the answer is the one-macroblock call's on the same base, and the written
--- record is the one at the macroblock's address. (alone: 77 words lent to the one-macroblock call, whatever they hold.)
+-- record is the one at the macroblock's address. (alone: 78 words lent to the one-macroblock call, whatever they hold.)
 abbrev pub FormedWords : ℕ → Axes → List ℤ → List ℤ → Type 0
 FormedWords limit g base other = (length other ≡ length base) × AllFormed limit g other
 

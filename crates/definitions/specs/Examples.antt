@@ -18,9 +18,10 @@ use Rattle.definitions.specs.Basics.{pick, minus, eqZ, allBelow, allOf, 
 use Rattle.definitions.specs.Geometry.{axesOf, axisOf, insideAxis, cOf, mOf, nOf, fOf, twoOf, baseSize, scaledSize}
 use Rattle.definitions.specs.BlockMap.{digitsOf, coordinateOf, stepOf, addressRead, blockRead}
 use Rattle.definitions.specs.Splits.{sameMotion, samePrediction, alike, oneEach, fewestIn}
-use Rattle.definitions.specs.Record.{recordWords, recordAt, motionOf, splitSaid, rule1, rule2, rule3, rule4, rule5, rule6, firstBroken, narrow, laidOut, allOne}
+use Rattle.definitions.specs.Record.{recordWords, recordAt, motionOf, splitSaid, rule1, rule2, rule3, rule4, rule5, rule6, rule7, firstBroken, narrow, laidOut, allOne}
 use Rattle.definitions.specs.Inheriting.{setOf, intraSet, gathered, source, clearOf, filled, lower, lowest, having, unused, zeroPrediction, zeroMotion, mergedList, merged, someOf, liveOf, copiedFrom, copied, resolved, scaledWord, scaledPrediction, scaledMotion, inheritedMotions}
-use Rattle.definitions.specs.Answer.{originAt, answerOf, answerType, addressesOf, withoutMotion, writtenFor, madeOf}
+use Rattle.definitions.specs.Detail.{quadrantDetail, detailAt}
+use Rattle.definitions.specs.Answer.{originAt, basisAt, answerOf, answerType, addressesOf, withoutMotion, writtenFor, madeOf}
 use Rattle.definitions.specs.Refusals.{geometryTests, recordTests, addressesRead}
 use Rattle.definitions.specs.Calls.{macroblockTests, macroblockCall, madeAt, countsOf}
 use Rattle.definitions.specs.Text.{Entry, whole, BreaksAt, baseOf}
@@ -83,10 +84,10 @@ holds (merge p k) = allBelow 4 (λ j. samePrediction (getD (mergedList p) j zero
 
 -- an intra record, and one of type 1
 abbrev pub intraRecord : List ℤ
-intraRecord = withoutMotion 0
+intraRecord = withoutMotion 0 (pos 0)
 
 abbrev pub wholeRecord : List ℤ
-wholeRecord = laidOut (allOne 1 (record { list0 = record { reference = pos 0; x = pos 4; y = minus 8 }; list1 = unused }))
+wholeRecord = laidOut (allOne 1 (record { list0 = record { reference = pos 0; x = pos 4; y = minus 8 }; list1 = unused }) (pos 0))
 
 abbrev pub onlyLast : List ℤ
 onlyLast = intraRecord ++ (intraRecord ++ (intraRecord ++ wholeRecord))
@@ -118,7 +119,7 @@ starred =
 
 -- The starred examples hold.
 pub starred-hold : T (allOf holds starred)
-unfolding allOf allBelow pick upTo insideAxis mOf nOf fOf twoOf columnsRead digitsOf coordinateOf stepOf addressRead blockRead sameMotion samePrediction alike oneEach fewestIn recordAt motionOf splitSaid rule1 rule2 rule3 rule4 rule5 rule6 firstBroken laidOut setOf intraSet gathered source clearOf filled lower lowest having mergedList merged someOf liveOf copiedFrom copied resolved scaledPrediction scaledMotion inheritedMotions originAt answerOf addressesOf writtenFor madeOf geometryTests recordTests addressesRead macroblockTests macroblockCall ones onesIn
+unfolding allOf allBelow pick upTo insideAxis mOf nOf fOf twoOf columnsRead digitsOf coordinateOf stepOf addressRead blockRead sameMotion samePrediction alike oneEach fewestIn recordAt motionOf splitSaid rule1 rule2 rule3 rule4 rule5 rule6 rule7 firstBroken laidOut setOf intraSet gathered source clearOf filled lower lowest having mergedList merged someOf liveOf copiedFrom copied resolved scaledPrediction scaledMotion inheritedMotions originAt basisAt quadrantDetail detailAt answerOf addressesOf writtenFor madeOf geometryTests recordTests addressesRead macroblockTests macroblockCall ones onesIn
 starred-hold = tt
 
 -- The last of them holds for any vectors.
@@ -127,7 +128,7 @@ pub starred-merge : (x y : ℕ → ℤ)
 unfolding pick source lower lowest having mergedList
 starred-merge x y = refl
 
--- Whole case ("Sync text and log"): base 16 16, scaled 32 32, at 0 0, full 48 32, one record (whole (0 -1) (4 -8 0 0))
+-- Whole case ("Sync text and log"): base 16 16, scaled 32 32, at 0 0, full 48 32, one record (whole (0 -1) (4 -8 0 0) 0), whose last number is E7's
 abbrev wholeAxis : ℕ → AxisNumbers
 wholeAxis full = record { base = pos 16; scaled = pos 32; offset = pos 0; full = pos full }
 
@@ -135,7 +136,7 @@ abbrev pub wholeCase : Numbers
 wholeCase = record { horizontal = wholeAxis 48; vertical = wholeAxis 32 }
 
 abbrev pub wholeEntries : List Entry
-wholeEntries = record { kind = whole; fields = pos 0 ∷ minus 1 ∷ pos 4 ∷ minus 8 ∷ pos 0 ∷ pos 0 ∷ [] } ∷ []
+wholeEntries = record { kind = whole; fields = pos 0 ∷ minus 1 ∷ pos 4 ∷ minus 8 ∷ pos 0 ∷ pos 0 ∷ pos 0 ∷ [] } ∷ []
 
 abbrev pub wholeText : List ℕ
 wholeText =
@@ -143,7 +144,7 @@ wholeText =
     ++ ((40 ∷ 115 ∷ 99 ∷ 97 ∷ 108 ∷ 101 ∷ 100 ∷ 32 ∷ 51 ∷ 50 ∷ 32 ∷ 51 ∷ 50 ∷ 41 ∷ 10 ∷ [])
     ++ ((40 ∷ 97 ∷ 116 ∷ 32 ∷ 48 ∷ 32 ∷ 48 ∷ 41 ∷ 10 ∷ [])
     ++ ((40 ∷ 102 ∷ 117 ∷ 108 ∷ 108 ∷ 32 ∷ 52 ∷ 56 ∷ 32 ∷ 51 ∷ 50 ∷ 41 ∷ 10 ∷ [])
-    ++ (40 ∷ 119 ∷ 104 ∷ 111 ∷ 108 ∷ 101 ∷ 32 ∷ 40 ∷ 48 ∷ 32 ∷ 45 ∷ 49 ∷ 41 ∷ 32 ∷ 40 ∷ 52 ∷ 32 ∷ 45 ∷ 56 ∷ 32 ∷ 48 ∷ 32 ∷ 48 ∷ 41 ∷ 41 ∷ 10 ∷ []))))
+    ++ (40 ∷ 119 ∷ 104 ∷ 111 ∷ 108 ∷ 101 ∷ 32 ∷ 40 ∷ 48 ∷ 32 ∷ 45 ∷ 49 ∷ 41 ∷ 32 ∷ 40 ∷ 52 ∷ 32 ∷ 45 ∷ 56 ∷ 32 ∷ 48 ∷ 32 ∷ 48 ∷ 41 ∷ 32 ∷ 48 ∷ 41 ∷ 10 ∷ []))))
 
 -- the same with (note) before, between and after its lines
 abbrev pub notedText : List ℕ
@@ -154,7 +155,7 @@ notedText =
     ++ ((n ++ (n ++ (40 ∷ 97 ∷ 116 ∷ 32 ∷ 48 ∷ 32 ∷ 48 ∷ 41 ∷ 10 ∷ [])))
     ++ ((n ++ (40 ∷ 102 ∷ 117 ∷ 108 ∷ 108 ∷ 32 ∷ 52 ∷ 56 ∷ 32 ∷ 51 ∷ 50 ∷ 41 ∷ 10 ∷ []))
     ++ (n
-    ++ ((40 ∷ 119 ∷ 104 ∷ 111 ∷ 108 ∷ 101 ∷ 32 ∷ 40 ∷ 48 ∷ 32 ∷ 45 ∷ 49 ∷ 41 ∷ 32 ∷ 40 ∷ 52 ∷ 32 ∷ 45 ∷ 56 ∷ 32 ∷ 48 ∷ 32 ∷ 48 ∷ 41 ∷ 41 ∷ 10 ∷ []) ++ n)))))
+    ++ ((40 ∷ 119 ∷ 104 ∷ 111 ∷ 108 ∷ 101 ∷ 32 ∷ 40 ∷ 48 ∷ 32 ∷ 45 ∷ 49 ∷ 41 ∷ 32 ∷ 40 ∷ 52 ∷ 32 ∷ 45 ∷ 56 ∷ 32 ∷ 48 ∷ 32 ∷ 48 ∷ 41 ∷ 32 ∷ 48 ∷ 41 ∷ 10 ∷ []) ++ n)))))
 
 abbrev pub wholeLog : List ℕ
 wholeLog =
@@ -167,7 +168,7 @@ wholeLog =
     ++ (40 ∷ 115 ∷ 121 ∷ 110 ∷ 99 ∷ 32 ∷ 54 ∷ 32 ∷ 52 ∷ 32 ∷ 48 ∷ 32 ∷ 50 ∷ 41 ∷ 10 ∷ []))))))
 
 pub whole-holds : judged wholeCase 1 (baseOf wholeEntries) ≡ makes wholeLog
-unfolding allOf allBelow pick upTo insideAxis mOf nOf fOf twoOf columnsRead digitsOf coordinateOf stepOf addressRead blockRead sameMotion samePrediction alike oneEach fewestIn recordAt motionOf splitSaid rule1 rule2 rule3 rule4 rule5 rule6 firstBroken laidOut setOf intraSet gathered source clearOf filled lower lowest having mergedList merged someOf liveOf copiedFrom copied resolved scaledPrediction scaledMotion inheritedMotions originAt answerOf addressesOf writtenFor madeOf geometryTests recordTests ones onesIn madeAt countsOf digitsIn decimal lineOf macroblockLine syncLine pictureLines programTests
+unfolding allOf allBelow pick upTo insideAxis mOf nOf fOf twoOf columnsRead digitsOf coordinateOf stepOf addressRead blockRead sameMotion samePrediction alike oneEach fewestIn recordAt motionOf splitSaid rule1 rule2 rule3 rule4 rule5 rule6 rule7 firstBroken laidOut setOf intraSet gathered source clearOf filled lower lowest having mergedList merged someOf liveOf copiedFrom copied resolved scaledPrediction scaledMotion inheritedMotions originAt basisAt quadrantDetail detailAt answerOf addressesOf writtenFor madeOf geometryTests recordTests ones onesIn madeAt countsOf digitsIn decimal lineOf macroblockLine syncLine pictureLines programTests
 whole-holds = refl
 
 -- Refusal 9: a text, and its place

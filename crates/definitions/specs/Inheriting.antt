@@ -1,5 +1,5 @@
 -- "Inheriting" of document 01, steps 1 to 5.
-use Prim.Native.Nat.{ℕ, zero, suc, _+_, _*_, _/_, _%_, _^_}
+use Prim.Native.Nat.{ℕ, zero, suc, _+_, _*_, _/_, _^_}
 use mathlib.Core.Bool.{Bool, false, not, _||_}
 use mathlib.Core.List.{List, []}
 use lib.Count.{ones}
@@ -11,7 +11,7 @@ use Rattle.definitions.specs.declared.Axes.{Axes}
 use Rattle.definitions.specs.declared.Prediction.{Prediction}
 use Rattle.definitions.specs.declared.Motion.{Motion}
 use Rattle.definitions.specs.declared.Split.{Split}
-use Rattle.definitions.specs.Basics.{pick, minus, eqZ, down, howMany, four}
+use Rattle.definitions.specs.Basics.{pick, minus, eqZ, bitSet, down, howMany, four}
 use Rattle.definitions.specs.Geometry.{baseSize, scaledSize}
 use Rattle.definitions.specs.BlockMap.{addressRead, blockRead}
 use Rattle.definitions.specs.Record.{recordAt, isIntra, motionOf, used}
@@ -32,7 +32,7 @@ setOf zero f = 0
 setOf (suc n) f = setOf n f + pick (f n) (2 ^ n) 0
 
 abbrev pub marked : ℕ → ℕ → Bool
-marked set i = eqb (set / 2 ^ i % 2) 1
+marked set i = bitSet set i
 
 unfoldable pub intraSet : Axes → List ℤ → ℕ → ℕ → ℕ
 intraSet g base column row = setOf 16 (readsIntra g base column row)

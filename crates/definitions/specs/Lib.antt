@@ -1,4 +1,4 @@
--- Document 01 as definitions, in its order, with step 4 of "Inheriting" as document 02's E3 has it: read these files from the top with the paper beside them.
+-- Document 01 as definitions, in its order, with step 4 of "Inheriting" as document 02's E3 has it, and its E7 (detail): read these files from the top with the papers beside them.
 pub mod Basics
 pub mod Geometry
 pub mod Raster
@@ -9,6 +9,7 @@ pub mod Splits
 pub mod Record
 pub mod Inheriting
 pub mod Why
+pub mod Detail
 pub mod Answer
 pub mod Refusals
 pub mod Calls

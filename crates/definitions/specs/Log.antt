@@ -52,8 +52,8 @@ refusedWord = 114 ∷ 101 ∷ 102 ∷ 117 ∷ 115 ∷ 101 ∷ 100 ∷ []
 -- pieces: those of the answer's split, 0 for types 0 and 5
 abbrev pub answerPieces : Answer → ℕ
 answerPieces Outside = 0
-answerPieces (Intra o) = 0
-answerPieces (Inherited o s) = count s
+answerPieces (Intra b) = 0
+answerPieces (Inherited b s) = count s
 
 -- (mb column row type pieces), of the macroblock at an address
 unfoldable pub macroblockLine : Axes → List ℤ → ℕ → List ℕ

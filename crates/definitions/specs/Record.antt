@@ -1,9 +1,9 @@
--- "A motion record" of document 01: its layout, and when it is well formed.
+-- "A motion record" of document 01, with the word that document 02's E7 adds: its layout, and when it is well formed.
 use Prim.Native.Nat.{ℕ, _+_, _*_, _-_}
 use mathlib.Core.Bool.{Bool, not, _&&_, _||_}
 use mathlib.Core.List.{List, [], _∷_, _++_}
 use lib.Dec.{eqb}
-use lib.IntN.{ℤ, pos}
+use lib.IntN.{ℤ, pos, natAbs}
 use lib.ListN.{getD, take, drop}
 use Rattle.definitions.specs.declared.Prediction.{Prediction}
 use Rattle.definitions.specs.declared.Motion.{Motion}
@@ -11,13 +11,13 @@ use Rattle.definitions.specs.declared.SubSplit.{SubSplit}
 use Rattle.definitions.specs.declared.SubSplit.the-variants.{S8x8, S8x4, S4x8, S4x4}
 use Rattle.definitions.specs.declared.Split.{Split}
 use Rattle.definitions.specs.declared.Split.the-variants.{S16x16, S16x8, S8x16, S8x8 as Quarters}
-use Rattle.definitions.specs.Basics.{pick, minus, eqZ, between, allBelow, upTo, forEach}
+use Rattle.definitions.specs.Basics.{pick, minus, eqZ, between, bitSet, allBelow, upTo, forEach}
 use Rattle.definitions.specs.Splits.{oneEach}
 use Rattle.definitions.specs.Blocks.{quadrantOf, rasterOf}
 
--- 77 signed 16-bit words
+-- 78 signed 16-bit words (77 before E7)
 abbrev pub recordWords : ℕ
-recordWords = 77
+recordWords = 78
 
 -- Vector words are −L..L − 1. L is a parameter of rule 5 and of all that cites it; its value for these records, the narrow one:
 abbrev pub narrow : ℕ
@@ -28,7 +28,7 @@ unfoldable pub recordAt : List ℤ → ℕ → List ℤ
 recordAt base a = take recordWords (drop (recordWords * a) base)
 
 -- Reading a record. Word 0: type. Words 1 to 4: sub-type of quadrants 0 to 3. Words 5 + 2q + l: reference of quadrant q in list l.
--- Words 13 + 4b + 2l, and the next: horizontal and vertical vector of block b in list l.
+-- Words 13 + 4b + 2l, and the next: horizontal and vertical vector of block b in list l. Word 77: detail.
 abbrev pub wordOf : List ℤ → ℕ → ℤ
 wordOf r w = getD r w (pos 0)
 
@@ -46,6 +46,13 @@ vectorXOf r b l = wordOf r (13 + 4 * b + 2 * l)
 
 abbrev pub vectorYOf : List ℤ → ℕ → ℕ → ℤ
 vectorYOf r b l = wordOf r (13 + 4 * b + 2 * l + 1)
+
+abbrev pub detailOf : List ℤ → ℤ
+detailOf r = wordOf r 77
+
+-- Bit q of the four low bits says that the base has luma coefficients in quadrant q.
+abbrev pub hasDetail : List ℤ → ℕ → Bool
+hasDetail r q = bitSet (natAbs (detailOf r)) q
 
 -- type 0 is intra
 abbrev pub isIntra : List ℤ → Bool
@@ -118,19 +125,25 @@ rule5 limit r =
 unfoldable pub rule6 : List ℤ → Bool
 rule6 r = isIntra r || oneEach (motionOf r) (splitSaid r)
 
+-- (7) values 0..15 of word 77 (document 02, E7), tested last
+unfoldable pub rule7 : List ℤ → Bool
+rule7 r = between (pos 0) (pos 15) (detailOf r)
+
 -- the first broken rule, or 0
 unfoldable pub firstBroken : ℕ → List ℤ → ℕ
 firstBroken limit r =
-    pick (not (rule1 r)) 1 (pick (not (rule2 r)) 2 (pick (not (rule3 r)) 3 (pick (not (rule4 r)) 4 (pick (not (rule5 limit r)) 5 (pick (not (rule6 r)) 6 0)))))
+    pick (not (rule1 r)) 1 (pick (not (rule2 r)) 2 (pick (not (rule3 r)) 3 (pick (not (rule4 r)) 4 (pick (not (rule5 limit r)) 5 (pick (not (rule6 r)) 6
+    (pick (not (rule7 r)) 7 0))))))
 
 abbrev pub wellFormed : ℕ → List ℤ → Bool
 wellFormed limit r = eqb (firstBroken limit r) 0
 
--- Writing a record. What it says: its type, the sub-types of its quadrants, and the motions of its blocks.
+-- Writing a record. What it says: its type, the sub-types of its quadrants, the motions of its blocks, and its detail.
 pub record Contents : Type 0 where
   pub kind : ℕ
   pub sub : ℕ → ℕ
   pub motion : ℕ → Motion
+  pub detail : ℤ
 
 abbrev pub referencesOf : Motion → List ℤ
 referencesOf m = m .list0 .reference ∷ m .list1 .reference ∷ []
@@ -138,14 +151,15 @@ referencesOf m = m .list0 .reference ∷ m .list1 .reference ∷ []
 abbrev pub vectorsOf : Motion → List ℤ
 vectorsOf m = m .list0 .x ∷ m .list0 .y ∷ m .list1 .x ∷ m .list1 .y ∷ []
 
--- Its words: type, sub-types, the references of the quadrants (those of a quadrant's first block), the vectors of the blocks
+-- Its words: type, sub-types, the references of the quadrants (those of a quadrant's first block), the vectors of the blocks, detail
 unfoldable pub laidOut : Contents → List ℤ
 laidOut c =
     pos (c .kind)
     ∷ (upTo 4 (λ q. pos (c .sub q))
     ++ (forEach (upTo 4 (λ q. q)) (λ q. referencesOf (c .motion (rasterOf q 0)))
-    ++ forEach (upTo 16 (λ b. b)) (λ b. vectorsOf (c .motion b))))
+    ++ (forEach (upTo 16 (λ b. b)) (λ b. vectorsOf (c .motion b))
+    ++ (c .detail ∷ []))))
 
 -- one motion in all blocks, and no sub-types
-abbrev pub allOne : ℕ → Motion → Contents
-allOne kind m = record { kind = kind; sub = λ q. 0; motion = λ b. m }
+abbrev pub allOne : ℕ → Motion → ℤ → Contents
+allOne kind m detail = record { kind = kind; sub = λ q. 0; motion = λ b. m; detail = detail }

@@ -63,7 +63,7 @@ geometryTests n =
 abbrev pub geometryVerdict : Numbers → Verdict
 geometryVerdict n = verdictOf (geometryTests n)
 
--- 5: base length is not 77 times its macroblocks
+-- 5: base length is not 78 times its macroblocks
 abbrev pub baseTest : Axes → List ℤ → Test
 baseTest g base = test (not (eqb (length base) (recordWords * baseCount g))) (refusal 5)
 

@@ -24,7 +24,7 @@ use Rattle.definitions.specs.Calls.{Outcome, byVerdict, callAt, madeAt, 
 use Rattle.definitions.specs.Raster.{fullCount}
 
 -- ---- Session, handed over and back by value
--- The calls: begin(geometry); next(base, 77 words); abandon; totals.
+-- The calls: begin(geometry); next(base, 78 words); abandon; totals.
 pub data Call : Type 0 where
   begin : Numbers → Call
   next : List ℤ → List ℤ → Call

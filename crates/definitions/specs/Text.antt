@@ -113,17 +113,17 @@ letter intraLine = 105
 letter wholeLine = 119
 letter mbLine = 109
 
--- what comes after the letter: (base W H), (scaled W H), (at X Y), (full W H), (intra), (whole (R0 R1) (X0 Y0 X1 Y1)),
--- (mb T (4 sub-types) (8 references) (64 vector words)), line feed after each
+-- what comes after the letter: (base W H), (scaled W H), (at X Y), (full W H), (intra D), (whole (R0 R1) (X0 Y0 X1 Y1) D),
+-- (mb T (4 sub-types) (8 references) (64 vector words) D), line feed after each. (D, the record's detail, is document 02's E7.)
 abbrev pub tailOf : Kind → List Part
 tailOf baseLine = bytesThen (97 ∷ 115 ∷ 101 ∷ 32 ∷ []) (numbersThen 1 (byte 10 ∷ []))
 tailOf scaledLine = bytesThen (99 ∷ 97 ∷ 108 ∷ 101 ∷ 100 ∷ 32 ∷ []) (numbersThen 1 (byte 10 ∷ []))
 tailOf atLine = bytesThen (116 ∷ 32 ∷ []) (numbersThen 1 (byte 10 ∷ []))
 tailOf fullLine = bytesThen (117 ∷ 108 ∷ 108 ∷ 32 ∷ []) (numbersThen 1 (byte 10 ∷ []))
-tailOf intraLine = bytesThen (110 ∷ 116 ∷ 114 ∷ 97 ∷ 41 ∷ 10 ∷ []) []
-tailOf wholeLine = bytesThen (104 ∷ 111 ∷ 108 ∷ 101 ∷ 32 ∷ 40 ∷ []) (numbersThen 1 (bytesThen (32 ∷ 40 ∷ []) (numbersThen 3 (bytesThen (41 ∷ 10 ∷ []) []))))
+tailOf intraLine = bytesThen (110 ∷ 116 ∷ 114 ∷ 97 ∷ 32 ∷ []) (numbersThen 0 (byte 10 ∷ []))
+tailOf wholeLine = bytesThen (104 ∷ 111 ∷ 108 ∷ 101 ∷ 32 ∷ 40 ∷ []) (numbersThen 1 (bytesThen (32 ∷ 40 ∷ []) (numbersThen 3 (byte 32 ∷ numbersThen 0 (byte 10 ∷ [])))))
 tailOf mbLine =
-    bytesThen (98 ∷ 32 ∷ []) (spaced ∷ bytesThen (40 ∷ []) (numbersThen 3 (bytesThen (32 ∷ 40 ∷ []) (numbersThen 7 (bytesThen (32 ∷ 40 ∷ []) (numbersThen 63 (bytesThen (41 ∷ 10 ∷ []) [])))))))
+    bytesThen (98 ∷ 32 ∷ []) (spaced ∷ bytesThen (40 ∷ []) (numbersThen 3 (bytesThen (32 ∷ 40 ∷ []) (numbersThen 7 (bytesThen (32 ∷ 40 ∷ []) (numbersThen 63 (byte 32 ∷ numbersThen 0 (byte 10 ∷ []))))))))
 
 -- a line of a kind, with its numbers
 abbrev pub LineOf : Kind → List ℤ → List ℕ → Type 0
@@ -190,7 +190,7 @@ pub record BreaksAt (t : List ℕ) (place : ℕ) : Type 0 where
   pub there : place < length t → CanGoOn (take (place + 1) t) → ⊥
 
 -- ---- The words of a record line
--- the one motion of a line (whole (R0 R1) (X0 Y0 X1 Y1)), by its numbers in order
+-- the one motion of a line (whole (R0 R1) (X0 Y0 X1 Y1) D), by its numbers in order
 abbrev pub wholeMotion : List ℤ → Motion
 wholeMotion v =
     record {
@@ -198,10 +198,10 @@ wholeMotion v =
       list1 = record { reference = wordOf v 1; x = wordOf v 4; y = wordOf v 5 };
     }
 
--- (intra) is type 0; (whole ..) is type 1, with its motion in all blocks; the numbers of (mb ..) are the words, in order
+-- (intra ..) is type 0; (whole ..) is type 1, with its motion in all blocks; the last word of both is the line's last number, D. The numbers of (mb ..) are the words, in order.
 abbrev pub wordsFor : RecordKind → List ℤ → List ℤ
-wordsFor intra v = withoutMotion 0
-wordsFor whole v = laidOut (allOne 1 (wholeMotion v))
+wordsFor intra v = withoutMotion 0 (wordOf v 0)
+wordsFor whole v = laidOut (allOne 1 (wholeMotion v) (wordOf v 6))
 wordsFor mb v = v
 
 abbrev pub wordsOf : Entry → List ℤ

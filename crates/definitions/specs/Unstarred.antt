@@ -16,6 +16,7 @@ use Rattle.definitions.specs.declared.SubSplit.the-variants.{S8x8, S8x4,
 use Rattle.definitions.specs.declared.Split.{Split}
 use Rattle.definitions.specs.declared.Split.the-variants.{S16x16, S16x8, S8x16, S8x8 as Quarters}
 use Rattle.definitions.specs.declared.Axes.{Axes}
+use Rattle.definitions.specs.declared.Basis.{Basis}
 use Rattle.definitions.specs.declared.Answer.{Answer}
 use Rattle.definitions.specs.declared.Answer.the-variants.{Outside, Intra, Inherited}
 use Rattle.definitions.specs.declared.Verdict.{Verdict}
@@ -35,9 +36,10 @@ use Rattle.definitions.specs.Raster.{baseAddress}
 use Rattle.definitions.specs.Geometry.{axisOf, insideAxis, mOf, nOf, fOf, twoOf, columnsRead}
 use Rattle.definitions.specs.BlockMap.{digitsOf, coordinateOf, stepOf, addressRead, blockRead}
 use Rattle.definitions.specs.Splits.{sameMotion, samePrediction, alike, oneEach, fewestIn}
-use Rattle.definitions.specs.Record.{recordAt, motionOf, splitSaid, rule1, rule2, rule3, rule4, rule5, rule6, firstBroken, narrow, laidOut}
+use Rattle.definitions.specs.Record.{recordAt, motionOf, splitSaid, rule1, rule2, rule3, rule4, rule5, rule6, rule7, firstBroken, narrow, laidOut}
 use Rattle.definitions.specs.Inheriting.{setOf, intraSet, gathered, source, clearOf, filled, lower, lowest, having, mergedList, merged, someOf, liveOf, copiedFrom, copied, resolved, scaledPrediction, scaledMotion, inheritedMotions}
-use Rattle.definitions.specs.Answer.{originAt, answerOf, columnsNamed, rowsNamed, addressesNamed, addressesOf, writtenFor, madeOf}
+use Rattle.definitions.specs.Detail.{quadrantDetail, detailAt}
+use Rattle.definitions.specs.Answer.{originAt, basisAt, answerOf, columnsNamed, rowsNamed, addressesNamed, addressesOf, writtenFor, madeOf}
 use Rattle.definitions.specs.Refusals.{refusal, geometryTests, geometryVerdict, recordTests, addressesRead}
 use Rattle.definitions.specs.Calls.{Outcome, macroblockTests, macroblockCall, pictureTests, pictureCall, madeAt, countsOf}
 use Rattle.definitions.specs.Text.{RecordKind, Entry, intra, whole, mb, wholeLine, LineOf, Note, Text, BreaksAt, baseOf, Reading, notRead, readAs, Reads, TextAnswer}
@@ -115,9 +117,12 @@ withAcross b s o e = by (axisWith b s o e) plain
 abbrev withDown : ℤ → ℤ → ℤ → ℤ → Numbers
 withDown b s o e = by plain (axisWith b s o e)
 
--- ---- Records by their words: type, sub-types, references, vector words
+-- ---- Records by their words: type, sub-types, references, vector words, detail; without detail
+abbrev detailed : ℤ → List ℤ → List ℤ → List ℤ → ℤ → List ℤ
+detailed type sub references vectors detail = type ∷ (sub ++ (references ++ (vectors ++ (detail ∷ []))))
+
 abbrev words : ℤ → List ℤ → List ℤ → List ℤ → List ℤ
-words type sub references vectors = type ∷ (sub ++ (references ++ vectors))
+words type sub references vectors = detailed type sub references vectors (pos 0)
 
 abbrev listOf4 : ℤ → ℤ → ℤ → ℤ → List ℤ
 listOf4 a b c d = a ∷ b ∷ c ∷ d ∷ []
@@ -157,9 +162,13 @@ secondList r x y = words (pos 1) noSub (both (minus 1) (pos r)) (allBlocks (bloc
 abbrev noMotion : List ℤ
 noMotion = words (pos 0) noSub (both (minus 1) (minus 1)) (allBlocks (block 0 0 0 0))
 
+-- a class from a column and row 0 on, without detail
+abbrev ofClass : Class → ℕ → Basis
+ofClass class column = record { origin = record { class = class; column = column; row = 0 }; detail = 0 }
+
 -- the macroblock is inherited, with a class from column and row 0 on, a split, and these words
 abbrev inherits : Class → Split → List ℤ → Outcome MacroblockReply
-inherits class split w = record { reply = Answered (Inherited (record { class = class; column = 0; row = 0 }) split); words = w }
+inherits class split w = record { reply = Answered (Inherited (ofClass class 0) split); words = w }
 
 -- 8×8 with sub-types by quadrant
 abbrev quarters : SubSplit → SubSplit → SubSplit → SubSplit → Split
@@ -271,7 +280,7 @@ abbrev clip : Numbers
 clip = by (axisWith (pos 32) (pos 48) (pos 4) (pos 64)) plain
 
 abbrev clipRecord : ℤ → Entry
-clipRecord x = entry whole (listOf4 (pos 0) (minus 1) x (minus 8) ++ (pos 0 ∷ pos 0 ∷ []))
+clipRecord x = entry whole (listOf4 (pos 0) (minus 1) x (minus 8) ++ (pos 0 ∷ pos 0 ∷ pos 0 ∷ []))
 
 abbrev clipWords : List ℤ
 clipWords =
@@ -290,27 +299,27 @@ clipLog =
 abbrev pub unstarred : List Instance
 unstarred =
     -- What a macroblock inherits. At ratio 1 a record is written as it was read;
-    call (by plain plain) various (pos 0) (pos 0) 77 (inherits Corner (quarters S8x8 S8x4 S4x8 S4x4) various)
+    call (by plain plain) various (pos 0) (pos 0) 78 (inherits Corner (quarters S8x8 S8x4 S4x8 S4x4) various)
     -- each axis has its own ratio, its own blocks and its own word of a vector; all four sub-types;
-    ∷ call wide differing (pos 2) (pos 0) 77 (inherits Vert (quarters S8x8 S4x8 S8x4 S4x4) inWide)
-    ∷ call tall differing (pos 0) (pos 2) 77 (inherits Hori (quarters S8x8 S4x8 S8x4 S4x4) inTall)
+    ∷ call wide differing (pos 2) (pos 0) 78 (inherits Vert (quarters S8x8 S4x8 S8x4 S4x4) inWide)
+    ∷ call tall differing (pos 0) (pos 2) 78 (inherits Hori (quarters S8x8 S4x8 S8x4 S4x4) inTall)
     -- base 0 intra, and base 0 with another reference in list 1: the horizontal neighbour's motion, though the vertical one serves too and differs;
-    ∷ call centre (noMotion ++ (firstList 0 1 2 ++ (firstList 0 3 4 ++ firstList 0 5 6))) (pos 1) (pos 1) 77
+    ∷ call centre (noMotion ++ (firstList 0 1 2 ++ (firstList 0 3 4 ++ firstList 0 5 6))) (pos 1) (pos 1) 78
     (inherits Center (quarters S4x4 S8x4 S4x8 S8x8) (words (pos 4) (listOf4 (pos 3) (pos 1) (pos 2) (pos 0)) (both (pos 0) (minus 1)) (fromRight (λ x y. block x y 0 0))))
-    ∷ call centre (secondList 1 7 8 ++ (secondList 0 1 2 ++ (secondList 0 3 4 ++ secondList 0 5 6))) (pos 1) (pos 1) 77
+    ∷ call centre (secondList 1 7 8 ++ (secondList 0 1 2 ++ (secondList 0 3 4 ++ secondList 0 5 6))) (pos 1) (pos 1) 78
     (inherits Center (quarters S4x4 S8x4 S4x8 S8x8) (words (pos 4) (listOf4 (pos 3) (pos 1) (pos 2) (pos 0)) (both (minus 1) (pos 0)) (fromRight (λ x y. block 0 0 x y))))
     -- step 3: a quadrant all intra has the horizontal one's motion, though the vertical one differs; where both are, the vertical one's.
-    ∷ call twiceAsLarge (noMotion ++ (firstList 0 1 2 ++ (firstList 0 3 4 ++ firstList 0 3 4))) (pos 2) (pos 2) 77
+    ∷ call twiceAsLarge (noMotion ++ (firstList 0 1 2 ++ (firstList 0 3 4 ++ firstList 0 3 4))) (pos 2) (pos 2) 78
     (inherits Center S16x8 (words (pos 2) noSub (both (pos 0) (minus 1)) (rowOf4 (ofAll (block 2 4 0 0)) (ofAll (block 2 4 0 0)) (ofAll (block 6 8 0 0)) (ofAll (block 6 8 0 0)))))
-    ∷ call twiceAsLarge (noMotion ++ (noMotion ++ (firstList 0 3 4 ++ firstList 0 5 6))) (pos 2) (pos 2) 77
+    ∷ call twiceAsLarge (noMotion ++ (noMotion ++ (firstList 0 3 4 ++ firstList 0 5 6))) (pos 2) (pos 2) 78
     (inherits Center S8x16 (words (pos 3) noSub (both (pos 0) (minus 1)) (ofAll (rowOf4 (block 6 8 0 0) (block 6 8 0 0) (block 10 12 0 0) (block 10 12 0 0)))))
     -- Block for block: quadrant 0, all intra, has the four motions of quadrant 1.
     ∷ call shifted
     (noMotion ++ (words (pos 4) (listOf4 (pos 3) (pos 3) (pos 3) (pos 3)) (both (pos 0) (pos 2)) (rising 1) ++ (firstList 0 3 4 ++ firstList 0 5 6)))
-    (pos 1) (pos 1) 77
+    (pos 1) (pos 1) 78
     (inherits Center (quarters S4x4 S4x4 S8x8 S8x8) copiedThere)
     -- Base 0 and 1 intra: the vertical neighbour's motion, though the diagonal one serves too and differs.
-    ∷ call centre (noMotion ++ (noMotion ++ (firstList 0 3 4 ++ firstList 0 5 6))) (pos 1) (pos 1) 77
+    ∷ call centre (noMotion ++ (noMotion ++ (firstList 0 3 4 ++ firstList 0 5 6))) (pos 1) (pos 1) 78
     (inherits Center (quarters S4x8 S8x8 S4x8 S8x8)
     (words (pos 4) (listOf4 (pos 2) (pos 0) (pos 2) (pos 0)) (both (pos 0) (minus 1))
     (ofAll (rowOf4 (block 3 4 0 0) (block 5 6 0 0) (block 5 6 0 0) (block 5 6 0 0)))))
@@ -348,18 +357,18 @@ unstarred =
     ∷ geometry (by (axisWith (pos 16) (pos 15) (pos 0) (pos 16)) (axisWith (pos 16) (pos 16) (pos 0) (pos 8))) 2
     ∷ geometry (withAcross (pos 16) (pos 15) (pos 1) (pos 16)) 3
     ∷ geometry (by (axisWith (pos 16) (pos 16) (pos 1) (pos 16)) (axisWith (pos 16) (pos 15) (pos 0) (pos 16))) 3
-    ∷ call (withAcross (pos 16) (pos 16) (pos 1) (pos 16)) [] (pos 0) (pos 0) 77 (declines 77 4 0 0)
-    ∷ call (by plain plain) [] (pos 0) (pos 0) 76 (declines 76 5 0 0)
-    ∷ call (by plain plain) noMotion (pos 1) (pos 0) 76 (declines 76 6 0 0)
-    ∷ call (withAcross (pos 16) (pos 32) (pos 0) (pos 16)) (ofType (pos 5)) (pos 1) (pos 0) 77 (declines 77 7 0 0)
+    ∷ call (withAcross (pos 16) (pos 16) (pos 1) (pos 16)) [] (pos 0) (pos 0) 78 (declines 78 4 0 0)
+    ∷ call (by plain plain) [] (pos 0) (pos 0) 77 (declines 77 5 0 0)
+    ∷ call (by plain plain) noMotion (pos 1) (pos 0) 77 (declines 77 6 0 0)
+    ∷ call (withAcross (pos 16) (pos 32) (pos 0) (pos 16)) (ofType (pos 5)) (pos 1) (pos 0) 78 (declines 78 7 0 0)
     -- 5, 6 and 7, and 8 with its place and rule
-    ∷ call (by plain plain) (noMotion ++ (pos 0 ∷ [])) (pos 0) (pos 0) 77 (declines 77 5 0 0)
-    ∷ call (by plain plain) noMotion (pos 0) (pos 0) 78 (declines 78 6 0 0)
-    ∷ call (by plain plain) noMotion (minus 1) (pos 0) 77 (declines 77 7 0 0)
-    ∷ call (by plain plain) noMotion (pos 0) (pos 1) 77 (declines 77 7 0 0)
-    ∷ call (by plain plain) noMotion (pos 0) (minus 1) 77 (declines 77 7 0 0)
-    ∷ call (withAcross (pos 16) (pos 32) (pos 0) (pos 16)) (ofType (pos 5)) (pos 0) (pos 0) 77 (declines 77 8 0 1)
-    ∷ call centre (firstList 0 1 2 ++ (ofReferences (both (pos 32) (minus 1)) ++ (ofType (pos 5) ++ firstList 0 5 6))) (pos 1) (pos 1) 77 (declines 77 8 1 3)
+    ∷ call (by plain plain) (noMotion ++ (pos 0 ∷ [])) (pos 0) (pos 0) 78 (declines 78 5 0 0)
+    ∷ call (by plain plain) noMotion (pos 0) (pos 0) 79 (declines 79 6 0 0)
+    ∷ call (by plain plain) noMotion (minus 1) (pos 0) 78 (declines 78 7 0 0)
+    ∷ call (by plain plain) noMotion (pos 0) (pos 1) 78 (declines 78 7 0 0)
+    ∷ call (by plain plain) noMotion (pos 0) (minus 1) 78 (declines 78 7 0 0)
+    ∷ call (withAcross (pos 16) (pos 32) (pos 0) (pos 16)) (ofType (pos 5)) (pos 0) (pos 0) 78 (declines 78 8 0 1)
+    ∷ call centre (firstList 0 1 2 ++ (ofReferences (both (pos 32) (minus 1)) ++ (ofType (pos 5) ++ firstList 0 5 6))) (pos 1) (pos 1) 78 (declines 78 8 1 3)
     -- Limits of a record, each on both sides: type and sub-types,
     ∷ rule (ofType (pos 1)) 0
     ∷ rule (ofType (pos 4)) 0
@@ -400,15 +409,15 @@ unstarred =
     ∷ rule (words (pos 1) noSub (oneQuadrant (minus 1) (minus 1)) (allBlocks (block 1 2 0 0))) 4
     ∷ rule (words (pos 1) noSub (both (pos 0) (pos 0)) (rising 8150)) 5
     -- The words of record lines, in order,
-    ∷ lines (entry intra [] ∷ entry whole (listOf4 (pos 1) (pos 2) (pos 3) (pos 4) ++ (pos 5 ∷ pos 6 ∷ [])) ∷ entry mb various ∷ [])
+    ∷ lines (entry intra (pos 0 ∷ []) ∷ entry whole (listOf4 (pos 1) (pos 2) (pos 3) (pos 4) ++ (pos 5 ∷ pos 6 ∷ pos 0 ∷ [])) ∷ entry mb various ∷ [])
     (noMotion ++ (words (pos 1) noSub (both (pos 1) (pos 2)) (allBlocks (block 3 4 5 6)) ++ various))
     -- and the log of a refusal: too many lines, though a record is malformed; and a malformed record, the second.
-    ∷ log (by plain plain) (entry intra [] ∷ entry mb (ofType (pos 5)) ∷ []) (refusedLog 5 0)
-    ∷ log (by (axisWith (pos 32) (pos 32) (pos 0) (pos 32)) plain) (entry intra [] ∷ entry mb (ofType (pos 5)) ∷ []) (refusedLog 8 1)
+    ∷ log (by plain plain) (entry intra (pos 0 ∷ []) ∷ entry mb (ofType (pos 5)) ∷ []) (refusedLog 5 0)
+    ∷ log (by (axisWith (pos 32) (pos 32) (pos 0) (pos 32)) plain) (entry intra (pos 0 ∷ []) ∷ entry mb (ofType (pos 5)) ∷ []) (refusedLog 8 1)
     -- The clip of docs/WHY.md: its second macroblock, its third, which reads base column 1, and its log.
-    ∷ call clip (ofVector (pos 3) (minus 8) ++ ofVector (pos 7) (minus 8)) (pos 1) (pos 0) 77 (inherits Vert (quarters S8x8 S4x8 S8x8 S4x8) clipWords)
-    ∷ call clip (ofVector (pos 3) (minus 8) ++ ofVector (pos 7) (minus 8)) (pos 2) (pos 0) 77
-    (record { reply = Answered (Inherited (record { class = Corner; column = 1; row = 0 }) S16x16); words = ofVector (pos 11) (minus 8) })
+    ∷ call clip (ofVector (pos 3) (minus 8) ++ ofVector (pos 7) (minus 8)) (pos 1) (pos 0) 78 (inherits Vert (quarters S8x8 S4x8 S8x8 S4x8) clipWords)
+    ∷ call clip (ofVector (pos 3) (minus 8) ++ ofVector (pos 7) (minus 8)) (pos 2) (pos 0) 78
+    (record { reply = Answered (Inherited (ofClass Corner 1) S16x16); words = ofVector (pos 11) (minus 8) })
     ∷ log clip (clipRecord (pos 3) ∷ clipRecord (pos 7) ∷ []) clipLog
     -- What the axis across gives for its second macroblock: k, M, N, F, two columns, and the coordinates. And where Z and p(j) round up by B/2, with o below 0.
     ∷ step (axisWith (pos 32) (pos 48) (pos 4) (pos 64)) 16
@@ -423,20 +432,20 @@ unstarred =
     ∷ takes (false ∷ false ∷ true ∷ true ∷ []) (2 ∷ 3 ∷ 2 ∷ 3 ∷ [])
     ∷ takes (false ∷ false ∷ false ∷ true ∷ []) (3 ∷ 3 ∷ 3 ∷ 3 ∷ [])
     -- The picture call, where two refusals apply: the first of them. Too many words; and 8 of a record that no macroblock reads.
-    ∷ picture (withAcross (pos 16) (pos 16) (pos 1) (pos 16)) [] 77 (refusal 4)
+    ∷ picture (withAcross (pos 16) (pos 16) (pos 1) (pos 16)) [] 78 (refusal 4)
     ∷ picture (by plain plain) [] 0 (refusal 5)
-    ∷ picture (by plain plain) (ofType (pos 5)) 76 (refusal 6)
-    ∷ picture (by plain plain) noMotion 154 (refusal 6)
-    ∷ picture (by (axisWith (pos 32) (pos 32) (pos 0) (pos 16)) plain) (noMotion ++ ofType (pos 5)) 77 (record { number = 8; place = 1; rule = 1 })
+    ∷ picture (by plain plain) (ofType (pos 5)) 77 (refusal 6)
+    ∷ picture (by plain plain) noMotion 156 (refusal 6)
+    ∷ picture (by (axisWith (pos 32) (pos 32) (pos 0) (pos 16)) plain) (noMotion ++ ofType (pos 5)) 78 (record { number = 8; place = 1; rule = 1 })
     -- The log of too few lines, and of an intra macroblock: (mb 0 0 0 0), (sync 1 0 1 0).
-    ∷ log (by (axisWith (pos 32) (pos 32) (pos 0) (pos 32)) plain) (entry intra [] ∷ []) (refusedLog 5 0)
-    ∷ log (by plain plain) (entry intra [] ∷ [])
+    ∷ log (by (axisWith (pos 32) (pos 32) (pos 0) (pos 32)) plain) (entry intra (pos 0 ∷ []) ∷ []) (refusedLog 5 0)
+    ∷ log (by plain plain) (entry intra (pos 0 ∷ []) ∷ [])
     ((40 ∷ 109 ∷ 98 ∷ 32 ∷ 48 ∷ 32 ∷ 48 ∷ 32 ∷ 48 ∷ 32 ∷ 48 ∷ 41 ∷ 10 ∷ []) ++ (40 ∷ 115 ∷ 121 ∷ 110 ∷ 99 ∷ 32 ∷ 49 ∷ 32 ∷ 48 ∷ 32 ∷ 49 ∷ 32 ∷ 48 ∷ 41 ∷ 10 ∷ []))
     ∷ []
 
 -- They hold.
 pub unstarred-hold : map given unstarred ≡ map expected unstarred
-unfolding allOf allBelow pick upTo insideAxis mOf nOf fOf twoOf columnsRead digitsOf coordinateOf stepOf addressRead blockRead sameMotion samePrediction alike oneEach fewestIn recordAt motionOf splitSaid rule1 rule2 rule3 rule4 rule5 rule6 firstBroken laidOut setOf intraSet gathered source clearOf filled lower lowest having mergedList merged someOf liveOf copiedFrom copied resolved scaledPrediction scaledMotion inheritedMotions originAt answerOf addressesOf writtenFor madeOf geometryTests recordTests addressesRead macroblockTests macroblockCall pictureTests pictureCall ones onesIn madeAt countsOf digitsIn decimal lineOf macroblockLine syncLine pictureLines refusedLine programTests
+unfolding allOf allBelow pick upTo insideAxis mOf nOf fOf twoOf columnsRead digitsOf coordinateOf stepOf addressRead blockRead sameMotion samePrediction alike oneEach fewestIn recordAt motionOf splitSaid rule1 rule2 rule3 rule4 rule5 rule6 rule7 firstBroken laidOut setOf intraSet gathered source clearOf filled lower lowest having mergedList merged someOf liveOf copiedFrom copied resolved scaledPrediction scaledMotion inheritedMotions originAt basisAt quadrantDetail detailAt answerOf addressesOf writtenFor madeOf geometryTests recordTests addressesRead macroblockTests macroblockCall pictureTests pictureCall ones onesIn madeAt countsOf digitsIn decimal lineOf macroblockLine syncLine pictureLines refusedLine programTests
 unstarred-hold = refl
 
 -- The addresses that an answer names are those of its columns and rows.
@@ -452,33 +461,33 @@ abbrev pub zerosThen : ℕ → List ℕ → List ℕ
 zerosThen zero t = 48 ∷ 41 ∷ t
 zerosThen (suc n) t = 48 ∷ 32 ∷ zerosThen n t
 
--- (mb 0 (0 0 0 0) (0 ..) (0 ..)) with 77 zeros: an intra record whose references are used, which breaks rule 4
+-- (mb 0 (0 0 0 0) (0 ..) (0 ..) 0) with 78 zeros: an intra record whose references are used, which breaks rule 4
 abbrev pub mbLineText : List ℕ
-mbLineText = 40 ∷ 109 ∷ 98 ∷ 32 ∷ 48 ∷ 32 ∷ 40 ∷ zerosThen 3 (32 ∷ 40 ∷ zerosThen 7 (32 ∷ 40 ∷ zerosThen 63 (41 ∷ 10 ∷ [])))
+mbLineText = 40 ∷ 109 ∷ 98 ∷ 32 ∷ 48 ∷ 32 ∷ 40 ∷ zerosThen 3 (32 ∷ 40 ∷ zerosThen 7 (32 ∷ 40 ∷ zerosThen 63 (32 ∷ zerosThen 0 (10 ∷ []))))
 
--- (base 32 16), (scaled 48 18), (at 4 -2), (full 64 80), (intra), and that line
+-- (base 32 16), (scaled 48 18), (at 4 -2), (full 64 80), (intra 0), and that line
 abbrev pub mbText : List ℕ
 mbText =
     (40 ∷ 98 ∷ 97 ∷ 115 ∷ 101 ∷ 32 ∷ 51 ∷ 50 ∷ 32 ∷ 49 ∷ 54 ∷ 41 ∷ 10 ∷ [])
     ++ ((40 ∷ 115 ∷ 99 ∷ 97 ∷ 108 ∷ 101 ∷ 100 ∷ 32 ∷ 52 ∷ 56 ∷ 32 ∷ 49 ∷ 56 ∷ 41 ∷ 10 ∷ [])
     ++ ((40 ∷ 97 ∷ 116 ∷ 32 ∷ 52 ∷ 32 ∷ 45 ∷ 50 ∷ 41 ∷ 10 ∷ [])
     ++ ((40 ∷ 102 ∷ 117 ∷ 108 ∷ 108 ∷ 32 ∷ 54 ∷ 52 ∷ 32 ∷ 56 ∷ 48 ∷ 41 ∷ 10 ∷ [])
-    ++ ((40 ∷ 105 ∷ 110 ∷ 116 ∷ 114 ∷ 97 ∷ 41 ∷ 10 ∷ [])
+    ++ ((40 ∷ 105 ∷ 110 ∷ 116 ∷ 114 ∷ 97 ∷ 32 ∷ 48 ∷ 41 ∷ 10 ∷ [])
     ++ mbLineText))))
 
 abbrev pub mbNumbers : Numbers
 mbNumbers = by (axisWith (pos 32) (pos 48) (pos 4) (pos 64)) (axisWith (pos 16) (pos 18) (minus 2) (pos 80))
 
 abbrev pub mbEntries : List Entry
-mbEntries = entry intra [] ∷ entry mb (replicate 77 (pos 0)) ∷ []
+mbEntries = entry intra (pos 0 ∷ []) ∷ entry mb (replicate 78 (pos 0)) ∷ []
 
 -- What is known of texts, without a reader (crate grammar has the Whole case and a table of places)
 pub record TextsHold : Type 0 where
   -- a text with an (mb ..) line, what stands in it, and its log, (refused 8 1)
   pub mb-text : Text mbNumbers mbEntries mbText
   pub mb-log : LogOf mbText (refusedLog 8 1)
-  -- (whole (0 0) (0 0 0 0)) and (note)
-  pub whole-line : LineOf wholeLine (replicate 6 (pos 0)) (40 ∷ 119 ∷ 104 ∷ 111 ∷ 108 ∷ 101 ∷ 32 ∷ 40 ∷ zerosThen 1 (32 ∷ 40 ∷ zerosThen 3 (41 ∷ 10 ∷ [])))
+  -- (whole (0 0) (0 0 0 0) 0) and (note)
+  pub whole-line : LineOf wholeLine (replicate 7 (pos 0)) (40 ∷ 119 ∷ 104 ∷ 111 ∷ 108 ∷ 101 ∷ 32 ∷ 40 ∷ zerosThen 1 (32 ∷ 40 ∷ zerosThen 3 (32 ∷ zerosThen 0 (10 ∷ []))))
   pub note-line : Note (40 ∷ 110 ∷ 111 ∷ 116 ∷ 101 ∷ 41 ∷ 10 ∷ [])
   -- 65,536 bytes are not too many, 65,537 are, whatever else is wrong with them;
   pub most-bytes : (t : List ℕ) (place : ℕ) → length t ≡ 65536 → BreaksAt t place → Reads t (notRead (record { number = 9; place = place; rule = 0 }))
@@ -486,13 +495,13 @@ pub record TextsHold : Type 0 where
   -- 99 record lines are not too many, 100 are;
   pub most-lines : (t : List ℕ) (n : Numbers) (entries : List Entry) → length t ≡ 65536 → Text n entries t → length entries ≡ 99 → Reads t (readAs n entries)
   pub too-many-lines : (t : List ℕ) (n : Numbers) (entries : List Entry) → length t ≡ 65536 → Text n entries t → length entries ≡ 100 → Reads t (notRead (refusal 10))
-  -- the text call has the words of 99 records, 7,623; with 7,622 or 7,624 it is refused by 6, whatever is wrong with the text.
-  pub right-words : (t : List ℕ) (words : List ℤ) (r : Refusal) → length words ≡ 7623 → Reads t (notRead r) → TextAnswer t words (NotRead r) words
-  pub few-words : (t : List ℕ) (words new : List ℤ) (reply : TextReply) → length words ≡ 7622 → TextAnswer t words reply new → reply ≡ NotRead (refusal 6)
-  pub many-words : (t : List ℕ) (words new : List ℤ) (reply : TextReply) → length words ≡ 7624 → TextAnswer t words reply new → reply ≡ NotRead (refusal 6)
-  -- The words of the record lines stand first, 77 for each, the rest unchanged.
-  pub words-first : (t : List ℕ) (n : Numbers) (entries : List Entry) (words : List ℤ) → length words ≡ 7623 → Reads t (readAs n entries)
-      → TextAnswer t words (Read (record { numbers = n; lines = length entries })) (baseOf entries ++ drop (77 * length entries) words)
+  -- the text call has the words of 99 records, 7,722; with 7,721 or 7,723 it is refused by 6, whatever is wrong with the text.
+  pub right-words : (t : List ℕ) (words : List ℤ) (r : Refusal) → length words ≡ 7722 → Reads t (notRead r) → TextAnswer t words (NotRead r) words
+  pub few-words : (t : List ℕ) (words new : List ℤ) (reply : TextReply) → length words ≡ 7721 → TextAnswer t words reply new → reply ≡ NotRead (refusal 6)
+  pub many-words : (t : List ℕ) (words new : List ℤ) (reply : TextReply) → length words ≡ 7723 → TextAnswer t words reply new → reply ≡ NotRead (refusal 6)
+  -- The words of the record lines stand first, 78 for each, the rest unchanged.
+  pub words-first : (t : List ℕ) (n : Numbers) (entries : List Entry) (words : List ℤ) → length words ≡ 7722 → Reads t (readAs n entries)
+      → TextAnswer t words (Read (record { numbers = n; lines = length entries })) (baseOf entries ++ drop (78 * length entries) words)
   -- The log call: 1,179,679 bytes serve, and the log stands first, the rest unchanged; with one fewer it is refused by 6, and the bytes are as they were.
   pub right-bytes : (t log out : List ℕ) (found : LogOf t log) → length out ≡ 1179679
       → LogAnswer t out (Written (record { bytes = length log; verdict = verdictFor (findingOf (found .reading)) })) (log ++ drop (length log) out)

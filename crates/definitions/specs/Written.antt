@@ -7,7 +7,7 @@ use lib.IntN.{ℤ, pos}
 use lib.ListN.{getD}
 use Rattle.definitions.specs.declared.Motion.{Motion}
 use Rattle.definitions.specs.declared.Numbers.{Numbers}
-use Rattle.definitions.specs.declared.Origin.{Origin}
+use Rattle.definitions.specs.declared.Basis.{Basis}
 use Rattle.definitions.specs.declared.Split.{Split}
 use Rattle.definitions.specs.declared.Answer.{Answer}
 use Rattle.definitions.specs.declared.Answer.the-variants.{Outside, Intra, Inherited}
@@ -25,14 +25,14 @@ vectorsInRange limit r =
 -- The first broken rule of a written record, for rule 5's limit of the base and any other
 pub record AsRecord (limit : ℕ) (answer : Answer) (written : List ℤ) : Type 0 where
   -- inherited, each block uses a list,
-  pub uses : (o : Origin) (s : Split) → answer ≡ Inherited o s → (i : ℕ) → i < 16
+  pub uses : (b : Basis) (s : Split) → answer ≡ Inherited b s → (i : ℕ) → i < 16
       → (used (motionOf written i .list0 .reference) || used (motionOf written i .list1 .reference)) ≡ true
   -- and the rule is 0, or 5 where a vector word is out of range;
-  pub inherited : (o : Origin) (s : Split) → answer ≡ Inherited o s → (any : ℕ) → firstBroken any written ≡ pick (vectorsInRange any written) 0 5
+  pub inherited : (b : Basis) (s : Split) → answer ≡ Inherited b s → (any : ℕ) → firstBroken any written ≡ pick (vectorsInRange any written) 0 5
   -- none is out of twice the range;
-  pub doubled : (o : Origin) (s : Split) → answer ≡ Inherited o s → firstBroken (2 * limit) written ≡ 0
+  pub doubled : (b : Basis) (s : Split) → answer ≡ Inherited b s → firstBroken (2 * limit) written ≡ 0
   -- intra, it is 0,
-  pub intra : (o : Origin) → answer ≡ Intra o → (any : ℕ) → firstBroken any written ≡ 0
+  pub intra : (b : Basis) → answer ≡ Intra b → (any : ℕ) → firstBroken any written ≡ 0
   -- and outside 1.
   pub outside : answer ≡ Outside → (any : ℕ) → firstBroken any written ≡ 1
 

@@ -55,7 +55,7 @@ pub enum Class {
 
 // ---- Motion
 // The words of a motion record.
-pub const RECORD_WORDS: usize = 77;
+pub const RECORD_WORDS: usize = 78;
 
 // A list's part of a block's motion: its reference, -1 unused, and its vector in quarter samples.
 pub struct Prediction {
@@ -93,17 +93,24 @@ pub enum Split {
 }
 
 // ---- The answer
-// What an answer says of a macroblock inside the window, besides its split: the class, and the first base column and row.
+// What an answer names: the class, and the first base column and row.
 pub struct Origin {
     pub class: Class,
     pub column: u32,
     pub row: u32,
 }
 
+// What an answer says of a macroblock inside the window, besides its split: what it names, and which of its quadrants carry detail (document 02, E7): bit q of 0..15 is quadrant
+// q's.
+pub struct Basis {
+    pub origin: Origin,
+    pub detail: u8,
+}
+
 pub enum Answer {
     Outside,
-    Intra(Origin),
-    Inherited(Origin, Split),
+    Intra(Basis),
+    Inherited(Basis, Split),
 }
 
 // ---- Refusals
