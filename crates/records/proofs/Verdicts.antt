@@ -10,7 +10,7 @@ use borrow.Author.Tests.{eq-eqb, ne-eqb}
 use Rattle.definitions.specs.declared.Verdict.{Verdict}
 use Rattle.definitions.specs.declared.Verdict.the-variants.{Refused}
 use Rattle.definitions.specs.Basics.{pick, allBelow}
-use Rattle.definitions.specs.Record.{recordAt, rule1, rule2, rule3, rule4, rule5, rule6, firstBroken, narrow}
+use Rattle.definitions.specs.Record.{recordAt, rule1, rule2, rule3, rule4, rule5, rule6, rule7, firstBroken, narrow}
 use Rattle.definitions.specs.Refusals.{verdictOf, recordTests}
 use Rattle.definitions.proofs.Choices.{yes, no}
 use Rattle.records.specs.Checking.{headBroken, vectorsRight, sameAsFirst, foundAt, addresses}
@@ -32,7 +32,7 @@ head-first false false false false rest = refl
 
 module _ (r : List ℤ) where
   abbrev tailBroken : ℕ
-  tailBroken = pick (not (rule5 narrow r)) 5 (pick (not (rule6 r)) 6 0)
+  tailBroken = pick (not (rule5 narrow r)) 5 (pick (not (rule6 r)) 6 (pick (not (rule7 r)) 7 0))
 
   by-head : firstBroken narrow r ≡ pick (eqb (headBroken r) 0) tailBroken (headBroken r)
   unfolding firstBroken headBroken
@@ -51,8 +51,11 @@ module _ (r : List ℤ) where
     broken-6 : rule5 narrow r ≡ true → rule6 r ≡ false → firstBroken narrow r ≡ 6
     broken-6 e5 e6 = by-tail ∙ (no _ _ (ap not e5) ∙ yes _ _ (ap not e6))
 
-    broken-none : rule5 narrow r ≡ true → rule6 r ≡ true → firstBroken narrow r ≡ 0
-    broken-none e5 e6 = by-tail ∙ (no _ _ (ap not e5) ∙ no _ _ (ap not e6))
+    broken-7 : rule5 narrow r ≡ true → rule6 r ≡ true → rule7 r ≡ false → firstBroken narrow r ≡ 7
+    broken-7 e5 e6 e7 = by-tail ∙ (no _ _ (ap not e5) ∙ (no _ _ (ap not e6) ∙ yes _ _ (ap not e7)))
+
+    broken-none : rule5 narrow r ≡ true → rule6 r ≡ true → rule7 r ≡ true → firstBroken narrow r ≡ 0
+    broken-none e5 e6 e7 = by-tail ∙ (no _ _ (ap not e5) ∙ (no _ _ (ap not e6) ∙ no _ _ (ap not e7)))
 
 -- ---- The verdict on the records from an address on
 module _ (base : List ℤ) (a to : ℕ) where
@@ -90,7 +93,12 @@ module _ (base : List ℤ) (a to : ℕ) where
         pub verdict-6 : (q : ℕ) → q < 4 → sameAsFirst r q ≡ false → foundAt a 6 ≡ verdict
         verdict-6 q h e = verdict-here 6 (broken-6 r head right5 (same-all r ∙ search-fault (sameAsFirst r) 4 q h e)) (λ z. omega arith)
 
-        pub verdict-next :
-            (q6 : ℕ) → q6 ≤ 4 → 4 ≤ q6 → allBelow q6 (sameAsFirst r) ≡ true → verdict ≡ verdictOf (recordTests narrow base (addresses (a + 1) to))
-        verdict-next q6 le6 ge6 passed6 =
-            verdict-more (broken-none r head right5 (same-all r ∙ search-end (sameAsFirst r) 4 q6 le6 ge6 passed6))
+        module _ (q6 : ℕ) (le6 : q6 ≤ 4) (ge6 : 4 ≤ q6) (passed6 : allBelow q6 (sameAsFirst r) ≡ true) where
+          right6 : rule6 r ≡ true
+          right6 = same-all r ∙ search-end (sameAsFirst r) 4 q6 le6 ge6 passed6
+
+          pub verdict-7 : rule7 r ≡ false → foundAt a 7 ≡ verdict
+          verdict-7 e = verdict-here 7 (broken-7 r head right5 right6 e) (λ z. omega arith)
+
+          pub verdict-next : rule7 r ≡ true → verdict ≡ verdictOf (recordTests narrow base (addresses (a + 1) to))
+          verdict-next e = verdict-more (broken-none r head right5 right6 e)

@@ -6,7 +6,7 @@ ghost use lib.ListN.{length};
 ghost use lib.Bits.{bitAnd};
 ghost use Rattle.definitions.specs.Basics.{allBelow, eqZ};
 ghost use Rattle.definitions.specs.Blocks.{quadrantOf};
-ghost use Rattle.definitions.specs.Record.{narrow, recordWords, rule2, rule4, subSplitOf, subTypeOf, used, vectorWord, wordOf};
+ghost use Rattle.definitions.specs.Record.{narrow, recordWords, rule2, rule4, rule7, subSplitOf, subTypeOf, used, vectorWord, wordOf};
 ghost use Rattle.definitions.specs.Refusals.{verdictOf, recordTests};
 ghost use Rattle.records.specs.Checking.{liesIn, allWithin, quadrantUsed, blockWithin, vectorsRight, subFirstBlock, firstBlockOf, sameReferences, sameVectors, sameAsFirst, headBroken, foundAt, addresses};
 use crate::layout;
@@ -35,6 +35,9 @@ const VECTORS: Range = Range {
     low: -8192,
     high: 8191,
 };
+
+// Rule 7.
+const DETAILS: Range = Range { low: 0, high: 15 };
 
 pub const ONLY_UNUSED: Range = Range {
     low: UNUSED,
@@ -263,6 +266,14 @@ fn same_as_first(words: &[i16], q: usize) -> bool
         & same_vectors(words, i + 5, (i + 5) & keep)
 }
 
+// ---- Rule 7
+pub fn detail_right(words: &[i16]) -> bool
+    requires { ⌜ length (now words) ≡ recordWords ⌝ }
+    ensures { λ t. ⌜ t ≡ rule7 (now (words .entry)) ⌝ }
+{
+    word_within(words, layout::DETAIL, DETAILS)
+}
+
 // ---- The check
 // What a search says that ended at an address with a broken rule, or with none.
 fn found(a: usize, rule: u32) -> Verdict
@@ -309,6 +320,10 @@ pub fn check(base: &[i16], from: usize, to: usize) -> Verdict
                 break 'records;
             }
             q += 1;
+        }
+        if !detail_right(words) {
+            rule = 7;
+            break 'records;
         }
         a += 1;
     }

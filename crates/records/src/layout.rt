@@ -19,6 +19,9 @@ pub const REFERENCES: usize = 5;
 // The vector of block b in list l is 4b + 2l further: horizontal, and then vertical.
 pub const VECTORS: usize = 13;
 
+// Bit q is quadrant q's (document 02, E7).
+pub const DETAIL: usize = 77;
+
 // ---- Types and sub-types
 pub const INTRA: u8 = 0;
 

@@ -7,7 +7,7 @@ use borrow.Author.Tests.{not-true, not-false}
 use borrow.Author.Needs.{needs}
 use Rattle.definitions.specs.Basics.{allBelow}
 use Rattle.records.specs.Checking.{foundAt, vectorsRight, sameAsFirst}
-use Rattle.records.proofs.Verdicts.{verdict-end, verdict-head, verdict-5, verdict-6, verdict-next, verdict}
+use Rattle.records.proofs.Verdicts.{verdict-end, verdict-head, verdict-5, verdict-6, verdict-7, verdict-next, verdict}
 use Rattle.records.proofs.Searches.{search-none, search-more}
 use Rattle.records.proofs.check.check.Statement.{statement}
 use Rattle.records.proofs.check.check.Tie as tie
@@ -79,6 +79,10 @@ loop2-again c =
     let words = c .before .before .before .before .before .before .before .before .record-at .result .now in
     (search needs, l .inv .1, search-more (sameAsFirst words) (l .q) (l .inv .2) (sym (c .before .same-as-first .ensures) ∙ not-false _ (c .if3 .left)))
 
+detail-right-requires :
+    tie.Need-detail-right-requires Inv-loop μ-loop Inv-loop2 μ-loop2 Inv-records μ-records
+detail-right-requires c κs = search needs
+
 add-a : tie.Need-add-a Inv-loop μ-loop Inv-loop2 μ-loop2 Inv-records μ-records
 add-a c = search needs
 
@@ -87,16 +91,17 @@ records-less c = search needs
 
 records-again : tie.Need-records-again Inv-loop μ-loop Inv-loop2 μ-loop2 Inv-records μ-records
 records-again c =
-    let a = c .before .before .before .before .before .before .before .before .before .args in
-    let l = c .before .before .before .before .before .before .before .before .records in
-    let r = c .before .before .before .before .before .before .record-at in
-    let l5 = c .before .before .before .loop in
-    let l6 = c .before .loop2 in (
+    let a = c .before .before .before .before .before .before .before .before .before .before .before .args in
+    let l = c .before .before .before .before .before .before .before .before .before .before .records in
+    let r = c .before .before .before .before .before .before .before .before .record-at in
+    let l5 = c .before .before .before .before .before .loop in
+    let l6 = c .before .before .before .loop2 in (
       search needs,
       l6 .inv .1,
-      sym (verdict-next (a .base .now) (l .a) (a .to) (c .before .before .before .before .before .before .before .records-test .taken) (r .result .now) (r .ensures .0)
-          (sym (c .before .before .before .before .before .head-rule .ensures) ∙ c .before .before .before .before .if1 .left)
-          (l5 .q) (l5 .inv .0) (c .before .before .loop-test .left) (l5 .inv .2) (l6 .q) (l6 .inv .0) (c .loop2-test .left) (l6 .inv .2))
+      sym (verdict-next (a .base .now) (l .a) (a .to) (c .before .before .before .before .before .before .before .before .before .records-test .taken) (r .result .now) (r .ensures .0)
+          (sym (c .before .before .before .before .before .before .before .head-rule .ensures) ∙ c .before .before .before .before .before .before .if1 .left)
+          (l5 .q) (l5 .inv .0) (c .before .before .before .before .loop-test .left) (l5 .inv .2) (l6 .q) (l6 .inv .0) (c .before .before .loop2-test .left) (l6 .inv .2)
+          (sym (c .before .detail-right .ensures) ∙ not-false _ (c .if4 .left)))
           ∙ l .inv .2,
     )
 
@@ -120,10 +125,15 @@ returns c =
     ap (foundAt (l .a)) (w .8)
     ∙ verdict-5 base (l .a) (a .to) (w .0 .taken) (w .1 .result .now) (w .1 .ensures .0) (sym (w .2 .ensures) ∙ w .3 .left)
     (w .4 .q) (w .5 .taken) (sym (w .6 .ensures) ∙ not-true _ (w .7 .taken)))
+    (⊎-elim
     (λ w.
     ap (foundAt (l .a)) (w .10)
     ∙ verdict-6 base (l .a) (a .to) (w .0 .taken) (w .1 .result .now) (w .1 .ensures .0) (sym (w .2 .ensures) ∙ w .3 .left)
-    (w .4 .q) (w .4 .inv .0) (w .5 .left) (w .4 .inv .2) (w .6 .q) (w .7 .taken) (sym (w .8 .ensures) ∙ not-true _ (w .9 .taken)))))
+    (w .4 .q) (w .4 .inv .0) (w .5 .left) (w .4 .inv .2) (w .6 .q) (w .7 .taken) (sym (w .8 .ensures) ∙ not-true _ (w .9 .taken)))
+    (λ w.
+    ap (foundAt (l .a)) (w .10)
+    ∙ verdict-7 base (l .a) (a .to) (w .0 .taken) (w .1 .result .now) (w .1 .ensures .0) (sym (w .2 .ensures) ∙ w .3 .left)
+    (w .4 .q) (w .4 .inv .0) (w .5 .left) (w .4 .inv .2) (w .6 .q) (w .6 .inv .0) (w .7 .left) (w .6 .inv .2) (sym (w .8 .ensures) ∙ not-true _ (w .9 .taken))))))
     (c .before .records-test .came)
     ∙ l .inv .2)
 
@@ -150,6 +160,7 @@ check-spec =
     add-q-2
     loop2-less
     loop2-again
+    detail-right-requires
     add-a
     records-less
     records-again
