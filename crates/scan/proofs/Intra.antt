@@ -7,7 +7,7 @@ use native.Mathlib.Omega.{arith}
 use lib.IntN.{ℤ, pos}
 use Rattle.definitions.specs.Basics.{minus, eqZ, between}
 use Rattle.definitions.specs.Blocks.{quadrantOf}
-use Rattle.definitions.specs.Record.{narrow, wordOf, typeOf, isIntra, referenceOf, vectorXOf, vectorYOf, used, vectorWord, rule1, rule3, rule5, rule6, wellFormed}
+use Rattle.definitions.specs.Record.{narrow, wordOf, typeOf, isIntra, referenceOf, vectorXOf, vectorYOf, used, vectorWord, rule1, rule3, rule5, rule6, rule7, wellFormed}
 use Rattle.definitions.proofs.Choices.{both-true, both-ways, and-intro, or-left, eqZ-true, below-true, below-intro}
 use Rattle.definitions.proofs.Formed.{rules-of, vectors-of}
 use Rattle.records.specs.Checking.{liesIn, allWithin}
@@ -24,7 +24,7 @@ zero-right : (t : Bool) → vectorWord narrow t (pos 0) ≡ true
 zero-right true = refl
 zero-right false = refl
 
-module _ (r : List ℤ) (intra : isIntra r ≡ true) where
+module _ (r : List ℤ) (intra : isIntra r ≡ true) (seven : rule7 r ≡ true) where
   type : typeOf r ≡ pos 0
   type = eqZ-true (typeOf r) (pos 0) intra
 
@@ -70,6 +70,7 @@ module _ (r : List ℤ) (intra : isIntra r ≡ true) where
           lists = use-none r intra ∙ references;
           vectors = right5;
           pieces = right6;
+          detail = seven;
         })
 
   -- ---- The rules, and so the words

@@ -1,16 +1,16 @@
--- A record that keeps all rules is well formed, and one of no type is not; a test of two parts whose second is made only where the first holds. Assumes nothing.
+-- A record that keeps all rules is well formed, and one that breaks rule 7, or of no type, is not; a test of two parts whose second is made only where the first holds. Assumes nothing.
 use Prim.Native.Nat.{ℕ}
 use mathlib.Core.Path.{_≡_, refl, sym, ap, _∙_}
-use mathlib.Core.Bool.{Bool, true, false, not, _&&_}
+use mathlib.Core.Bool.{Bool, true, false, not, _&&_, true≢false}
 use mathlib.Core.List.{List}
 use native.Mathlib.Omega.{arith}
 use lib.Dec.{eqb, leb}
 use lib.IntN.{ℤ, pos, negsuc}
 use borrow.Author.Tests.{not-true, not-false, eqb-false, eq-eqb, lt-leb}
 use Rattle.definitions.specs.Basics.{eqZ, between}
-use Rattle.definitions.specs.Record.{narrow, typeOf, rule1, firstBroken, wellFormed}
+use Rattle.definitions.specs.Record.{narrow, typeOf, rule1, rule7, firstBroken, wellFormed}
 use Rattle.definitions.proofs.Choices.{yes, no, and-no}
-use Rattle.definitions.proofs.Formed.{Rules}
+use Rattle.definitions.proofs.Formed.{Rules, rules-of}
 
 -- ---- All rules
 pub rules-formed : (r : List ℤ) → Rules narrow r → wellFormed narrow r ≡ true
@@ -18,7 +18,15 @@ unfolding firstBroken
 rules-formed r k =
     eq-eqb (firstBroken narrow r) 0
     (no _ _ (ap not (k .types))
-    ∙ (no _ _ (ap not (k .sub-types)) ∙ (no _ _ (ap not (k .references)) ∙ (no _ _ (ap not (k .lists)) ∙ (no _ _ (ap not (k .vectors)) ∙ no _ _ (ap not (k .pieces)))))))
+    ∙ (no _ _ (ap not (k .sub-types)) ∙ (no _ _ (ap not (k .references)) ∙ (no _ _ (ap not (k .lists)) ∙ (no _ _ (ap not (k .vectors)) ∙ (no _ _ (ap not (k .pieces)) ∙ no _ _ (ap not (k .detail))))))))
+
+-- ---- Rule 7 broken
+pub detail-broken : (r : List ℤ) → rule7 r ≡ false → wellFormed narrow r ≡ false
+detail-broken r e = by (wellFormed narrow r) refl
+  where
+    by : (t : Bool) → wellFormed narrow r ≡ t → t ≡ false
+    by true f = absurd (true≢false (sym (rules-of narrow r f .detail) ∙ e))
+    by false f = refl
 
 -- ---- Rule 1 broken
 no-type : (z : ℤ) → eqZ z (pos 0) ≡ false → eqZ z (pos 1) ≡ false → eqZ z (pos 2) ≡ false → eqZ z (pos 3) ≡ false → eqZ z (pos 4) ≡ false → between (pos 0) (pos 4) z ≡ false

@@ -14,7 +14,7 @@ use Rattle.definitions.specs.declared.Split.{Split}
 use Rattle.definitions.specs.declared.Split.the-variants.{S8x8 as Quarters}
 use Rattle.definitions.specs.Basics.{pick, eqZ, allBelow}
 use Rattle.definitions.specs.Blocks.{quadrantOf, inQuadrant, rasterOf}
-use Rattle.definitions.specs.Record.{narrow, typeOf, subTypeOf, motionOf, subSplitOf, splitSaid, rule1, rule2, rule3, rule4, rule5, rule6, firstBroken, wellFormed}
+use Rattle.definitions.specs.Record.{narrow, typeOf, subTypeOf, motionOf, subSplitOf, splitSaid, rule1, rule2, rule3, rule4, rule5, rule6, rule7, firstBroken, wellFormed}
 use Rattle.definitions.specs.Splits.{sameMotion}
 use Rattle.definitions.proofs.Choices.{no, both-true, both-ways, and-intro, and-no, or-left, or-right, eqZ-true, below-true, below-intro, below-same, each}
 use Rattle.definitions.proofs.Records.{raster-quadrant, raster-below}
@@ -174,11 +174,11 @@ module _ (r : List ℤ) where
       motion-parts r b (subFirstBlock s b) ∙ ap (λ (t : Bool). t && sameVectors r b (subFirstBlock s b)) one
 
 -- ---- The record
--- rules 1 to 4, and then 5 and 6
+-- rules 1 to 4, and then 5 and 6, where 7 is kept
 head-and-tail :
     (a b c d e f : Bool) →
     (eqb (pick (not a) 1 (pick (not b) 2 (pick (not c) 3 (pick (not d) 4 0)))) 0 && (e && f))
-    ≡ eqb (pick (not a) 1 (pick (not b) 2 (pick (not c) 3 (pick (not d) 4 (pick (not e) 5 (pick (not f) 6 0)))))) 0
+    ≡ eqb (pick (not a) 1 (pick (not b) 2 (pick (not c) 3 (pick (not d) 4 (pick (not e) 5 (pick (not f) 6 (pick (not true) 7 0))))))) 0
 unfolding pick
 head-and-tail false b c d e f = refl
 head-and-tail true false c d e f = refl
@@ -188,7 +188,7 @@ head-and-tail true true true true false f = refl
 head-and-tail true true true true true false = refl
 head-and-tail true true true true true true = refl
 
-module _ (r : List ℤ) (quarters : eqZ (typeOf r) (pos 4) ≡ true) where
+module _ (r : List ℤ) (quarters : eqZ (typeOf r) (pos 4) ≡ true) (seven : rule7 r ≡ true) where
   type : typeOf r ≡ pos 4
   type = eqZ-true (typeOf r) (pos 4) quarters
 
@@ -226,7 +226,9 @@ module _ (r : List ℤ) (quarters : eqZ (typeOf r) (pos 4) ≡ true) where
   quarters-is : (eqb (headBroken r) 0 && allBelow 4 (quadrantRight r)) ≡ wellFormed narrow r
   unfolding headBroken firstBroken
   quarters-is =
-      ap (λ (t : Bool). eqb (headBroken r) 0 && t) tail ∙ head-and-tail (rule1 r) (rule2 r) (rule3 r) (rule4 r) (rule5 narrow r) (rule6 r)
+      ap (λ (t : Bool). eqb (headBroken r) 0 && t) tail ∙ (head-and-tail (rule1 r) (rule2 r) (rule3 r) (rule4 r) (rule5 narrow r) (rule6 r)
+      ∙ sym (ap (λ (t : Bool). eqb (pick (not (rule1 r)) 1 (pick (not (rule2 r)) 2 (pick (not (rule3 r)) 3 (pick (not (rule4 r)) 4 (pick (not (rule5 narrow r)) 5
+      (pick (not (rule6 r)) 6 (pick (not t) 7 0))))))) 0) seven))
 
   pub head-broken : (headBroken r ≡ 0 → ⊥) → false ≡ wellFormed narrow r
   head-broken ne = sym (ap (λ (t : Bool). t && allBelow 4 (quadrantRight r)) (ne-eqb (headBroken r) 0 ne)) ∙ quarters-is

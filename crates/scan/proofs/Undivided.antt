@@ -12,7 +12,7 @@ use Rattle.definitions.specs.declared.Split.{Split}
 use Rattle.definitions.specs.declared.Split.the-variants.{S16x16, S16x8, S8x16}
 use Rattle.definitions.specs.Basics.{eqZ, between, allBelow}
 use Rattle.definitions.specs.Blocks.{quadrantOf, rasterOf}
-use Rattle.definitions.specs.Record.{narrow, wordOf, typeOf, isIntra, used, vectorWord, motionOf, splitSaid, rule1, rule2, rule3, rule4, rule5, wellFormed}
+use Rattle.definitions.specs.Record.{narrow, wordOf, typeOf, isIntra, used, vectorWord, motionOf, splitSaid, rule1, rule2, rule3, rule4, rule5, rule7, wellFormed}
 use Rattle.definitions.proofs.Choices.{yes, no, both-true, both-ways, and-intro, eqZ-true, below-true, below-intro, each}
 use Rattle.definitions.proofs.Formed.{rules-of}
 use Rattle.definitions.proofs.Motions.{motion-same}
@@ -155,11 +155,11 @@ module _ (r : List ℤ) (n : ℕ) (is : eqZ (typeOf r) (pos n) ≡ true) where
     inter = ap (λ (z : ℤ). eqZ z (pos 0)) type ∙ no-0
 
     by-firsts :
-        between (pos 0) (pos 4) (pos n) ≡ true → (rule2 r && rule3 r) ≡ true →
+        rule7 r ≡ true → between (pos 0) (pos 4) (pos n) ≡ true → (rule2 r && rule3 r) ≡ true →
         ((b : ℕ) → b < 16 → Referred r (quadrantOf b) (quadrantOf (firstBlockIn s b))) → ((b : ℕ) → b < 16 → Alike r b (firstBlockIn s b)) →
         ((b : ℕ) → b < 16 → blockRight r (firstBlockIn s b) ≡ true) → wellFormed narrow r ≡ true
     unfolding rule1
-    by-firsts e1 head references vectors firsts =
+    by-firsts seven e1 head references vectors firsts =
         let both = both-true (rule2 r) (rule3 r) head in
         let motions : (b : ℕ) → b < 16 → motionOf r b ≡ motionOf r (firstBlockIn s b) = λ b h. alike-motion r b (firstBlockIn s b) (references b h) (vectors b h) in
         let right : (b : ℕ) → b < 16 → blockRight r b ≡ true =
@@ -171,6 +171,7 @@ module _ (r : List ℤ) (n : ℕ) (is : eqZ (typeOf r) (pos n) ≡ true) where
           lists = blocks-4 r inter right;
           vectors = blocks-5 r inter right;
           pieces = one-motion-each r s said motions;
+          detail = seven;
         })
 
     -- where it is well formed
@@ -220,7 +221,7 @@ module _ (r : List ℤ) where
   columnsParts =
       (((((blockRight r 0 && blockRight r 2) && sameReferences r 2 0) && sameReferences r 3 1) && sameVectors r 1 0) && sameVectors r 3 2) && vectorsRepeat r 0 16 4
 
-  module _ (is : eqZ (typeOf r) (pos 1) ≡ true) where
+  module _ (is : eqZ (typeOf r) (pos 1) ≡ true) (seven : rule7 r ≡ true) where
     said-whole : splitSaid r ≡ S16x16
     unfolding splitSaid
     said-whole = yes _ _ is
@@ -234,7 +235,7 @@ module _ (r : List ℤ) where
         let s3 = both-true _ _ (v1 .0) in
         let s2 = both-true _ _ (s3 .0) in
         let s1 = both-true _ _ (s2 .0) in
-        by-firsts r 1 is S16x16 said-whole refl refl head
+        by-firsts r 1 is S16x16 said-whole refl seven refl head
         (λ b h. each (λ q. Referred r q 0) (λ l k. refl) (referred r 1 0 (s1 .1)) (referred r 2 0 (s2 .1)) (referred r 3 0 (s3 .1)) (quadrantOf b) (quadrant-below b h))
         (λ b h. subst (λ (d : ℕ). Alike r d 0) (zero-add b) (twos r 0 16 (v1 .1) (repeated r 0 2 16 (v2 .1)) b h))
         (λ b h. s1 .0))
@@ -249,7 +250,7 @@ module _ (r : List ℤ) where
         (same 1 0 (omega arith) (omega arith) refl .1))
         (repeat r 0 2 16 (λ b low high. same (b + 2) b (omega arith) (omega arith) refl .1)))
 
-  module _ (is : eqZ (typeOf r) (pos 2) ≡ true) where
+  module _ (is : eqZ (typeOf r) (pos 2) ≡ true) (seven : rule7 r ≡ true) where
     said-rows : splitSaid r ≡ S16x8
     unfolding splitSaid
     said-rows = no _ _ (ap (λ (z : ℤ). eqZ z (pos 1)) (type r 2 is)) ∙ yes _ _ is
@@ -265,7 +266,7 @@ module _ (r : List ℤ) where
         let s3 = both-true _ _ (v1 .0) in
         let s1 = both-true _ _ (s3 .0) in
         let firsts = both-true _ _ (s1 .0) in
-        by-firsts r 2 is S16x8 said-rows refl refl head
+        by-firsts r 2 is S16x8 said-rows refl seven refl head
         (λ b h.
         subst (Referred r (quadrantOf b)) (row-quadrant b h)
         (each (λ q. Referred r q (q / 2 * 2)) (λ l k. refl) (referred r 1 0 (s1 .1)) (λ l k. refl) (referred r 3 2 (s3 .1)) (quadrantOf b) (quadrant-below b h)))
@@ -291,7 +292,7 @@ module _ (r : List ℤ) where
         (same 9 8 (omega arith) (omega arith) refl .1))
         (repeat r 8 2 16 (λ b low high. same (b + 2) b (omega arith) (omega arith) (omega arith) .1)))
 
-  module _ (is : eqZ (typeOf r) (pos 3) ≡ true) where
+  module _ (is : eqZ (typeOf r) (pos 3) ≡ true) (seven : rule7 r ≡ true) where
     said-columns : splitSaid r ≡ S8x16
     unfolding splitSaid
     said-columns = no _ _ (ap (λ (z : ℤ). eqZ z (pos 1)) (type r 3 is)) ∙ (no _ _ (ap (λ (z : ℤ). eqZ z (pos 2)) (type r 3 is)) ∙ yes _ _ is)
@@ -306,7 +307,7 @@ module _ (r : List ℤ) where
         let s3 = both-true _ _ (v1 .0) in
         let s2 = both-true _ _ (s3 .0) in
         let firsts = both-true _ _ (s2 .0) in
-        by-firsts r 3 is S8x16 said-columns refl refl head
+        by-firsts r 3 is S8x16 said-columns refl seven refl head
         (λ b h.
         subst (Referred r (quadrantOf b)) (column-quadrant b h)
         (each (λ q. Referred r q (q % 2)) (λ l k. refl) (λ l k. refl) (referred r 2 0 (s2 .1)) (referred r 3 1 (s3 .1)) (quadrantOf b) (quadrant-below b h)))

@@ -6,7 +6,7 @@ ghost use Prim.Native.Nat.{ℕ, _*_, _≤_, _<_};
 ghost use lib.IntN.{pos};
 ghost use lib.ListN.{length};
 ghost use Rattle.definitions.specs.Basics.{allBelow, eqZ};
-ghost use Rattle.definitions.specs.Record.{isIntra, narrow, recordAt, recordWords, rule2, rule3, typeOf, wellFormed};
+ghost use Rattle.definitions.specs.Record.{isIntra, narrow, recordAt, recordWords, rule2, rule3, rule7, typeOf, wellFormed};
 ghost use Rattle.definitions.specs.Refusals.{recordTests, verdictOf};
 ghost use Rattle.records.specs.Checking.{addresses, listRight};
 ghost use Rattle.scan.specs.Quick.{blockRight, quadrantRight, subAsFirst, vectorsRepeat};
@@ -18,7 +18,7 @@ use records::read::record_at;
 // ---- Type 0, intra
 // No sub-type but 0, no reference but -1, no vector but 0.
 fn quick_intra(words: &[i16]) -> bool
-    requires { ⌜ (length (now words) ≡ recordWords) × (isIntra (now words) ≡ true) ⌝ }
+    requires { ⌜ (length (now words) ≡ recordWords) × (isIntra (now words) ≡ true) × (rule7 (now words) ≡ true) ⌝ }
     ensures { λ t. ⌜ t ≡ wellFormed narrow (now (words .entry)) ⌝ }
 {
     check::all_within(words, layout::SUB_TYPES, 4, check::ONLY_ZERO)
@@ -74,7 +74,7 @@ fn vectors_repeat(words: &[i16], first: usize, end: usize, step: usize) -> bool
 
 // Type 1, 16×16: all blocks as block 0.
 fn quick_whole(words: &[i16]) -> bool
-    requires { ⌜ (length (now words) ≡ recordWords) × (eqZ (typeOf (now words)) (pos 1) ≡ true) ⌝ }
+    requires { ⌜ (length (now words) ≡ recordWords) × (eqZ (typeOf (now words)) (pos 1) ≡ true) × (rule7 (now words) ≡ true) ⌝ }
     ensures { λ t. ⌜ t ≡ wellFormed narrow (now (words .entry)) ⌝ }
 {
     if !undivided_head(words) {
@@ -90,7 +90,7 @@ fn quick_whole(words: &[i16]) -> bool
 
 // Type 2, 16×8: the blocks of the upper half as block 0, those of the lower as block 8.
 fn quick_rows(words: &[i16]) -> bool
-    requires { ⌜ (length (now words) ≡ recordWords) × (eqZ (typeOf (now words)) (pos 2) ≡ true) ⌝ }
+    requires { ⌜ (length (now words) ≡ recordWords) × (eqZ (typeOf (now words)) (pos 2) ≡ true) × (rule7 (now words) ≡ true) ⌝ }
     ensures { λ t. ⌜ t ≡ wellFormed narrow (now (words .entry)) ⌝ }
 {
     if !undivided_head(words) {
@@ -108,7 +108,7 @@ fn quick_rows(words: &[i16]) -> bool
 
 // Type 3, 8×16: the blocks of the left half as block 0, those of the right as block 2.
 fn quick_columns(words: &[i16]) -> bool
-    requires { ⌜ (length (now words) ≡ recordWords) × (eqZ (typeOf (now words)) (pos 3) ≡ true) ⌝ }
+    requires { ⌜ (length (now words) ≡ recordWords) × (eqZ (typeOf (now words)) (pos 3) ≡ true) × (rule7 (now words) ≡ true) ⌝ }
     ensures { λ t. ⌜ t ≡ wellFormed narrow (now (words .entry)) ⌝ }
 {
     if !undivided_head(words) {
@@ -151,7 +151,7 @@ fn quick_quadrant(words: &[i16], q: usize) -> bool
 
 // Rules 1 to 4, and each quadrant.
 fn quick_quarters(words: &[i16]) -> bool
-    requires { ⌜ (length (now words) ≡ recordWords) × (eqZ (typeOf (now words)) (pos 4) ≡ true) ⌝ }
+    requires { ⌜ (length (now words) ≡ recordWords) × (eqZ (typeOf (now words)) (pos 4) ≡ true) × (rule7 (now words) ≡ true) ⌝ }
     ensures { λ t. ⌜ t ≡ wellFormed narrow (now (words .entry)) ⌝ }
 {
     if check::head_rule(words) != 0 {
@@ -168,9 +168,9 @@ fn quick_quarters(words: &[i16]) -> bool
 }
 
 // ---- The scan
-// The record is well formed: by its type.
-fn quick(words: &[i16]) -> bool
-    requires { ⌜ length (now words) ≡ recordWords ⌝ }
+// A record that keeps rule 7 is well formed: by its type.
+fn quick_by_type(words: &[i16]) -> bool
+    requires { ⌜ (length (now words) ≡ recordWords) × (rule7 (now words) ≡ true) ⌝ }
     ensures { λ t. ⌜ t ≡ wellFormed narrow (now (words .entry)) ⌝ }
 {
     let kind = words[layout::TYPE];
@@ -190,6 +190,17 @@ fn quick(words: &[i16]) -> bool
         return quick_quarters(words);
     }
     false
+}
+
+// The record is well formed.
+fn quick(words: &[i16]) -> bool
+    requires { ⌜ length (now words) ≡ recordWords ⌝ }
+    ensures { λ t. ⌜ t ≡ wellFormed narrow (now (words .entry)) ⌝ }
+{
+    if !check::detail_right(words) {
+        return false;
+    }
+    quick_by_type(words)
 }
 
 // The first of records from..to-1 that is malformed, or to.

@@ -21,7 +21,7 @@ returns c =
     let subs = c .before .before .all-within .ensures in
     let references = c .before .all-within2 .ensures in
     let vectors = c .all-within3 .ensures in
-    (λ i. (subs i && references i) && vectors i) ∙ intra-is (start .args .words .now) (start .pre .1)
+    (λ i. (subs i && references i) && vectors i) ∙ intra-is (start .args .words .now) (start .pre .1) (start .pre .2)
 
 pub quick-intra-spec : {M : Type 1} → statement M
 quick-intra-spec =

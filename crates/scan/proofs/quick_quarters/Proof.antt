@@ -23,7 +23,7 @@ head-rule-requires c κs = search needs
 returns : tie.Need-returns Inv-loop μ-loop
 returns c =
     let start = c .before .before in
-    head-broken (start .args .words .now) (start .pre .1) (λ e. c .if1 .taken (c .before .head-rule .ensures ∙ e))
+    head-broken (start .args .words .now) (start .pre .1) (start .pre .2) (λ e. c .if1 .taken (c .before .head-rule .ensures ∙ e))
 
 loop-holds : tie.Need-loop-holds Inv-loop μ-loop
 loop-holds c = (search needs, search-none (quadrantRight (c .before .before .args .words .now)))
@@ -34,7 +34,7 @@ quick-quadrant-requires c κs = search needs
 returns-2 : tie.Need-returns-2 Inv-loop μ-loop
 returns-2 c =
     let start = c .before .before .before .before .before .before in
-    quadrant-broken (start .args .words .now) (start .pre .1) (c .before .before .before .loop .q) (c .before .before .loop-test .taken) (sym (c .before .quick-quadrant .ensures) ∙ not-true _ (c .if2 .taken))
+    quadrant-broken (start .args .words .now) (start .pre .1) (start .pre .2) (c .before .before .before .loop .q) (c .before .before .loop-test .taken) (sym (c .before .quick-quadrant .ensures) ∙ not-true _ (c .if2 .taken))
 
 add-q : tie.Need-add-q Inv-loop μ-loop
 add-q c = search needs
@@ -53,7 +53,7 @@ returns-3 c =
     let words = start .args .words .now in
     let l = c .before .loop in
     sym
-    (quarters-formed words (start .pre .1) (sym (c .before .before .before .head-rule .ensures) ∙ c .before .before .if1 .left)
+    (quarters-formed words (start .pre .1) (start .pre .2) (sym (c .before .before .before .head-rule .ensures) ∙ c .before .before .if1 .left)
     (search-end (quadrantRight words) 4 (l .q) (l .inv .0) (c .loop-test .left) (l .inv .1)))
 
 pub quick-quarters-spec : {M : Type 1} → statement M
