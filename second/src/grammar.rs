@@ -156,22 +156,31 @@ impl Machine {
         here
     }
 
+    /// The last number of a record line, and the line's end.
+    fn detail(&mut self, then: State) -> State {
+        let close = self.bytes(")\n", then);
+        self.number(close)
+    }
+
     /// Record lines and notes to the end, which may be here.
     fn records(&mut self) -> State {
         let here = self.state();
 
-        let intra = self.bytes("(intra)\n", here);
+        let detail = self.detail(here);
+        let intra = self.bytes("(intra ", detail);
         self.also(here, intra);
 
-        let close = self.bytes("))\n", here);
-        let vectors = self.numbers(4, close);
+        let detail = self.detail(here);
+        let part = self.bytes(") ", detail);
+        let vectors = self.numbers(4, part);
         let part = self.bytes(") (", vectors);
         let references = self.numbers(2, part);
         let whole = self.bytes("(whole (", references);
         self.also(here, whole);
 
-        let close = self.bytes("))\n", here);
-        let vectors = self.numbers(64, close);
+        let detail = self.detail(here);
+        let part = self.bytes(") ", detail);
+        let vectors = self.numbers(64, part);
         let part = self.bytes(") (", vectors);
         let references = self.numbers(8, part);
         let part = self.bytes(") (", references);

@@ -1,8 +1,10 @@
 //! A second implementation of document 01, motion upsampling between two
-//! layers of a track clip, with the rounding of document 02's request E3.
-//! Written from the papers alone, in plain Rust and without other crates, to
-//! be compared with the proved library.
+//! layers of a track clip, with document 02's requests E3, the rounding of
+//! vector words, and E7, where detail was sent. Written from the papers alone,
+//! in plain Rust and without other crates, to be compared with the proved
+//! library.
 
+pub mod detail;
 pub mod geometry;
 pub mod grammar;
 pub mod inherit;

@@ -65,6 +65,10 @@ pub struct Reading {
     pub step: [u8; 4],
     /// For each of the four blocks: the block 0..3 in that base macroblock.
     pub block: [u8; 4],
+    /// For each half of the four blocks: the base quadrants along the axis
+    /// that it reads, as a set of 0 and 1 in the first column (row) and 2 and
+    /// 3 in the next.
+    pub quadrants: [u8; 2],
 }
 
 /// Along one axis, for the macroblock at index `at`; `None` outside.
@@ -75,11 +79,13 @@ pub fn reading(axis: &Axis, at: usize) -> Option<Reading> {
     }
     let borders = axis.borders(p);
     let m = coordinates(borders.k_odd, borders.m, borders.n);
+    let quadrants = |a: u8, b: u8| 1 << (a / 2) | 1 << (b / 2);
     Some(Reading {
         first: borders.first as usize,
         two: borders.m.abs() < 8,
         step: m.map(|m| m / 4),
         block: m.map(|m| m % 4),
+        quadrants: [quadrants(m[0], m[1]), quadrants(m[2], m[3])],
     })
 }
 
@@ -104,6 +110,8 @@ mod tests {
                     assert!(b.first >= 0 && last < axis.base_count());
                     assert!(r.step.contains(&0));
                     assert_eq!(r.two, r.step.contains(&1));
+                    let quadrant = |i: usize| 1 << (2 * r.step[i] + r.block[i] / 2);
+                    assert_eq!(r.quadrants, [quadrant(0) | quadrant(1), quadrant(2) | quadrant(3)]);
                     met.insert((b.k_odd, b.m, b.n));
                     tried += 1;
                 }
@@ -134,8 +142,10 @@ mod tests {
         assert_eq!(reading(&axis, 0), None);
         let one = reading(&axis, 1).unwrap();
         assert_eq!((one.first, one.two, one.step, one.block), (0, false, [0; 4], [1, 2, 2, 2]));
+        assert_eq!(one.quadrants, [0b0011, 0b0010]);
         let two = reading(&axis, 2).unwrap();
         assert_eq!((two.first, two.two, two.step, two.block), (0, true, [0, 1, 1, 1], [3, 0, 0, 0]));
+        assert_eq!(two.quadrants, [0b0110, 0b0100]);
     }
 
     /// 003's ratio 1 and 2 on aligned windows: a copy, and each half doubled.

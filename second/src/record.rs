@@ -1,11 +1,17 @@
-//! A motion record: 77 words, and the six rules that make it well formed.
+//! A motion record: 78 words, the last from document 02's request E7, and the
+//! seven rules that make it well formed.
 
 /// Words of a record.
-pub const WORDS: usize = 77;
+pub const WORDS: usize = 78;
 
-/// Index of the first reference and of the first vector word.
+/// Index of the first reference, of the first vector word and of the detail.
 pub const REFERENCES: usize = 5;
 pub const VECTORS: usize = 13;
+pub const DETAIL: usize = 77;
+
+/// The most that a detail says: all four of its bits, bit q for luma
+/// coefficients in quadrant q.
+pub const MAX_DETAIL: i16 = 15;
 
 /// The types that a written record may have besides those of a split.
 pub const TYPE_INTRA: i16 = 0;
@@ -51,11 +57,12 @@ pub fn motion(record: &Record, b: usize) -> Motion {
     Motion { reference: references(record, quadrant_of(b)), vector: vector(record, b) }
 }
 
-/// Fills a record with no motion under the type given.
-pub fn write_without_motion(record: &mut Record, kind: i16) {
+/// Fills a record with no motion under the type given, and with a detail.
+pub fn write_without_motion(record: &mut Record, kind: i16, detail: i16) {
     record.fill(0);
     record[0] = kind;
     record[REFERENCES..VECTORS].fill(-1);
+    record[DETAIL] = detail;
 }
 
 /// The first block of the piece that block `b` lies in. A block's number has
@@ -71,12 +78,12 @@ fn lead(record: &Record, b: usize) -> usize {
     b & keep
 }
 
-/// The first of rules 1 to 6 that the record breaks, 0 if well formed.
+/// The first of rules 1 to 7 that the record breaks, 0 if well formed.
 pub fn broken_rule(record: &Record) -> u32 {
     let kind = record[0];
     let subs = &record[1..REFERENCES];
     let refs = &record[REFERENCES..VECTORS];
-    let vecs = &record[VECTORS..];
+    let vecs = &record[VECTORS..DETAIL];
     if !(0..=4).contains(&kind) {
         return 1;
     }
@@ -110,14 +117,16 @@ pub fn broken_rule(record: &Record) -> u32 {
             }
         }
     }
-    if kind == 0 {
-        // No pieces.
-        return 0;
-    }
-    for b in 0..16 {
-        if motion(record, b) != motion(record, lead(record, b)) {
-            return 6;
+    // An intra record has no pieces.
+    if kind != TYPE_INTRA {
+        for b in 0..16 {
+            if motion(record, b) != motion(record, lead(record, b)) {
+                return 6;
+            }
         }
+    }
+    if !(0..=MAX_DETAIL).contains(&record[DETAIL]) {
+        return 7;
     }
     0
 }
@@ -128,7 +137,7 @@ mod tests {
 
     fn intra() -> Record {
         let mut r = [0; WORDS];
-        write_without_motion(&mut r, 0);
+        write_without_motion(&mut r, 0, 0);
         r
     }
 
@@ -188,6 +197,32 @@ mod tests {
         assert_eq!(broken(intra(), &[(76, 1)]), 5);
         assert_eq!(broken(w, &[(73, 5)]), 6);
         assert_eq!(broken(w, &[(7, 1)]), 6);
+    }
+
+    /// Rule 7 is tested last, on intra records too.
+    #[test]
+    fn detail_last() {
+        let w = whole([0, -1], [4, -8, 0, 0]);
+        for detail in 0..=15 {
+            assert_eq!(broken(w, &[(77, detail)]), 0);
+            assert_eq!(broken(intra(), &[(77, detail)]), 0);
+        }
+        for detail in [-1, 16, 17, 256, i16::MIN, i16::MAX] {
+            assert_eq!(broken(w, &[(77, detail)]), 7);
+            assert_eq!(broken(intra(), &[(77, detail)]), 7);
+            assert_eq!(broken(w, &[(77, detail), (7, 1)]), 6);
+            assert_eq!(broken(w, &[(77, detail), (73, 5)]), 6);
+            assert_eq!(broken(w, &[(77, detail), (76, 1)]), 5);
+            assert_eq!(broken(intra(), &[(77, detail), (76, 1)]), 5);
+            assert_eq!(broken(intra(), &[(77, detail), (7, 0)]), 4);
+            assert_eq!(broken(w, &[(77, detail), (5, -2)]), 3);
+            assert_eq!(broken(w, &[(77, detail), (1, 1)]), 2);
+            assert_eq!(broken(w, &[(77, detail), (0, 5)]), 1);
+        }
+        // Pieces of each type may have a detail.
+        for kind in 1..=4 {
+            assert_eq!(broken(w, &[(0, kind), (77, 9)]), 0);
+        }
     }
 
     /// Of each split: a change of one block's vector is found, and a change

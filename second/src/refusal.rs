@@ -5,7 +5,7 @@ pub struct Refusal {
     pub number: u32,
     /// A record address for 8, a byte offset for 9, otherwise 0.
     pub place: u32,
-    /// 1 to 6 for refusal 8, otherwise 0.
+    /// 1 to 7 for refusal 8, otherwise 0.
     pub rule: u32,
 }
 

@@ -3,7 +3,7 @@
 
 use crate::geometry::Numbers;
 use crate::grammar::Machine;
-use crate::record::{write_without_motion, Record, REFERENCES, TYPE_INTRA, VECTORS, WORDS};
+use crate::record::{write_without_motion, Record, DETAIL, REFERENCES, TYPE_INTRA, VECTORS, WORDS};
 use crate::refusal::Refusal;
 
 /// Longest text, in bytes.
@@ -26,22 +26,33 @@ fn numbers(line: &[u8]) -> impl Iterator<Item = i16> + '_ {
         .map(|(value, sign)| (sign * value) as i16)
 }
 
-/// Reads a record line.
+/// The first numbers on a line, as many as fit.
+fn read_numbers<const N: usize>(line: &[u8]) -> [i16; N] {
+    let mut words = [0; N];
+    words.iter_mut().zip(numbers(line)).for_each(|(word, number)| *word = number);
+    words
+}
+
+/// Reads a record line. Its last number is the detail, in an mb line as in
+/// the record itself.
 fn read_record(line: &[u8], record: &mut Record) {
     match line[1] {
-        b'i' => write_without_motion(record, TYPE_INTRA),
+        b'i' => {
+            let [detail] = read_numbers(line);
+            write_without_motion(record, TYPE_INTRA, detail);
+        }
         b'w' => {
-            let mut six = [0; 6];
-            six.iter_mut().zip(numbers(line)).for_each(|(word, number)| *word = number);
+            let [r0, r1, x0, y0, x1, y1, detail] = read_numbers(line);
             record[..REFERENCES].copy_from_slice(&[1, 0, 0, 0, 0]);
             for references in record[REFERENCES..VECTORS].chunks_exact_mut(2) {
-                references.copy_from_slice(&six[..2]);
+                references.copy_from_slice(&[r0, r1]);
             }
-            for vectors in record[VECTORS..].chunks_exact_mut(4) {
-                vectors.copy_from_slice(&six[2..]);
+            for vectors in record[VECTORS..DETAIL].chunks_exact_mut(4) {
+                vectors.copy_from_slice(&[x0, y0, x1, y1]);
             }
+            record[DETAIL] = detail;
         }
-        _ => record.iter_mut().zip(numbers(line)).for_each(|(word, number)| *word = number),
+        _ => *record = read_numbers(line),
     }
 }
 

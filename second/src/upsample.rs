@@ -1,11 +1,12 @@
 //! The calls on records: one macroblock, and a picture.
 
+use crate::detail::detail;
 use crate::geometry::{Geometry, Numbers};
 use crate::inherit::{inherit, IntraSet, Quadrants, Scales, INTRA_FROM};
 use crate::map::{reading, Reading};
 use crate::record::{
-    block_in, broken_rule, motion, record_at, write_without_motion, Motion, Record, NO_MOTION, REFERENCES, TYPE_INTRA,
-    TYPE_OUTSIDE, VECTORS, WORDS,
+    block_in, broken_rule, motion, record_at, write_without_motion, Motion, Record, DETAIL, NO_MOTION, REFERENCES,
+    TYPE_INTRA, TYPE_OUTSIDE, VECTORS, WORDS,
 };
 use crate::refusal::Refusal;
 use crate::split::{fewest_pieces, Split, SubSplit};
@@ -32,6 +33,9 @@ pub struct Answer {
     pub class: Class,
     pub first_column: i32,
     pub first_row: i32,
+    /// 0 to 15: bit q says that quadrant q reads a base quadrant with luma
+    /// coefficients.
+    pub detail: u8,
 }
 
 /// Numbers of macroblocks by the kind of their answers.
@@ -90,13 +94,18 @@ fn class(x: &Reading, y: &Reading) -> Class {
     }
 }
 
-/// The motions of the sixteen blocks, and which of them read intra macroblocks.
-fn gather(base: &[i16], base_columns: usize, x: &Reading, y: &Reading) -> (Quadrants, IntraSet) {
-    // The records read. Where one column or row is read, the other stands for it.
+/// The records read: first, right, below and diagonal. Where one column or row
+/// is read, it stands for the other too.
+type Records<'a> = [&'a Record; 4];
+
+fn records<'a>(base: &'a [i16], base_columns: usize, x: &Reading, y: &Reading) -> Records<'a> {
     let record = |column, row| record_at(base, (y.first + row) * base_columns + x.first + column);
     let (right, below) = (x.two as usize, y.two as usize);
-    let records = [record(0, 0), record(right, 0), record(0, below), record(right, below)];
+    [record(0, 0), record(right, 0), record(0, below), record(right, below)]
+}
 
+/// The motions of the sixteen blocks, and which of them read intra macroblocks.
+fn gather(records: &Records, x: &Reading, y: &Reading) -> (Quadrants, IntraSet) {
     let mut quadrants = [[NO_MOTION; 4]; 4];
     let mut intra: IntraSet = 0;
     for (q, quadrant) in quadrants.iter_mut().enumerate() {
@@ -144,7 +153,7 @@ fn vectors(quadrants: &Quadrants, split: Split, scales: &Scales) -> [[[i16; 4]; 
     }
 }
 
-fn write_inherited(out: &mut Record, quadrants: &Quadrants, split: Split, scales: &Scales) {
+fn write_inherited(out: &mut Record, quadrants: &Quadrants, split: Split, scales: &Scales, detail: u8) {
     out[0] = split.number();
     out[1..REFERENCES].copy_from_slice(&split.sub_numbers());
     let vectors = vectors(quadrants, split, scales);
@@ -155,27 +164,30 @@ fn write_inherited(out: &mut Record, quadrants: &Quadrants, split: Split, scales
             out[VECTORS + 4 * block_in(q, i)..][..4].copy_from_slice(&vectors[q][i]);
         }
     }
+    out[DETAIL] = detail.into();
 }
 
 /// Answers one macroblock whose records have been judged.
 fn answer(geometry: &Geometry, base: &[i16], readings: Both, out: &mut Record) -> Answer {
     let Some((x, y)) = readings else {
-        write_without_motion(out, TYPE_OUTSIDE);
-        return Answer { kind: Kind::Outside, class: Class::Corner, first_column: 0, first_row: 0 };
+        write_without_motion(out, TYPE_OUTSIDE, 0);
+        return Answer { kind: Kind::Outside, class: Class::Corner, first_column: 0, first_row: 0, detail: 0 };
     };
-    let (mut quadrants, intra) = gather(base, geometry.x.base_count(), x, y);
+    let records = records(base, geometry.x.base_count(), x, y);
+    let detail = detail(records.map(|record| record[DETAIL]), x, y);
+    let (mut quadrants, intra) = gather(&records, x, y);
     let kind = if intra.count_ones() >= INTRA_FROM {
-        write_without_motion(out, TYPE_INTRA);
+        write_without_motion(out, TYPE_INTRA, detail.into());
         Kind::Intra
     } else {
         inherit(&mut quadrants, intra);
         // A scale is at least 65,536, so scaling keeps different words
         // different: the split may be found before step 4.
         let split = fewest_pieces(&quadrants);
-        write_inherited(out, &quadrants, split, &geometry.scales);
+        write_inherited(out, &quadrants, split, &geometry.scales, detail);
         Kind::Inherited(split)
     };
-    Answer { kind, class: class(x, y), first_column: x.first as i32, first_row: y.first as i32 }
+    Answer { kind, class: class(x, y), first_column: x.first as i32, first_row: y.first as i32, detail }
 }
 
 fn judge_record(base: &[i16], address: usize) -> Result<(), Refusal> {

@@ -3,9 +3,13 @@
 mod common;
 
 use common::*;
+use second::geometry::Geometry;
+use second::map::reading;
 use second::{macroblock, picture, Answer, Class, Counts, Kind, Numbers, Refusal, Session, Split, WORDS};
 
 const UNTOUCHED: i16 = -12_345;
+
+const OUTSIDE: Answer = Answer { kind: Kind::Outside, class: Class::Corner, first_column: 0, first_row: 0, detail: 0 };
 
 /// The call's result; refused, it has left the words as they were.
 fn one(numbers: Numbers, base: &[i16], column: i32, row: i32, words: usize) -> (Result<Answer, Refusal>, Vec<i16>) {
@@ -34,12 +38,13 @@ fn bench_center() {
     let base = [intra(), intra(), intra(), motion].concat();
     let (result, out) = one(numbers, &base, 1, 1, WORDS);
     let inherited = Kind::Inherited(Split::S16x16);
-    assert_eq!(result, Ok(Answer { kind: inherited, class: Class::Center, first_column: 0, first_row: 0 }));
+    assert_eq!(result, Ok(Answer { kind: inherited, class: Class::Center, first_column: 0, first_row: 0, detail: 0 }));
     assert_eq!(out, motion);
 
     let base = [motion, motion, motion, intra()].concat();
     let (result, out) = one(numbers, &base, 1, 1, WORDS);
-    assert_eq!(result, Ok(Answer { kind: Kind::Intra, class: Class::Center, first_column: 0, first_row: 0 }));
+    let intra_answer = Answer { kind: Kind::Intra, class: Class::Center, first_column: 0, first_row: 0, detail: 0 };
+    assert_eq!(result, Ok(intra_answer));
     assert_eq!(out, intra());
 }
 
@@ -126,7 +131,7 @@ fn refusals_in_order() {
     for (column, row) in [(-1, 0), (0, -1), (2, 0), (0, 2), (i32::MIN, i32::MAX), (i32::MAX, 0)] {
         assert_eq!(one(good, &bad_record, column, row, WORDS).0, Err(refusal(7)));
     }
-    for words in [0, 76, 78, 154] {
+    for words in [0, 77, 79, 156] {
         assert_eq!(one(good, &bad_record, -1, 0, words).0, Err(refusal(6)));
     }
     for length in [0, 1, 4 * WORDS - 1, 3 * WORDS] {
@@ -157,7 +162,7 @@ fn places_of_malformed_records() {
     assert_eq!(one(numbers, &base, 1, 1, WORDS).0, Err(malformed(2, 2)));
     // Outside the window no record is read.
     let (result, out) = one(numbers, &base, 0, 0, WORDS);
-    assert_eq!(result, Ok(Answer { kind: Kind::Outside, class: Class::Corner, first_column: 0, first_row: 0 }));
+    assert_eq!(result, Ok(OUTSIDE));
     let mut outside = intra();
     outside[0] = 5;
     assert_eq!(out, outside);
@@ -189,8 +194,25 @@ fn pieces_are_even(out: &[i16]) -> bool {
     })
 }
 
+/// The detail of an answer inside the window, block by block.
+fn detail_by_blocks(numbers: Numbers, base: &[i16], column: usize, row: usize) -> u8 {
+    let geometry = Geometry::new(numbers).unwrap();
+    let (x, y) = (reading(&geometry.x, column).unwrap(), reading(&geometry.y, row).unwrap());
+    let mut bits = 0;
+    for b in 0..16 {
+        let (i, j) = (b % 4, b / 4);
+        let address = (y.first + y.step[j] as usize) * geometry.x.base_count() + x.first + x.step[i] as usize;
+        let base_quadrant = y.block[j] / 2 * 2 + x.block[i] / 2;
+        if base[address * WORDS + 77] >> base_quadrant & 1 == 1 {
+            bits |= 1 << (j / 2 * 2 + i / 2);
+        }
+    }
+    bits
+}
+
 /// Over random pictures: the picture, the single calls and a session agree;
-/// records that are not named may hold anything; windows and pieces are right.
+/// records that are not named may hold anything; windows, pieces and details
+/// are right.
 #[test]
 fn picture_single_and_session() {
     let mut random = Random(77);
@@ -223,6 +245,8 @@ fn picture_single_and_session() {
             let is_inside = inside(16 * column, numbers.offset_x, numbers.scaled_width)
                 && inside(16 * row, numbers.offset_y, numbers.scaled_height);
             assert_eq!(answer.kind != Kind::Outside, is_inside);
+            let detail = if is_inside { detail_by_blocks(numbers, &base, column as usize, row as usize) } else { 0 };
+            assert_eq!((answer.detail, record[77]), (detail, detail.into()));
             if let Kind::Inherited(split) = answer.kind {
                 assert!(pieces_are_even(record));
                 assert_eq!((split.number(), &split.sub_numbers()[..]), (record[0], &record[1..5]));
@@ -269,6 +293,164 @@ fn largest_picture() {
     let mut bad = base.clone();
     bad[65_535 * WORDS + 76] = 1;
     assert_eq!(picture(numbers, &bad, &mut out), Err(malformed(65_535, 5)));
+    bad[65_535 * WORDS + 76] = 0;
+    bad[65_535 * WORDS + 77] = 16;
+    assert_eq!(picture(numbers, &bad, &mut out), Err(malformed(65_535, 7)));
+}
+
+/// The answer of one macroblock over four base macroblocks, with its words.
+fn over_four(offset: i32, base: [[i16; WORDS]; 4]) -> (Answer, Vec<i16>) {
+    let numbers = Numbers::from_array([32, 32, 32, 32, offset, offset, 48, 48]);
+    let (result, out) = one(numbers, &base.concat(), 1, 1, WORDS);
+    let answer = result.unwrap();
+    assert_eq!((answer.class, answer.first_column, answer.first_row), (Class::Center, 0, 0));
+    assert_eq!(out[77], answer.detail.into());
+    (answer, out)
+}
+
+/// A base macroblock's bits go on by quadrant, not by macroblock.
+#[test]
+fn detail_by_quadrant() {
+    let motion = whole([0, -1], [4, -8, 0, 0]);
+    let twice = Numbers::from_array([16, 16, 32, 32, 0, 0, 32, 32]);
+    let same = Numbers::from_array([16, 16, 16, 16, 0, 0, 16, 16]);
+    for detail in 0..=15 {
+        let base = with_detail(motion, detail);
+        // Doubled, each macroblock reads one quadrant.
+        for quadrant in 0..4 {
+            let (result, out) = one(twice, &base, quadrant % 2, quadrant / 2, WORDS);
+            let expected = if detail >> quadrant & 1 == 1 { 15 } else { 0 };
+            assert_eq!((result.unwrap().detail, out[77]), (expected, expected.into()));
+        }
+        // At its own size, each quadrant reads the same one.
+        let (result, out) = one(same, &base, 0, 0, WORDS);
+        assert_eq!((result.unwrap().detail, &out[..]), (detail as u8, &base[..]));
+    }
+    // With a window at 8, each quadrant reads the near one of its macroblock.
+    let with = |details: [i16; 4]| over_four(8, details.map(|detail| with_detail(motion, detail))).0.detail;
+    assert_eq!(with([0b1000, 0b0100, 0b0010, 0b0001]), 0b1111);
+    assert_eq!(with([0b0111, 0b1011, 0b1101, 0b1110]), 0b0000);
+    assert_eq!(with([0b1000, 0, 0, 0b0001]), 0b1001);
+    assert_eq!(with([0, 0b1111, 0, 0]), 0b0010);
+    // At 4 a quadrant reads several: the first column and row of blocks lie in
+    // macroblocks 0, 1 and 2.
+    let with = |details: [i16; 4]| over_four(4, details.map(|detail| with_detail(motion, detail))).0.detail;
+    assert_eq!(with([0b1111, 0, 0, 0]), 0b0001);
+    assert_eq!(with([0, 0b0100, 0, 0]), 0b0011);
+    assert_eq!(with([0, 0b1000, 0, 0]), 0b0010);
+    assert_eq!(with([0, 0, 0b0010, 0]), 0b0101);
+    assert_eq!(with([0, 0, 0, 0b0001]), 0b1111);
+    assert_eq!(with([0, 0, 0, 0b1000]), 0b1000);
+    assert_eq!(with([0b0111, 0b0011, 0b0101, 0]), 0b0000);
+}
+
+/// The quadrants of intra macroblocks count, and those that give their motion
+/// to them do not count in their place. Intra answers have a detail too.
+#[test]
+fn detail_of_intra() {
+    let motion = whole([0, -1], [4, -8, 0, 0]);
+    let inherited = Kind::Inherited(Split::S16x16);
+    // Quadrant 0 reads macroblock 0 alone and is filled from quadrant 1.
+    for (detail, expected) in [(0b0000, 0b1110), (0b0111, 0b1110), (0b1000, 0b1111)] {
+        let others = with_detail(motion, 15);
+        let (answer, out) = over_four(8, [with_detail(intra(), detail), others, others, others]);
+        assert_eq!((answer.kind, answer.detail), (inherited, expected));
+        assert_eq!(out, with_detail(motion, expected.into()));
+    }
+    // Block 0 alone reads macroblock 0 and is filled diagonally.
+    let (answer, out) = over_four(4, [with_detail(intra(), 0b1000), intra(), intra(), motion]);
+    assert_eq!((answer.kind, answer.detail), (inherited, 0b0001));
+    assert_eq!(out, with_detail(motion, 0b0001));
+    // Intra, by intra macroblocks' bits and by others'.
+    let (answer, out) = over_four(8, [with_detail(intra(), 8), intra(), intra(), with_detail(motion, 1)]);
+    assert_eq!((answer.kind, answer.detail), (Kind::Intra, 0b1001));
+    assert_eq!(out, with_detail(intra(), 0b1001));
+    let (answer, out) = over_four(8, [8, 4, 2, 1].map(|detail| with_detail(intra(), detail)));
+    assert_eq!((answer.kind, answer.detail), (Kind::Intra, 0b1111));
+    assert_eq!(out, with_detail(intra(), 15));
+    let (answer, out) = over_four(8, [7, 11, 13, 14].map(|detail| with_detail(intra(), detail)));
+    assert_eq!((answer.kind, answer.detail), (Kind::Intra, 0b0000));
+    assert_eq!(out, intra());
+}
+
+/// Outside it is 0, whatever the base has; words that were there are gone.
+#[test]
+fn detail_outside() {
+    let numbers = Numbers::from_array([16, 16, 32, 32, 0, 0, 48, 32]);
+    let mut outside = intra();
+    outside[0] = 5;
+    for record in [with_detail(whole([0, -1], [4, -8, 0, 0]), 15), with_detail(intra(), 15)] {
+        let mut words = vec![UNTOUCHED; 6 * WORDS];
+        picture(numbers, &record, &mut words).unwrap();
+        let details: Vec<_> = words.chunks(WORDS).map(|words| words[77]).collect();
+        assert_eq!(details, [15, 15, 0, 15, 15, 0]);
+        for row in 0..2 {
+            let (result, out) = one(numbers, &record, 2, row, WORDS);
+            assert_eq!(result, Ok(OUTSIDE));
+            assert_eq!(out, outside);
+        }
+    }
+}
+
+/// The details of a base take no part in anything else: with others, only the
+/// answer's detail and word 77 may differ.
+#[test]
+fn detail_apart() {
+    let mut random = Random(78);
+    let mut split_with_bits = 0;
+    for _ in 0..200 {
+        let numbers = geometry(&mut random);
+        let base = base_of(&mut random, base_records(numbers), &[0, 1, 2, 3, 4], 2);
+        let picture_with = |detail: i16| {
+            let mut base = base.clone();
+            base.chunks_mut(WORDS).for_each(|record| record[77] = detail);
+            let mut out = vec![UNTOUCHED; full_records(numbers) * WORDS];
+            (picture(numbers, &base, &mut out), out)
+        };
+        let mut out = vec![UNTOUCHED; full_records(numbers) * WORDS];
+        let counts = picture(numbers, &base, &mut out);
+        let (none_counts, none) = picture_with(0);
+        let (all_counts, all) = picture_with(15);
+        assert_eq!((none_counts, all_counts), (counts, counts));
+        for ((record, none), all) in out.chunks(WORDS).zip(none.chunks(WORDS)).zip(all.chunks(WORDS)) {
+            assert_eq!((&none[..77], &all[..77]), (&record[..77], &record[..77]));
+            assert_eq!((none[77], all[77]), (0, if record[0] == 5 { 0 } else { 15 }));
+            split_with_bits += (record[0] == 1 && ![0, 15].contains(&record[77])) as u32;
+        }
+    }
+    assert!(split_with_bits > 50, "{split_with_bits}");
+}
+
+/// Rule 7 in the calls: after the other rules of a record, but the lowest
+/// address goes before all rules.
+#[test]
+fn malformed_details() {
+    let numbers = Numbers::from_array([32, 32, 32, 32, 4, 4, 48, 48]);
+    let sound = whole([0, -1], [4, -8, 0, 0]).repeat(4);
+    let refused = |words: &[(usize, usize, i16)]| {
+        let mut base = sound.clone();
+        words.iter().for_each(|&(address, at, word)| base[address * WORDS + at] = word);
+        let (single, _) = one(numbers, &base, 1, 1, WORDS);
+        let mut out = vec![UNTOUCHED; 9 * WORDS];
+        let all = picture(numbers, &base, &mut out);
+        assert_eq!(single.map(|_| ()), all.map(|_| ()));
+        assert!(all.is_ok() || out.iter().all(|&word| word == UNTOUCHED));
+        all.err()
+    };
+    assert_eq!(refused(&[(0, 77, 15), (3, 77, 15)]), None);
+    for bad in [16, -1, i16::MAX, i16::MIN] {
+        assert_eq!(refused(&[(2, 77, bad)]), Some(malformed(2, 7)));
+        assert_eq!(refused(&[(2, 77, bad), (2, 73, 5)]), Some(malformed(2, 6)));
+        assert_eq!(refused(&[(2, 77, bad), (2, 76, 5)]), Some(malformed(2, 5)));
+        assert_eq!(refused(&[(1, 77, bad), (2, 0, 9)]), Some(malformed(1, 7)));
+        assert_eq!(refused(&[(3, 77, bad), (2, 0, 9)]), Some(malformed(2, 1)));
+    }
+    // Records that are not read are not checked: here only the first is.
+    let numbers = Numbers::from_array([32, 32, 64, 64, 0, 0, 64, 64]);
+    let mut base = sound.clone();
+    base[3 * WORDS + 77] = 16;
+    assert!(one(numbers, &base, 0, 0, WORDS).0.is_ok());
+    assert_eq!(one(numbers, &base, 3, 3, WORDS).0, Err(malformed(3, 7)));
 }
 
 #[test]
@@ -303,6 +485,8 @@ fn session_states() {
     assert_eq!((&session, result), (&before, Err(refusal(5))));
     let (session, result) = session.next(&base, &mut words[1..]);
     assert_eq!((&session, result), (&before, Err(refusal(6))));
+    let (session, result) = session.next(&with_detail(base, 16), &mut words);
+    assert_eq!((&session, result), (&before, Err(malformed(0, 7))));
     let mut broken = base;
     broken[0] = 6;
     let (mut session, result) = session.next(&broken, &mut words);

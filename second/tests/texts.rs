@@ -6,7 +6,7 @@ use common::*;
 use second::{log, log_with_refusal, text, Numbers, Refusal, TEXT_RECORDS, TEXT_WORDS, WORDS};
 
 const HEAD: &str = "(base 16 16)\n(scaled 32 32)\n(at 0 0)\n(full 48 32)\n";
-const WHOLE: &str = "(whole (0 -1) (4 -8 0 0))\n";
+const WHOLE: &str = "(whole (0 -1) (4 -8 0 0) 0)\n";
 const UNTOUCHED: i16 = -12_345;
 
 fn read(bytes: &[u8]) -> (Result<(Numbers, u32), Refusal>, Vec<i16>) {
@@ -25,6 +25,13 @@ fn logged(text: &str) -> String {
     String::from_utf8(log(text.as_bytes())).unwrap()
 }
 
+/// A record's line in the mb form, whatever its words are.
+fn mb_line(record: &[i16; WORDS]) -> String {
+    let part = |words: &[i16]| words.iter().map(|word| word.to_string()).collect::<Vec<_>>().join(" ");
+    let [sub_types, references, vectors] = [&record[1..5], &record[5..13], &record[13..77]].map(part);
+    format!("(mb {} ({sub_types}) ({references}) ({vectors}) {})\n", record[0], record[77])
+}
+
 #[test]
 fn whole_case() {
     let expected =
@@ -38,15 +45,68 @@ fn whole_case() {
 fn record_lines() {
     let mut random = Random(8);
     let mixed: [i16; WORDS] = std::array::from_fn(|_| random.within(-32768, 32767) as i16);
-    let part = |words: &[i16]| words.iter().map(|word| word.to_string()).collect::<Vec<_>>().join(" ");
-    let mb = format!("(mb {} ({}) ({}) ({}))\n", mixed[0], part(&mixed[1..5]), part(&mixed[5..13]), part(&mixed[13..]));
+    let mb = mb_line(&mixed);
     let lines = format!(
-        "(base 1 -2)\n(note 9 (9))\n(scaled 0 32767)\n(at -32768 5)\n(full 6 7)\n(intra)\n{WHOLE}(note x 5)\n{mb}(whole (7 -9) (32767 -32768 1 0))\n"
+        "(base 1 -2)\n(note 9 (9))\n(scaled 0 32767)\n(at -32768 5)\n(full 6 7)\n(intra 9)\n{WHOLE}(note x 5)\n{mb}(whole (7 -9) (32767 -32768 1 0) 6)\n"
     );
     let (result, words) = read(lines.as_bytes());
     assert_eq!(result, Ok((Numbers::from_array([1, -2, 0, 32767, -32768, 5, 6, 7]), 4)));
-    let expected = [intra(), whole([0, -1], [4, -8, 0, 0]), mixed, whole([7, -9], [32767, -32768, 1, 0])];
+    let last = with_detail(whole([7, -9], [32767, -32768, 1, 0]), 6);
+    let expected = [with_detail(intra(), 9), whole([0, -1], [4, -8, 0, 0]), mixed, last];
     assert_eq!(words[..4 * WORDS], expected.concat());
+}
+
+/// In each form the last number is word 77. Any number of the grammar is
+/// read; rule 7 of refusal 8 judges it later, and only the log program.
+#[test]
+fn details_in_lines() {
+    let motion = whole([0, -1], [4, -8, 0, 0]);
+    for detail in [0, 1, 9, 15, 16, -1, 255, 32767, -32768] {
+        let forms = [
+            (format!("(intra {detail})\n"), intra()),
+            (format!("(whole (0 -1) (4 -8 0 0) {detail})\n"), motion),
+            (mb_line(&with_detail(motion, detail)), motion),
+        ];
+        for (line, record) in forms {
+            let (result, words) = read(format!("{HEAD}{line}").as_bytes());
+            assert_eq!(result.map(|(_, records)| records), Ok(1), "{line}");
+            assert_eq!(words[..WORDS], with_detail(record, detail), "{line}");
+
+            let (lines, refused) = log_with_refusal(format!("{HEAD}{line}").as_bytes());
+            if (0..=15).contains(&detail) {
+                // The log has no number for the detail.
+                let without = log(format!("{HEAD}{}", mb_line(&record)).as_bytes());
+                assert_eq!((lines, refused), (without, None), "{line}");
+            } else {
+                assert_eq!(lines, b"(refused 8 0)\n", "{line}");
+                assert_eq!(refused, Some(Refusal { number: 8, place: 0, rule: 7 }), "{line}");
+            }
+        }
+    }
+}
+
+/// The forms of document 01 have no last number; others that break the
+/// grammar at it.
+#[test]
+fn lines_without_detail() {
+    let mb = mb_line(&whole([0, -1], [4, -8, 0, 0]));
+    let old_mb = mb.replace(") 0)\n", "))\n");
+    for (line, place) in [
+        ("(intra)\n", "(intra".len()),
+        ("(whole (0 -1) (4 -8 0 0))\n", "(whole (0 -1) (4 -8 0 0)".len()),
+        (&old_mb, old_mb.len() - 2),
+        ("(intra )\n", "(intra ".len()),
+        ("(intra 32768)\n", "(intra 3276".len()),
+        ("(intra -0)\n", "(intra -".len()),
+        ("(intra 0 0)\n", "(intra 0".len()),
+        ("(whole (0 -1) (4 -8 0 0) (0))\n", "(whole (0 -1) (4 -8 0 0) ".len()),
+    ] {
+        // A line that is sound before it, and one after.
+        let text = format!("{HEAD}(intra 0)\n{line}{WHOLE}");
+        let place = (HEAD.len() + "(intra 0)\n".len() + place) as u32;
+        assert_eq!(read(text.as_bytes()).0, Err(refusal(9, place)), "{line}");
+        assert_eq!(logged(&text), format!("(refused 9 {place})\n"), "{line}");
+    }
 }
 
 #[test]
@@ -62,7 +122,7 @@ fn text_refusals_in_order() {
     assert_eq!(read(&long[1..]).0, Err(refusal(9, 0)));
     assert_eq!(read(b"").0, Err(refusal(9, 0)));
 
-    let lines = |count: usize| format!("{HEAD}{}", "(intra)\n".repeat(count));
+    let lines = |count: usize| format!("{HEAD}{}", "(intra 0)\n".repeat(count));
     assert_eq!(read(HEAD.as_bytes()).0.unwrap().1, 0);
     assert_eq!(read(lines(TEXT_RECORDS).as_bytes()).0.unwrap().1, 99);
     assert_eq!(read(lines(100).as_bytes()).0, Err(refusal(10, 0)));
@@ -89,7 +149,7 @@ fn log_refusals_in_order() {
     assert_eq!(logged(HEAD), "(refused 5 0)\n");
     assert_eq!(logged(&format!("{HEAD}{WHOLE}{WHOLE}")), "(refused 5 0)\n");
     let two = HEAD.replace("base 16", "base 32");
-    let bad = "(whole (0 -1) (4 -8 0 1))\n";
+    let bad = "(whole (0 -1) (4 -8 0 1) 0)\n";
     assert_eq!(logged(&format!("{two}{WHOLE}{bad}")), "(refused 8 1)\n");
     // All records are checked, and before the first line.
     let away = two.replace("(at 0 0)", "(at 800 0)");
@@ -111,14 +171,14 @@ fn log_and_refusal() {
     assert_eq!(with("(base"), Some(refusal(9, 5)));
     assert_eq!(with(HEAD), Some(refusal(5, 0)));
     let two = HEAD.replace("base 16", "base 32");
-    let bad = "(whole (0 -1) (4 -8 0 1))\n";
+    let bad = "(whole (0 -1) (4 -8 0 1) 0)\n";
     assert_eq!(with(&format!("{two}{WHOLE}{bad}")), Some(Refusal { number: 8, place: 1, rule: 5 }));
 }
 
 /// The largest log.
 #[test]
 fn largest_log() {
-    let sync = "(base 16 16)\n(scaled 32 32)\n(at 0 0)\n(full 4096 4096)\n(intra)\n";
+    let sync = "(base 16 16)\n(scaled 32 32)\n(at 0 0)\n(full 4096 4096)\n(intra 0)\n";
     let found = logged(sync);
     assert_eq!(found.lines().count(), 65_537);
     assert_eq!(found.lines().nth(65_535), Some("(mb 255 255 5 0)"));

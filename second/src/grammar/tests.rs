@@ -23,13 +23,19 @@ mod plainly {
     }
 
     fn record(line: &str) -> bool {
-        if line == "(intra)" {
+        let Some((line, detail)) = line.strip_suffix(')').and_then(|l| l.rsplit_once(' ')) else {
+            return false;
+        };
+        if !number(detail) {
+            return false;
+        }
+        if line == "(intra" {
             return true;
         }
-        if let Some(inner) = line.strip_prefix("(whole (").and_then(|l| l.strip_suffix("))")) {
+        if let Some(inner) = line.strip_prefix("(whole (").and_then(|l| l.strip_suffix(')')) {
             return inner.split_once(") (").is_some_and(|(a, b)| numbers(a, 2) && numbers(b, 4));
         }
-        let inner = line.strip_prefix("(mb ").and_then(|l| l.strip_suffix("))"));
+        let inner = line.strip_prefix("(mb ").and_then(|l| l.strip_suffix(')'));
         inner.and_then(|l| l.split_once(" (")).is_some_and(|(kind, lists)| {
             let lists: Vec<_> = lists.split(") (").collect();
             number(kind) && lists.len() == 3 && numbers(lists[0], 4) && numbers(lists[1], 8) && numbers(lists[2], 64)
@@ -173,14 +179,15 @@ fn random_text(random: &mut Random) -> String {
         ["base", "scaled", "at", "full"].iter().map(|name| format!("({name} {})\n", list(2, random))).collect();
     for _ in 0..random.below(4) {
         lines.push(match random.below(3) {
-            0 => "(intra)\n".into(),
-            1 => format!("(whole ({}) ({}))\n", list(2, random), list(4, random)),
+            0 => format!("(intra {})\n", random_number(random)),
+            1 => format!("(whole ({}) ({}) {})\n", list(2, random), list(4, random), random_number(random)),
             _ => format!(
-                "(mb {} ({}) ({}) ({}))\n",
+                "(mb {} ({}) ({}) ({}) {})\n",
                 random_number(random),
                 list(4, random),
                 list(8, random),
-                list(64, random)
+                list(64, random),
+                random_number(random)
             ),
         });
     }
@@ -270,8 +277,15 @@ fn number_range() {
     for (number, good) in [("32767", true), ("32768", false), ("-32768", true), ("-32769", false), ("-0", false)] {
         let head = HEAD.replace("48", number);
         assert_eq!(machine().belongs(head.as_bytes()).is_ok(), good);
-        let record = format!("{HEAD}(whole (0 {number}) (1 2 3 4))\n");
-        assert_eq!(machine().belongs(record.as_bytes()).is_ok(), good);
+        let mb = format!("(mb 1 (0 0 0 0) (0 0 0 0 0 0 0 0) ({}0)", "0 ".repeat(63));
+        for record in [
+            format!("(whole (0 {number}) (1 2 3 4) 5)\n"),
+            format!("(whole (0 1) (1 2 3 4) {number})\n"),
+            format!("(intra {number})\n"),
+            format!("{mb} {number})\n"),
+        ] {
+            assert_eq!(machine().belongs(format!("{HEAD}{record}").as_bytes()).is_ok(), good, "{record}");
+        }
     }
 }
 
@@ -299,7 +313,7 @@ fn places() {
     place("(base 16 16)\n(|base 16 16)\n");
     place("(base 16 16)\n(|at 0 0)\n");
     place("(|full 16 16)\n");
-    place("(|intra)\n");
+    place("(|intra 0)\n");
     place("(note |)\n");
     place("(note|s)\n");
     place("(not|)\n");
@@ -316,13 +330,30 @@ fn places() {
         "|intra",
         "|\n",
         "(intra|",
-        "(intra)|",
-        "(intra)|)\n",
-        "(intra)\n(|base 16 16)\n",
-        "(whole (0|) (0 0 0 0))\n",
-        "(whole (0 0| 0) (0 0 0 0))\n",
-        "(whole (0 0) (0 0 0 0| 0))\n",
+        "(intra |",
+        "(intra 0|",
+        "(intra 0)|",
+        "(intra 0)|)\n",
+        "(intra |)\n",
+        "(intra | 0)\n",
+        "(intra 0| )\n",
+        "(intra 0| 0)\n",
+        "(intra |(0))\n",
+        "(intra -|0)\n",
+        "(intra 0|1)\n",
+        "(intra 3276|8)\n",
+        "(intra -3276|9)\n",
+        "(intra 0)\n(|base 16 16)\n",
+        "(whole (0|) (0 0 0 0) 0)\n",
+        "(whole (0 0| 0) (0 0 0 0) 0)\n",
+        "(whole (0 0) (0 0 0 0| 0) 0)\n",
         "(whole (0 0) (0 0 0 0)|\n",
+        "(whole (0 0) (0 0 0 0)|0)\n",
+        "(whole (0 0) (0 0 0 0) |)\n",
+        "(whole (0 0) (0 0 0 0) |(0))\n",
+        "(whole (0 0) (0 0 0 0) 0|\n",
+        "(whole (0 0) (0 0 0 0) 0| 0)\n",
+        "(whole (0 0) |0 (0 0 0 0))\n",
         "(mb |(",
         "(mb 1|)",
         "(mb 1 (0 0 0|) ",
@@ -330,6 +361,14 @@ fn places() {
         "(note (note)|",
     ];
     after_head.iter().for_each(|marked| place(&format!("{HEAD}{marked}")));
+    let mb = format!("{HEAD}(mb 1 (0 0 0 0) (0 0 0 0 0 0 0 0) ({}0", "0 ".repeat(63));
+    for marked in ["| 0) 0)\n", ")|\n", ")|0)\n", ") |)\n", ") |(0))\n", ") 15|\n", ") 15| 0)\n", ") 3276|8)\n"] {
+        place(&format!("{mb}{marked}"));
+    }
+    // The forms of document 01, without the last number.
+    place(&format!("{HEAD}(intra|)\n"));
+    place(&format!("{HEAD}(whole (0 -1) (4 -8 0 0)|)\n"));
+    place(&format!("{mb})|)\n"));
     assert_eq!(machine().belongs(HEAD.as_bytes()), Ok(()));
     assert_eq!(machine().belongs(format!("{HEAD}(note)\n").as_bytes()), Ok(()));
 }

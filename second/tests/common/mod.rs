@@ -28,15 +28,22 @@ pub fn whole(reference: [i16; 2], vector: [i16; 4]) -> [i16; WORDS] {
     let mut words = intra();
     words[0] = 1;
     words[5..13].chunks_mut(2).for_each(|two| two.copy_from_slice(&reference));
-    words[13..].chunks_mut(4).for_each(|four| four.copy_from_slice(&vector));
+    words[13..77].chunks_mut(4).for_each(|four| four.copy_from_slice(&vector));
     words
 }
 
-/// A well-formed record of the type given: each piece's first block gets
-/// random motion and the others copy it.
+/// The same record with another detail.
+pub fn with_detail(mut words: [i16; WORDS], detail: i16) -> [i16; WORDS] {
+    words[77] = detail;
+    words
+}
+
+/// A well-formed record of the type given, with a random detail: each piece's
+/// first block gets random motion and the others copy it.
 pub fn record_of(random: &mut Random, kind: i16, span: i32) -> [i16; WORDS] {
     let mut words = intra();
     words[0] = kind;
+    words[77] = random.below(16) as i16;
     if kind == 0 {
         return words;
     }
