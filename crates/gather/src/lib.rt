@@ -19,7 +19,7 @@ use records::read::is_single;
 use records::read::is_whole;
 
 // The base macroblock of the 4 by 4 block at coordinates x and y.
-fn address_of(width: usize, x: u16, y: u16) -> usize
+pub fn address_of(width: usize, x: u16, y: u16) -> usize
     requires { ⌜ width ≤ 256 ⌝ }
     ensures { λ r. ⌜ r ≡ addressAt width x y ⌝ }
 {

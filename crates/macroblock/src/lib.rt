@@ -18,11 +18,15 @@ use definitions::Answer;
 use definitions::Axes;
 use definitions::Axis;
 use definitions::AxisStep;
+use definitions::Basis;
 use definitions::EnhancementSample;
 use definitions::Origin;
 use definitions::Split;
 use definitions::SubSplit;
 use definitions::SubSplits;
+use details::detail_of_more;
+use details::detail_of_one;
+use details::detail_of_quarter;
 use gather::Spot;
 use gather::across_of;
 use gather::block_read;
@@ -43,6 +47,7 @@ use motion::BlockMotion;
 use motion::Scales;
 use quadrant::fill;
 use quadrant::merge;
+use records::layout::DETAIL;
 use records::layout::INTRA;
 use records::layout::OUTSIDE;
 use records::layout::SUB_TYPES;
@@ -137,7 +142,7 @@ pub fn make(base: &[i16], f: Fixed, h: AxisRead, v: AxisRead, out: &mut [i16]) -
         }
         return make_of_more(base, f, across, down, out);
     }
-    write_unused(out, OUTSIDE);
+    write_unused(out, OUTSIDE, 0);
     Sort::Outside
 }
 
@@ -156,6 +161,20 @@ fn is_half(reads: [u16; 4]) -> bool
     reads[3] / 2 == reads[0] / 2
 }
 
+// The detail where one macroblock is read: of one of its quadrants, or of more.
+fn detail_within(
+    base: &[i16],
+    width: usize,
+    across: [u16; 4],
+    down: [u16; 4],
+    quarter: bool,
+) -> u8 {
+    if quarter {
+        return detail_of_quarter(base, width, across, down);
+    }
+    detail_of_one(base, width, across, down)
+}
+
 // Where one macroblock is read. If it is intra, all blocks are (`set-all`), else the set is empty (`set-none`). If it is 16×16, or one quadrant of it is read that is not
 // divided, all blocks have one motion (`one-read`), which no step but the fourth changes, and the split is 16×16 (`whole-written`).
 fn make_of_one(base: &[i16], f: Fixed, across: [u16; 4], down: [u16; 4], out: &mut [i16]) -> Sort
@@ -166,16 +185,22 @@ fn make_of_one(base: &[i16], f: Fixed, across: [u16; 4], down: [u16; 4], out: &m
     let width = f.width;
     let x = across[0];
     let y = down[0];
+    let quarter = is_half(across) & is_half(down);
+    let detail = detail_within(base, width, across, down, quarter);
     if reads_intra(base, width, x, y) {
-        write_unused(out, INTRA);
+        write_unused(out, INTRA, detail as i16);
         return Sort::Intra;
     }
-    let quarter = is_half(across) & is_half(down);
     if reads_whole(base, width, x, y) | (quarter & reads_single(base, width, x, y)) {
-        write_one(out, WHOLE, scaled(f.scales, block_read(base, width, x, y)));
+        write_one(
+            out,
+            WHOLE,
+            scaled(f.scales, block_read(base, width, x, y)),
+            detail as i16,
+        );
         return Sort::Inherited;
     }
-    make_inherited(base, f, across, down, 0, out);
+    make_inherited(base, f, across, down, 0, detail, out);
     Sort::Inherited
 }
 
@@ -185,18 +210,19 @@ fn make_of_more(base: &[i16], f: Fixed, across: [u16; 4], down: [u16; 4], out: &
     ensures sort { λ r. ⌜ r ≡ sortInside f across down (now (base .entry)) ⌝ }
     ensures written { λ r. ⌜ now (out .exit) ≡ writtenInside f across down (now (base .entry)) ⌝ }
 {
+    let detail = detail_of_more(base, f.width, across, down);
     let c = corners_of(base, f.width, across, down);
     if c.first | c.right | c.below | c.diagonal {
         let set = set_of(c, across, down);
         if mostly_intra(set) {
-            write_unused(out, INTRA);
+            write_unused(out, INTRA, detail as i16);
             return Sort::Intra;
         }
-        make_inherited(base, f, across, down, set, out);
+        make_inherited(base, f, across, down, set, detail, out);
         return Sort::Inherited;
     }
     // None is intra: the set is empty (`no-corner`).
-    make_inherited(base, f, across, down, 0, out);
+    make_inherited(base, f, across, down, 0, detail, out);
     Sort::Inherited
 }
 
@@ -208,6 +234,7 @@ fn make_inherited(
     across: [u16; 4],
     down: [u16; 4],
     set: u16,
+    detail: u8,
     out: &mut [i16],
 )
     requires { ⌜ Ready f across down (now base) × (set ≡ setInside f across down (now base)) × (length (now out) ≡ recordWords) ⌝ }
@@ -217,6 +244,7 @@ fn make_inherited(
         out,
         f.scales,
         motions_made(base, f.width, across, down, set),
+        detail,
     );
 }
 
@@ -304,6 +332,14 @@ fn origin_of(h: AxisRead, v: AxisRead) -> Origin
     }
 }
 
+// With the detail that a written record says.
+fn basis_of(h: AxisRead, v: AxisRead, out: &[i16]) -> Basis {
+    Basis {
+        origin: origin_of(h, v),
+        detail: out[DETAIL] as u8,
+    }
+}
+
 fn sub_split_of(word: i16) -> SubSplit
     ensures { λ r. ⌜ r ≡ subSplitOf word ⌝ }
 {
@@ -349,13 +385,13 @@ pub fn answer(base: &[i16], f: Fixed, h: AxisRead, v: AxisRead, out: &mut [i16])
     match make(base, f, h, v, out) {
         Sort::Outside => Answer::Outside,
         Sort::Intra => {
-            let origin = origin_of(h, v);
-            Answer::Intra(origin)
+            let basis = basis_of(h, v, out);
+            Answer::Intra(basis)
         }
         Sort::Inherited => {
-            let origin = origin_of(h, v);
+            let basis = basis_of(h, v, out);
             let split = split_said(out);
-            Answer::Inherited(origin, split)
+            Answer::Inherited(basis, split)
         }
     }
 }

@@ -1,12 +1,17 @@
 -- What the machine's comparisons of two words tell of the words, and numbers that are cut to words. Assumes nothing.
+use Prim.Native.Nat.{_<_}
 use mathlib.Core.Path.{_≡_, sym, _∙_}
-use mathlib.Core.Bool.{true, false}
-use lib.IntN.{ℤ}
-use borrow.Author.Tests.{eq-eqb, ne-eqb}
+use native.Mathlib.Omega.{arith}
+use mathlib.Core.Bool.{true, false, true≢false}
+use lib.Dec.{T, leb}
+use lib.IntN.{ℤ, pos, negsuc, natAbs}
+use lib.Signed.{nonNeg}
+use borrow.Author.Tests.{eq-eqb, ne-eqb, leb-true}
 use mir.Facts.{sfits-widen, toZ-ofZ}
 use mir.Syntax.{w16, w32}
 use mir.Val.{SFits, ofZ, toZ}
-use Rattle.definitions.specs.Basics.{eqZ}
+use Rattle.definitions.specs.Basics.{between, eqZ}
+use Rattle.definitions.proofs.Choices.{both-true}
 use Rattle.definitions.proofs.Motions.{word-same}
 
 module _ (a b : ℤ) (fa : SFits w16 a) (fb : SFits w16 b) where
@@ -23,3 +28,8 @@ module _ (z : ℤ) (f : SFits w16 z) where
 
   pub narrowed : toZ w16 (ofZ w16 (toZ w32 (ofZ w32 z))) ≡ z
   narrowed = toZ-ofZ held ∙ toZ-ofZ (sfits-widen {w′ = w32} tt f)
+
+-- A number of four bits, as rule 7 asks it.
+pub four-bits : (z : ℤ) → between (pos 0) (pos 15) z ≡ true → T (nonNeg z) × (natAbs z < 16)
+four-bits (pos n) e = (tt, omega (arith, leb-true n 15 (both-true (leb 0 n) (leb n 15) e .1)))
+four-bits (negsuc n) e = absurd (true≢false (sym e))

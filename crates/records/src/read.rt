@@ -1,10 +1,12 @@
 // Reading motion records.
 ghost use mathlib.Core.Path.{_≡_};
 ghost use Prim.Native.Nat.{_+_, _*_, _≤_, _<_};
-ghost use lib.IntN.{pos};
+ghost use mathlib.Core.Bool.{true};
+ghost use lib.IntN.{natAbs, pos};
 ghost use lib.ListN.{length};
 ghost use Rattle.definitions.specs.Basics.{eqZ};
-ghost use Rattle.definitions.specs.Record.{isIntra, recordAt, recordWords, subTypeOf, typeOf};
+ghost use Rattle.definitions.specs.Record.{detailOf, isIntra, recordAt, recordWords, rule7, subTypeOf, typeOf};
+use crate::layout::DETAIL;
 use crate::layout::SUB_TYPES;
 use crate::layout::TYPE;
 use definitions::RECORD_WORDS;
@@ -44,4 +46,13 @@ pub fn is_single(base: &[i16], a: usize, q: usize) -> bool
 {
     let words = record_at(base, a);
     words[SUB_TYPES + q] == 0
+}
+
+// The detail of a record that keeps rule 7.
+pub fn detail_at(base: &[i16], a: usize) -> u8
+    requires { ⌜ ((a + 1) * recordWords ≤ length (now base)) × (a < 65536) × (rule7 (recordAt (now base) a) ≡ true) ⌝ }
+    ensures { λ r. ⌜ (r ≡ natAbs (detailOf (recordAt (now (base .entry)) a))) × (r < 16) ⌝ }
+{
+    let words = record_at(base, a);
+    words[DETAIL] as u8
 }

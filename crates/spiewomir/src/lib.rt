@@ -1,6 +1,6 @@
 // The C interface: the calls on numbers and slices, with results by value. include/spiewomir.h declares it.
 ghost use Rattle.definitions.specs.Record.{narrow};
-ghost use Rattle.definitions.specs.Answer.{answerOrigin};
+ghost use Rattle.definitions.specs.Answer.{answerBasis};
 ghost use Rattle.definitions.specs.Calls.{macroblockCall, pictureCall};
 ghost use Rattle.definitions.specs.Session.{nextCall};
 ghost use Rattle.spiewomir.specs.Demands.{MacroblockGiven, NextGiven, PictureGiven};
@@ -12,6 +12,7 @@ ghost use Rattle.session.specs.Values.{freshSession, stateOf};
 ghost use mathlib.Core.Path.{_≡_};
 use definitions::Answer;
 use definitions::AxisNumbers;
+use definitions::Basis;
 use definitions::Class;
 use definitions::Counts;
 use definitions::LogReply;
@@ -58,6 +59,7 @@ pub struct MacroblockResult {
     pub class: u32,
     pub column: u32,
     pub row: u32,
+    pub detail: u32,
 }
 
 #[repr(C)]
@@ -161,18 +163,24 @@ fn wide(n: u8) -> u32
     n as u32
 }
 
-// What an answer says besides its split: outside as document 01 has it.
-fn origin_of(a: Answer) -> Origin
-    ensures { λ r. ⌜ r ≡ answerOrigin a ⌝ }
+// Outside as document 01 has it, without detail.
+const OUTSIDE: Basis = Basis {
+    origin: Origin {
+        class: Class::Corner,
+        column: 0,
+        row: 0,
+    },
+    detail: 0,
+};
+
+// What an answer says besides its split.
+fn basis_of(a: Answer) -> Basis
+    ensures { λ r. ⌜ r ≡ answerBasis a ⌝ }
 {
     match a {
-        Answer::Outside => Origin {
-            class: Class::Corner,
-            column: 0,
-            row: 0,
-        },
-        Answer::Intra(o) => o,
-        Answer::Inherited(o, _) => o,
+        Answer::Outside => OUTSIDE,
+        Answer::Intra(b) => b,
+        Answer::Inherited(b, _) => b,
     }
 }
 
@@ -192,7 +200,8 @@ fn answer_result(a: Answer) -> MacroblockResult
     ensures { λ r. ⌜ r ≡ answerResult a ⌝ }
 {
     let sub = sub_types_of(a);
-    let origin = origin_of(a);
+    let basis = basis_of(a);
+    let origin = basis.origin;
     let class = origin.class;
     MacroblockResult {
         refusal: 0,
@@ -206,6 +215,7 @@ fn answer_result(a: Answer) -> MacroblockResult
         class: class_number(class),
         column: origin.column,
         row: origin.row,
+        detail: wide(basis.detail),
     }
 }
 
@@ -227,6 +237,7 @@ fn reply_result(r: MacroblockReply) -> MacroblockResult
             class: 0,
             column: 0,
             row: 0,
+            detail: 0,
         },
     }
 }

@@ -18,6 +18,7 @@ ghost use mathlib.Core.Path.{_≡_};
 use motion::BlockMotion;
 use motion::Scale;
 use motion::Scales;
+use records::layout::DETAIL;
 use records::layout::REFERENCES;
 use records::layout::TYPE;
 use records::layout::VECTORS;
@@ -136,9 +137,9 @@ fn put_types(out: &mut [i16], kind: u8, a: u8, b: u8, c: u8, d: u8)
 
 // The record of four quadrants of four blocks, as steps 1 to 3 have left them: scaled, and with the fewest pieces.
 // With a divided quadrant the type is 4 (`chosen-quarters`), else the first blocks of the quadrants tell it (`chosen-whole`).
-pub fn write_made(out: &mut [i16], s: Scales, m: [[BlockMotion; 4]; 4])
+pub fn write_made(out: &mut [i16], s: Scales, m: [[BlockMotion; 4]; 4], detail: u8)
     requires { ⌜ (length (now out) ≡ recordWords) × AcceptedScales s × AllWritable m ⌝ }
-    ensures { λ _. ⌜ now (out .exit) ≡ laidOut (dividedBy (chosen (allScaled s (quadrantsIn m))) (motionAt (allScaled s (quadrantsIn m)))) ⌝ }
+    ensures { λ _. ⌜ now (out .exit) ≡ laidOut (dividedBy (chosen (allScaled s (quadrantsIn m))) (motionAt (allScaled s (quadrantsIn m))) (pos detail)) ⌝ }
 {
     let a = put_quadrant(out, s, 0, FIRST_BLOCK[0], m[0]);
     let b = put_quadrant(out, s, 1, FIRST_BLOCK[1], m[1]);
@@ -146,4 +147,5 @@ pub fn write_made(out: &mut [i16], s: Scales, m: [[BlockMotion; 4]; 4])
     let d = put_quadrant(out, s, 3, FIRST_BLOCK[3], m[3]);
     let kind = if a + b + c + d == 0 { type_in(out) } else { 4 };
     put_types(&mut out[TYPE..REFERENCES], kind, a, b, c, d);
+    out[DETAIL] = detail as i16;
 }
