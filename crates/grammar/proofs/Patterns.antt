@@ -294,17 +294,6 @@ tail-stored r s i old from new zeros own e l w v =
     let f : own ≡ v .value = v .stored ∙ stored-all (v .value) zeros (l ∙ sym (form-count (v .is))) in
     record { value = v .value; is = v .is; stops = v .stops; stored = w ∙ ap (λ (vs : List ℤ). sets old from (wordsFor r vs)) f }
 
-pub intra-stored :
-    (s : List ℕ) (i : ℕ) (old : List ℤ) (from : ℕ) (new : List ℤ) (e : ℕ) → new ≡ sets old from (wordsFor intra [])
-    → ReadAt (Exactly (110 ∷ 116 ∷ 114 ∷ 97 ∷ 41 ∷ 10 ∷ [])) s i (At e) → StoresAt (TailOf intra) (wordsFor intra) s i old from new (At e)
-intra-stored s i old from new e w t =
-    let k = word-pattern (110 ∷ 116 ∷ 114 ∷ 97 ∷ 41 ∷ 10 ∷ []) s i (At e) t in
-    record { value = []; is = subst (TailOf intra []) (sym (t .is)) (bytes-form (110 ∷ 116 ∷ 114 ∷ 97 ∷ 41 ∷ 10 ∷ [])); stops = k .stops; stored = w }
-
-pub intra-breaks :
-    (s : List ℕ) (i p : ℕ) → ReadAt (Exactly (110 ∷ 116 ∷ 114 ∷ 97 ∷ 41 ∷ 10 ∷ [])) s i (Bad p) → Breaks (Any (TailOf intra)) s i p
-intra-breaks s i p t = word-pattern (110 ∷ 116 ∷ 114 ∷ 97 ∷ 41 ∷ 10 ∷ []) s i (Bad p) t
-
 -- ---- a record line after its bracket
 pub entry-cons :
     {b : ℕ} {w : List ℕ} {C : Type 0} → Any EntryTail (b ∷ w) → ((r : RecordKind) → b ≡ letter (kindOf r) → Any (TailOf r) w → C) → C
@@ -359,8 +348,9 @@ module _ (s : List ℕ) (i : ℕ) where
   module _ (l : i ≤ length s) where
     entry-breaks : ((u : List ℕ) → i < length s → Any EntryTail (getD s i 0 ∷ u) → ⊥) → Breaks (Any EntryTail) s i i
     entry-breaks =
+        let k = form-some (tailOf (kindOf intra)) in
         bad-here (Any EntryTail) s i l entry-none
-        (record { rest = 105 ∷ 110 ∷ 116 ∷ 114 ∷ 97 ∷ 41 ∷ 10 ∷ []; is = (record { kind = intra; fields = [] }, tail-entry intra [] refl (bytes-form (110 ∷ 116 ∷ 114 ∷ 97 ∷ 41 ∷ 10 ∷ []))) })
+        (record { rest = letter (kindOf intra) ∷ k .rest; is = (record { kind = intra; fields = k .is .0 }, tail-entry intra (k .is .0) refl (k .is .1)) })
 
     pub record-ends : length s ≤ i → Breaks (Any EntryTail) s i i
     record-ends e = entry-breaks (λ u m h. omega arith)

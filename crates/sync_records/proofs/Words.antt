@@ -23,12 +23,12 @@ stored-more old new words from k l e =
     ∙ ap (sets old from) (sym (take-suc words k (pos 0) l) ∙ ap (λ (j : ℕ). take j words) (sym (add-one k)))
 
 module _ (out : List ℤ) (from : ℕ) (fits : from + recordWords ≤ length out) where
-  part-put : (w : List ℤ) → length w ≡ recordWords → take from out ++ (w ++ drop (from + 77 - from) (drop from out)) ≡ sets out from w
+  part-put : (w : List ℤ) → length w ≡ recordWords → take from out ++ (w ++ drop (from + 78 - from) (drop from out)) ≡ sets out from w
   part-put w e =
-      let k : from + 77 - from ≡ length w = omega arith in
+      let k : from + 78 - from ≡ length w = omega arith in
       rw k (ap (λ (o : List ℤ). take from out ++ (w ++ o)) (drop-drop (length w) from out) ∙ sym (append-assoc (take from out) w (drop (from + length w) out)) ∙ sym (sets-eq w out from (omega arith)))
 
   pub record-put :
-      (kind : ℕ) (m : Motion) (part : List ℤ) → part ≡ laidOut (allOne kind m)
-      → take from out ++ (part ++ drop (from + 77 - from) (drop from out)) ≡ sets out from (laidOut (allOne kind m))
-  record-put kind m part e = rw e (part-put (laidOut (allOne kind m)) (laid-length (allOne kind m)))
+      (kind : ℕ) (m : Motion) (detail : ℤ) (part : List ℤ) → part ≡ laidOut (allOne kind m detail)
+      → take from out ++ (part ++ drop (from + 78 - from) (drop from out)) ≡ sets out from (laidOut (allOne kind m detail))
+  record-put kind m detail part e = rw e (part-put (laidOut (allOne kind m detail)) (laid-length (allOne kind m detail)))

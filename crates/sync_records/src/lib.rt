@@ -111,13 +111,13 @@ fn then_field(s: &[u8], r: Got, out: &mut [i16], from: usize) -> Got
     }
 }
 
-// A record of one motion in all blocks.
-fn put_record(out: &mut [i16], from: usize, kind: u8, m: BlockMotion)
+// A record of one motion in all blocks, with its detail.
+fn put_record(out: &mut [i16], from: usize, kind: u8, m: BlockMotion, detail: i16)
     requires { ⌜ (from + recordWords ≤ length (now out)) × InWords m ⌝ }
-    ensures { λ _. ⌜ now (out .exit) ≡ sets (now (out .entry)) from (laidOut (allOne kind (motionIn m))) ⌝ }
+    ensures { λ _. ⌜ now (out .exit) ≡ sets (now (out .entry)) from (laidOut (allOne kind (motionIn m) detail)) ⌝ }
 {
     let to = from + RECORD_WORDS;
-    write_one(&mut out[from..to], kind, m);
+    write_one(&mut out[from..to], kind, m, detail);
 }
 
 // A number of a line, in 32 bits.
@@ -127,65 +127,70 @@ fn wide(n: i16) -> i32
     n as i32
 }
 
-// The motion of six numbers: the references, and the vectors of list 0 and list 1.
-fn motion_of(six: [i16; 6]) -> BlockMotion
-    ensures is { λ r. ⌜ motionIn r ≡ wholeMotion six ⌝ }
+// The motion of a line's seven numbers: the references, and the vectors of list 0 and list 1. The last is the detail.
+fn motion_of(seven: [i16; 7]) -> BlockMotion
+    ensures is { λ r. ⌜ motionIn r ≡ wholeMotion seven ⌝ }
     ensures fits { λ r. ⌜ InWords r ⌝ }
 {
     BlockMotion {
-        r0: wide(six[0]),
-        r1: wide(six[1]),
-        x0: wide(six[2]),
-        y0: wide(six[3]),
-        x1: wide(six[4]),
-        y1: wide(six[5]),
+        r0: wide(seven[0]),
+        r1: wide(seven[1]),
+        x0: wide(seven[2]),
+        y0: wide(seven[3]),
+        x1: wide(seven[4]),
+        y1: wide(seven[5]),
     }
 }
 
-// The record of a line (whole (R0 R1) (X0 Y0 X1 Y1)) with these numbers.
-fn put_whole(out: &mut [i16], from: usize, six: [i16; 6])
+// The record of a line (whole (R0 R1) (X0 Y0 X1 Y1) D) with these numbers.
+fn put_whole(out: &mut [i16], from: usize, seven: [i16; 7])
     requires { ⌜ from + recordWords ≤ length (now out) ⌝ }
-    ensures { λ _. ⌜ now (out .exit) ≡ sets (now (out .entry)) from (wordsFor whole six) ⌝ }
+    ensures { λ _. ⌜ now (out .exit) ≡ sets (now (out .entry)) from (wordsFor whole seven) ⌝ }
 {
-    put_record(out, from, layout::WHOLE, motion_of(six));
+    put_record(out, from, layout::WHOLE, motion_of(seven), seven[6]);
 }
 
-// What comes after the letter of a line (intra). The record is stored once all of it is read.
+// What comes after the letter of a line (intra D). The record is stored once all of it is read.
 fn intra_tail(s: &[u8], at: usize, out: &mut [i16], from: usize) -> Got
     requires { ⌜ (at ≤ length (now s)) × (from + recordWords ≤ length (now out)) ⌝ }
     ensures { λ r. ⌜ StoresAt (TailOf intra) (wordsFor intra) (now (s .entry)) at (now (out .entry)) from (now (out .exit)) r ⌝ }
 {
-    let r = word_at(s, at, b"ntra)\n");
+    let mut one = [0i16; 1];
+    let a = then_word(s, Got::At(at), b"ntra ");
+    let b = then_fields(s, a, 0, &mut one, 0);
+    let r = then_word(s, b, b"\n");
     match r {
         Got::At(e) => {
-            put_record(out, from, layout::INTRA, NO_MOTION);
+            put_record(out, from, layout::INTRA, NO_MOTION, one[0]);
             Got::At(e)
         }
         Got::Bad(p) => Got::Bad(p),
     }
 }
 
-// The same of a line (whole (R0 R1) (X0 Y0 X1 Y1)).
+// The same of a line (whole (R0 R1) (X0 Y0 X1 Y1) D).
 fn whole_tail(s: &[u8], at: usize, out: &mut [i16], from: usize) -> Got
     requires { ⌜ (at ≤ length (now s)) × (from + recordWords ≤ length (now out)) ⌝ }
     ensures { λ r. ⌜ StoresAt (TailOf whole) (wordsFor whole) (now (s .entry)) at (now (out .entry)) from (now (out .exit)) r ⌝ }
 {
-    let mut six = [0i16; 6];
+    let mut seven = [0i16; 7];
     let a = then_word(s, Got::At(at), b"hole (");
-    let b = then_fields(s, a, 1, &mut six, 0);
+    let b = then_fields(s, a, 1, &mut seven, 0);
     let c = then_word(s, b, b" (");
-    let d = then_fields(s, c, 3, &mut six, 2);
-    let r = then_word(s, d, b")\n");
+    let d = then_fields(s, c, 3, &mut seven, 2);
+    let f = then_word(s, d, b" ");
+    let g = then_fields(s, f, 0, &mut seven, 6);
+    let r = then_word(s, g, b"\n");
     match r {
         Got::At(e) => {
-            put_whole(out, from, six);
+            put_whole(out, from, seven);
             Got::At(e)
         }
         Got::Bad(p) => Got::Bad(p),
     }
 }
 
-// The same of a line (mb T (4 sub-types) (8 references) (64 vector words)).
+// The same of a line (mb T (4 sub-types) (8 references) (64 vector words) D).
 fn mb_tail(s: &[u8], at: usize, out: &mut [i16], from: usize) -> Got
     requires { ⌜ (at ≤ length (now s)) × (from + recordWords ≤ length (now out)) ⌝ }
     ensures { λ r. ⌜ StoresAt (TailOf mb) (wordsFor mb) (now (s .entry)) at (now (out .entry)) from (now (out .exit)) r ⌝ }
@@ -199,7 +204,9 @@ fn mb_tail(s: &[u8], at: usize, out: &mut [i16], from: usize) -> Got
     let f = then_fields(s, e, 7, &mut own, layout::REFERENCES);
     let g = then_word(s, f, b" (");
     let h = then_fields(s, g, 63, &mut own, layout::VECTORS);
-    let r = then_word(s, h, b")\n");
+    let i = then_word(s, h, b" ");
+    let j = then_fields(s, i, 0, &mut own, layout::DETAIL);
+    let r = then_word(s, j, b"\n");
     match r {
         Got::At(q) => {
             put_words(out, from, &own);

@@ -13,13 +13,13 @@ use Rattle.sync_read.proofs.record_lines.Statement.{statement}
 use Rattle.sync_read.proofs.record_lines.Tie as tie
 
 abbrev Inv-loop : tie.InvT-loop
-Inv-loop s at words own₀ p₀ n₀ own p n = (length own ≡ 7623) × Walked s at p n own
+Inv-loop s at words own₀ p₀ n₀ own p n = (length own ≡ 7722) × Walked s at p n own
 
 abbrev μ-loop : tie.MeasureT-loop
 μ-loop s at words own₀ p₀ n₀ own p n = length s - p
 
 loop-holds : tie.Need-loop-holds Inv-loop μ-loop
-loop-holds c = (length-replicate 7623 (pos 0), walked-first _ _ _ (c .before .pre .0))
+loop-holds c = (length-replicate 7722 (pos 0), walked-first _ _ _ (c .before .pre .0))
 
 shared-slice-read-if1 : tie.Need-shared-slice-read-if1 Inv-loop μ-loop
 shared-slice-read-if1 c = search needs
@@ -145,7 +145,7 @@ put-words-requires c κs =
     let l = c .before .before .before .before .before .loop in
     let e = l .inv .0 in
     let t = c .before .before .before .if5 .taken in
-    omega (arith, length-take-le (77 * l .n - 0) (l .own) (omega arith), c .before .before .before .before .before .before .before .pre .1)
+    omega (arith, length-take-le (78 * l .n - 0) (l .own) (omega arith), c .before .before .before .before .before .before .before .pre .1)
 
 same-length : tie.Need-same-length Inv-loop μ-loop
 same-length c = search needs
@@ -154,7 +154,7 @@ returns-5 : tie.Need-returns-5 Inv-loop μ-loop
 returns-5 c =
     let a = c .before .before .before .before .before .before .before .before .before .args in
     let l = c .before .before .before .before .before .before .before .loop in
-    let k : 77 * l .n - 0 ≡ 77 * l .n = omega arith in
+    let k : 78 * l .n - 0 ≡ 78 * l .n = omega arith in
     lines-stored (a .s .now) (a .at) (l .n) (l .own) (a .words .now) _ (l .p) (l .inv .1) (c .before .before .before .before .before .before .loop-test .left) (c .before .before .before .before .before .if5 .taken) (c .before .before .before .before .before .before .before .before .before .pre .1) (c .before .put-words .ensures ∙ ap (λ (j : ℕ). sets (a .words .now) 0 (take j (l .own))) k)
 
 returns-6 : tie.Need-returns-6 Inv-loop μ-loop

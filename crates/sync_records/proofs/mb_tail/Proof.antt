@@ -16,20 +16,22 @@ abbrev zeros : List ℤ
 zeros = replicate recordWords (pos 0)
 
 -- the whole line
-line-read : (c : tie.After-then-word5) → Chain (tailOf mbLine) (c .before .before .before .before .before .before .before .before .before .before .before .before .before .before .before .before .before .before .before .before .before .before .before .args .s .now) (c .before .before .before .before .before .before .before .before .before .before .before .before .before .before .before .before .before .before .before .before .before .before .before .args .at) zeros 0 (c .before .before .before .then-fields3 .last .1 .1 .1 .0) (c .then-word5 .result)
+line-read : (c : tie.After-then-word6) → Chain (tailOf mbLine) (c .before .before .before .before .before .before .before .before .before .before .before .before .before .before .before .before .before .before .before .before .before .before .before .before .before .before .before .before .args .s .now) (c .before .before .before .before .before .before .before .before .before .before .before .before .before .before .before .before .before .before .before .before .before .before .before .before .before .before .before .before .args .at) zeros 0 (c .before .before .before .then-fields4 .last .1 .1 .1 .0) (c .then-word6 .result)
 line-read c =
-    let o = c .before .before .before .before .before .before .before .before .before .before .before .before .before .before .before .before .before .before .before .before .before .before .before in
+    let o = c .before .before .before .before .before .before .before .before .before .before .before .before .before .before .before .before .before .before .before .before .before .before .before .before .before .before .before .before in
     let a = o .args in
     let v0 = chain-first (a .s .now) (a .at) zeros 0 (o .pre .0) in
-    let v1 = chain-word v0 (c .before .before .before .before .before .before .before .before .before .before .before .before .before .before .before .before .before .before .before .before .then-word .ensures) in
-    let v2 = chain-numbers (spaced ∷ []) v1 (c .before .before .before .before .before .before .before .before .before .before .before .before .before .before .before .before .before .before .then-field .ensures) refl in
-    let v3 = chain-word v2 (c .before .before .before .before .before .before .before .before .before .before .before .before .before .before .before .then-word2 .ensures) in
-    let v4 = chain-numbers (numbersThen 3 []) v3 (c .before .before .before .before .before .before .before .before .before .before .before .before .before .then-fields .ensures) refl in
-    let v5 = chain-word v4 (c .before .before .before .before .before .before .before .before .before .before .then-word3 .ensures) in
-    let v6 = chain-numbers (numbersThen 7 []) v5 (c .before .before .before .before .before .before .before .before .then-fields2 .ensures) refl in
-    let v7 = chain-word v6 (c .before .before .before .before .before .then-word4 .ensures) in
-    let v8 = chain-numbers (numbersThen 63 []) v7 (c .before .before .before .then-fields3 .ensures) refl in
-    chain-word v8 (c .then-word5 .ensures)
+    let v1 = chain-word v0 (c .before .before .before .before .before .before .before .before .before .before .before .before .before .before .before .before .before .before .before .before .before .before .before .before .before .then-word .ensures) in
+    let v2 = chain-numbers (spaced ∷ []) v1 (c .before .before .before .before .before .before .before .before .before .before .before .before .before .before .before .before .before .before .before .before .before .before .before .then-field .ensures) refl in
+    let v3 = chain-word v2 (c .before .before .before .before .before .before .before .before .before .before .before .before .before .before .before .before .before .before .before .before .then-word2 .ensures) in
+    let v4 = chain-numbers (numbersThen 3 []) v3 (c .before .before .before .before .before .before .before .before .before .before .before .before .before .before .before .before .before .before .then-fields .ensures) refl in
+    let v5 = chain-word v4 (c .before .before .before .before .before .before .before .before .before .before .before .before .before .before .before .then-word3 .ensures) in
+    let v6 = chain-numbers (numbersThen 7 []) v5 (c .before .before .before .before .before .before .before .before .before .before .before .before .before .then-fields2 .ensures) refl in
+    let v7 = chain-word v6 (c .before .before .before .before .before .before .before .before .before .before .then-word4 .ensures) in
+    let v8 = chain-numbers (numbersThen 63 []) v7 (c .before .before .before .before .before .before .before .before .then-fields3 .ensures) refl in
+    let v9 = chain-word v8 (c .before .before .before .before .before .then-word5 .ensures) in
+    let v10 = chain-numbers (numbersThen 0 []) v9 (c .before .before .before .then-fields4 .ensures) refl in
+    chain-word v10 (c .then-word6 .ensures)
 
 slice-aggregate-then-word : tie.Need-slice-aggregate-then-word
 slice-aggregate-then-word c = search needs
@@ -85,6 +87,18 @@ slice-aggregate-then-word-5 c = search needs
 then-word-requires-5 : tie.Need-then-word-requires-5
 then-word-requires-5 c κs = search needs
 
+slice-aggregate-then-fields-4 : tie.Need-slice-aggregate-then-fields-4
+slice-aggregate-then-fields-4 c = search needs
+
+then-fields-requires-4 : tie.Need-then-fields-requires-4
+then-fields-requires-4 c κs = (c .before .then-word5 .ensures .inside, omega arith, omega (arith, c .before .before .before .own8 .given))
+
+slice-aggregate-then-word-6 : tie.Need-slice-aggregate-then-word-6
+slice-aggregate-then-word-6 c = search needs
+
+then-word-requires-6 : tie.Need-then-word-requires-6
+then-word-requires-6 c κs = search needs
+
 enum-known-r : tie.Need-enum-known-r
 enum-known-r c = search needs
 
@@ -92,7 +106,7 @@ slice-aggregate-put-words : tie.Need-slice-aggregate-put-words
 slice-aggregate-put-words c = search needs
 
 put-words-requires : tie.Need-put-words-requires
-put-words-requires c κs = omega (arith, c .before .before .before .before .before .before .before .own8 .given, c .before .before .before .before .before .before .before .before .before .before .before .before .before .before .before .before .before .before .before .before .before .before .before .before .before .before .before .before .pre .1)
+put-words-requires c κs = omega (arith, c .before .before .before .before .before .before .before .own10 .given, c .before .before .before .before .before .before .before .before .before .before .before .before .before .before .before .before .before .before .before .before .before .before .before .before .before .before .before .before .before .before .before .before .before .pre .1)
 
 enum-known-r-2 : tie.Need-enum-known-r-2
 enum-known-r-2 c = search needs
@@ -102,7 +116,7 @@ same-length c = search needs
 
 returns : tie.Need-returns
 returns c =
-    let a = c .before .before .before .before .before .before .before .before .before .before .before .before .before .before .before .before .before .before .before .before .before .before .before .before .before .before .before .before .before .before .args in
+    let a = c .before .before .before .before .before .before .before .before .before .before .before .before .before .before .before .before .before .before .before .before .before .before .before .before .before .before .before .before .before .before .before .before .before .before .before .args in
     tail-stored mb (a .s .now) (a .at) (a .out .now) (a .from) _ zeros _ _ refl (c .before .put-words .ensures) (rw (c .before .before .before .before .before .r .given .1) at (line-read (c .before .before .before .before .before .before .before) .is))
 
 returns-2 : tie.Need-returns-2
@@ -130,6 +144,10 @@ mb-tail-spec =
     then-fields-requires-3
     slice-aggregate-then-word-5
     then-word-requires-5
+    slice-aggregate-then-fields-4
+    then-fields-requires-4
+    slice-aggregate-then-word-6
+    then-word-requires-6
     enum-known-r
     slice-aggregate-put-words
     put-words-requires

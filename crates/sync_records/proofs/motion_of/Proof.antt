@@ -47,24 +47,24 @@ wide-requires-6 c κs = search needs
 
 returns : tie.Need-returns
 returns c =
-    let six = c .before .before .before .before .before .before .before .before .before .before .before .before .args .t1 in
+    let seven = c .before .before .before .before .before .before .before .before .before .before .before .before .args .t1 in
     let a0 : toZ w32 (ofZ w32 (c .before .before .before .before .before .before .before .before .before .before .wide .result)) ≡ c .before .before .before .before .before .before .before .before .before .before .wide .result = toZ-ofZ (search needs) in
-    let b0 : toZ w16 (ofZ w16 (getD six 0 (pos 0))) ≡ getD six 0 (pos 0) = toZ-ofZ (search needs) in
+    let b0 : toZ w16 (ofZ w16 (getD seven 0 (pos 0))) ≡ getD seven 0 (pos 0) = toZ-ofZ (search needs) in
     let e0 = a0 ∙ (c .before .before .before .before .before .before .before .before .before .before .wide .ensures .0 ∙ b0) in
     let a1 : toZ w32 (ofZ w32 (c .before .before .before .before .before .before .before .before .wide2 .result)) ≡ c .before .before .before .before .before .before .before .before .wide2 .result = toZ-ofZ (search needs) in
-    let b1 : toZ w16 (ofZ w16 (getD six 1 (pos 0))) ≡ getD six 1 (pos 0) = toZ-ofZ (search needs) in
+    let b1 : toZ w16 (ofZ w16 (getD seven 1 (pos 0))) ≡ getD seven 1 (pos 0) = toZ-ofZ (search needs) in
     let e1 = a1 ∙ (c .before .before .before .before .before .before .before .before .wide2 .ensures .0 ∙ b1) in
     let a2 : toZ w32 (ofZ w32 (c .before .before .before .before .before .before .wide3 .result)) ≡ c .before .before .before .before .before .before .wide3 .result = toZ-ofZ (search needs) in
-    let b2 : toZ w16 (ofZ w16 (getD six 2 (pos 0))) ≡ getD six 2 (pos 0) = toZ-ofZ (search needs) in
+    let b2 : toZ w16 (ofZ w16 (getD seven 2 (pos 0))) ≡ getD seven 2 (pos 0) = toZ-ofZ (search needs) in
     let e2 = a2 ∙ (c .before .before .before .before .before .before .wide3 .ensures .0 ∙ b2) in
     let a3 : toZ w32 (ofZ w32 (c .before .before .before .before .wide4 .result)) ≡ c .before .before .before .before .wide4 .result = toZ-ofZ (search needs) in
-    let b3 : toZ w16 (ofZ w16 (getD six 3 (pos 0))) ≡ getD six 3 (pos 0) = toZ-ofZ (search needs) in
+    let b3 : toZ w16 (ofZ w16 (getD seven 3 (pos 0))) ≡ getD seven 3 (pos 0) = toZ-ofZ (search needs) in
     let e3 = a3 ∙ (c .before .before .before .before .wide4 .ensures .0 ∙ b3) in
     let a4 : toZ w32 (ofZ w32 (c .before .before .wide5 .result)) ≡ c .before .before .wide5 .result = toZ-ofZ (search needs) in
-    let b4 : toZ w16 (ofZ w16 (getD six 4 (pos 0))) ≡ getD six 4 (pos 0) = toZ-ofZ (search needs) in
+    let b4 : toZ w16 (ofZ w16 (getD seven 4 (pos 0))) ≡ getD seven 4 (pos 0) = toZ-ofZ (search needs) in
     let e4 = a4 ∙ (c .before .before .wide5 .ensures .0 ∙ b4) in
     let a5 : toZ w32 (ofZ w32 (c .wide6 .result)) ≡ c .wide6 .result = toZ-ofZ (search needs) in
-    let b5 : toZ w16 (ofZ w16 (getD six 5 (pos 0))) ≡ getD six 5 (pos 0) = toZ-ofZ (search needs) in
+    let b5 : toZ w16 (ofZ w16 (getD seven 5 (pos 0))) ≡ getD seven 5 (pos 0) = toZ-ofZ (search needs) in
     let e5 = a5 ∙ (c .wide6 .ensures .0 ∙ b5) in (
       (λ i. record { list0 = record { reference = e0 i; x = e2 i; y = e3 i }; list1 = record { reference = e1 i; x = e4 i; y = e5 i } }),
       record {

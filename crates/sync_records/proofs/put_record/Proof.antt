@@ -2,6 +2,7 @@
 use Rattle.motion.specs.ByValue.{motionIn}
 use Rattle.sync_records.proofs.Words.{record-put}
 use borrow.Author.Needs.{needs}
+use mir.Facts.{toZ-ofZ}
 use Rattle.sync_records.proofs.put_record.Statement.{statement}
 use Rattle.sync_records.proofs.put_record.Tie as tie
 
@@ -29,7 +30,7 @@ same-length c = search needs
 returns : tie.Need-returns
 returns c =
     let a = c .before .before .before .args in
-    record-put (a .out .now) (a .from) (c .before .before .before .pre .0) (a .kind) (motionIn (a .m)) _ (c .before .write-one .ensures)
+    record-put (a .out .now) (a .from) (c .before .before .before .pre .0) (a .kind) (motionIn (a .m)) (a .detail) _ (rw (toZ-ofZ (c .before .before .before .fits .detail)) at (c .before .write-one .ensures))
 
 pub put-record-spec : {M : Type 1} → statement M
 put-record-spec =
