@@ -1,12 +1,13 @@
--- What document 02's E7 asks of a macroblock, by the coordinates that its axes give, and where the bits stand that the functions hand on.
-use Prim.Native.Nat.{ℕ, _+_, _*_, _-_, _/_, _%_}
+-- What document 02's E7 asks of a macroblock, by the coordinates that its axes give, and the sets of bits that the functions hand on.
+use Prim.Native.Nat.{ℕ, _+_, _*_, _-_, _/_, _%_, _^_}
 use mathlib.Core.Path.{_≡_}
-use mathlib.Core.Bool.{Bool}
+use mathlib.Core.Bool.{Bool, _&&_}
 use mathlib.Core.List.{List, [], _∷_}
+use lib.Bits.{bitAnd, bitOr}
+use lib.Dec.{eqb}
 use lib.IntN.{ℤ, natAbs}
 use lib.ListN.{getD}
-use Rattle.details.specs.declared.Places.{Places}
-use Rattle.definitions.specs.Basics.{bitSet, four}
+use Rattle.definitions.specs.Basics.{four, pick}
 use Rattle.definitions.specs.Blocks.{quadrantOf, rasterOf}
 use Rattle.definitions.specs.BlockMap.{blockIn, columnOf}
 use Rattle.definitions.specs.Inheriting.{setOf, someOf}
@@ -37,21 +38,29 @@ detailsBy width across down base =
 abbrev pub InOne : ℕ → List ℕ → Type 0
 InOne d x = getD x 3 0 / d ≡ getD x 0 0 / d
 
--- Where the bit stands of the quadrant that is read at coordinate x, of which the first block reads `first`: what the column adds, and half of what the row adds
+-- ---- Sets of bits. Where the bit stands of the quadrant that is read at coordinate x, of which the first block reads `first`: what the column adds, and half of what the row adds
 abbrev pub placeOf : ℕ → ℕ → ℕ
 placeOf first x = 4 * (columnOf x - columnOf first) + blockIn x / 2
 
-abbrev pub placesOf : List ℕ → Places
-placesOf x = record {
-  a = placeOf (getD x 0 0) (getD x 0 0);
-  b = placeOf (getD x 0 0) (getD x 1 0);
-  c = placeOf (getD x 0 0) (getD x 2 0);
-  d = placeOf (getD x 0 0) (getD x 3 0);
-}
+-- of two blocks, and of the first two and the last two along an axis
+abbrev pub pairOf : ℕ → ℕ → ℕ → ℕ
+pairOf first x y = bitOr (2 ^ placeOf first x) (2 ^ placeOf first y)
 
--- the bits of the four quadrants, by places
-abbrev pub placeAt : Places → ℕ → ℕ
-placeAt p i = getD (p .a ∷ p .b ∷ p .c ∷ p .d ∷ []) i 0
+unfoldable pub halvesOf : List ℕ → List ℕ
+halvesOf x = pairOf (getD x 0 0) (getD x 0 0) (getD x 1 0) ∷ pairOf (getD x 0 0) (getD x 2 0) (getD x 3 0) ∷ []
 
-unfoldable pub fourBits : ℕ → Places → Places → ℕ
-fourBits bits h v = setOf 4 (λ q. someOf (four (λ k. bitSet bits (placeAt h (rasterOf q k % 4) + 2 * placeAt v (rasterOf q k / 4)))))
+-- a set of six bits with bit k at 2k
+abbrev pub asRows : ℕ → ℕ
+asRows c = c % 2 + 4 * (c / 2 % 2) + 16 * (c / 4 % 2) + 64 * (c / 8 % 2) + 256 * (c / 16 % 2) + 1024 * (c / 32 % 2)
+
+-- 1 where some bit of the mask is set, else 0; and the four by the sets of the columns and of the rows
+abbrev pub masked : ℕ → ℕ → ℕ
+masked bits mask = pick (eqb (bitAnd bits mask) 0) 0 1
+
+abbrev pub fourMasked : ℕ → List ℕ → List ℕ → ℕ
+fourMasked bits h v =
+    masked bits (getD h 0 0 * asRows (getD v 0 0)) + 2 * masked bits (getD h 1 0 * asRows (getD v 0 0))
+    + 4 * masked bits (getD h 0 0 * asRows (getD v 1 0)) + 8 * masked bits (getD h 1 0 * asRows (getD v 1 0))
+
+abbrev pub Own : List ℕ → Bool
+Own h = eqb (getD h 0 0) 1 && eqb (getD h 1 0) 2

@@ -1,11 +1,10 @@
 // The detail of a macroblock (document 02, E7): which of its quadrants read base quadrants that have detail. By the block map alone, before any filling.
 ghost use Prim.Native.Nat.{_*_, _+_, _/_, _<_, _≤_};
-ghost use Rattle.definitions.specs.Basics.{bitSet, pick};
 ghost use Rattle.definitions.specs.Record.{detailOf};
-ghost use Rattle.details.specs.Bits.{InOne, detailBy, detailsBy, fourBits, placeOf, placesOf};
+ghost use Rattle.details.specs.Bits.{InOne, Own, detailBy, detailsBy, fourMasked, halvesOf, masked};
 ghost use Rattle.gather.specs.Reads.{Readable, ReadableAt, Rising, recordRead};
 ghost use lib.IntN.{natAbs};
-ghost use mathlib.Core.Bool.{_||_};
+ghost use lib.ListN.{getD};
 ghost use mathlib.Core.Path.{_≡_};
 use gather::address_of;
 use records::read::detail_at;
@@ -35,85 +34,156 @@ fn details_of(base: &[i16], width: usize, across: [u16; 4], down: [u16; 4]) -> u
     a + 16 * b + 256 * c + 4096 * d
 }
 
-// ---- Where in them a block has the bit of the quadrant that it reads: what its column adds, and half of what its row adds
-fn place_of(first: u16, x: u16) -> u32
-    requires { ⌜ (first / 4 ≤ x / 4) × (x / 4 ≤ first / 4 + 1) ⌝ }
-    ensures { λ r. ⌜ (r ≡ placeOf first x) × (r ≤ 5) ⌝ }
-{
-    (4 * (x / 4 - first / 4) + x % 4 / 2) as u32
-}
+// ---- Which bits an axis reads
+// What block k from the first macroblock on adds to the set of bits: the half of the macroblock in which it lies, or of the next one.
+const HALF: [u8; 8] = [1, 1, 2, 2, 16, 16, 32, 32];
 
-// Of the four blocks along an axis.
-struct Places {
-    a: u32,
-    b: u32,
-    c: u32,
-    d: u32,
-}
-
-fn places_of(x: [u16; 4]) -> Places
+// The sets of the first two blocks along an axis and of the last two, as columns.
+pub fn halves_of(x: [u32; 4]) -> [u8; 2]
     requires { ⌜ Rising x ⌝ }
-    ensures { λ r. ⌜ (r ≡ placesOf x) × (r .a ≤ 5) × (r .b ≤ 5) × (r .c ≤ 5) × (r .d ≤ 5) ⌝ }
+    ensures { λ r. ⌜ r ≡ halvesOf x ⌝ }
 {
-    Places {
-        a: place_of(x[0], x[0]),
-        b: place_of(x[0], x[1]),
-        c: place_of(x[0], x[2]),
-        d: place_of(x[0], x[3]),
-    }
+    let first = x[0] / 4 * 4;
+    let a = (x[0] - first) as usize;
+    let b = (x[1] - first) as usize;
+    let c = (x[2] - first) as usize;
+    let d = (x[3] - first) as usize;
+    [HALF[a] | HALF[b], HALF[c] | HALF[d]]
 }
 
-// The same where all four lie in one macroblock.
-fn places_in(x: [u16; 4]) -> Places
-    requires { ⌜ Rising x × InOne 4 x ⌝ }
-    ensures { λ r. ⌜ (r ≡ placesOf x) × (r .a ≤ 5) × (r .b ≤ 5) × (r .c ≤ 5) × (r .d ≤ 5) ⌝ }
-{
-    Places {
-        a: (x[0] % 4 / 2) as u32,
-        b: (x[1] % 4 / 2) as u32,
-        c: (x[2] % 4 / 2) as u32,
-        d: (x[3] % 4 / 2) as u32,
-    }
-}
+// A set as rows: bit k is at 2k.
+const AS_ROWS: [u16; 64] = [
+    0,
+    1,
+    4,
+    5,
+    16,
+    17,
+    20,
+    21,
+    64,
+    65,
+    68,
+    69,
+    80,
+    81,
+    84,
+    85,
+    256,
+    257,
+    260,
+    261,
+    272,
+    273,
+    276,
+    277,
+    320,
+    321,
+    324,
+    325,
+    336,
+    337,
+    340,
+    341,
+    1024,
+    1025,
+    1028,
+    1029,
+    1040,
+    1041,
+    1044,
+    1045,
+    1088,
+    1089,
+    1092,
+    1093,
+    1104,
+    1105,
+    1108,
+    1109,
+    1280,
+    1281,
+    1284,
+    1285,
+    1296,
+    1297,
+    1300,
+    1301,
+    1344,
+    1345,
+    1348,
+    1349,
+    1360,
+    1361,
+    1364,
+    1365,
+];
 
 // ---- A quadrant's bit, and the four
-// One of its blocks, at two columns and two rows, reads a base quadrant whose bit is set.
-fn quadrant_bit(bits: u32, x0: u32, x1: u32, y0: u32, y1: u32) -> u32
-    requires { ⌜ (x0 ≤ 5) × (x1 ≤ 5) × (y0 ≤ 5) × (y1 ≤ 5) ⌝ }
-    ensures { λ r. ⌜ (r ≡ pick (bitSet bits (x0 + 2 * y0) || (bitSet bits (x1 + 2 * y0) || (bitSet bits (x0 + 2 * y1) || bitSet bits (x1 + 2 * y1)))) 1 0) × (r ≤ 1) ⌝ }
+// The bits at these columns and rows are not all 0.
+fn any(bits: u32, columns: u32, rows: u32) -> u32
+    requires { ⌜ (columns < 64) × (rows < 2048) ⌝ }
+    ensures { λ r. ⌜ (r ≡ masked bits (columns * rows)) × (r ≤ 1) ⌝ }
 {
-    let rows = (bits >> (2 * y0)) | (bits >> (2 * y1));
-    ((rows >> x0) | (rows >> x1)) & 1
+    if bits & (columns * rows) == 0 { 0 } else { 1 }
 }
 
-fn detail_by(bits: u32, h: Places, v: Places) -> u8
-    requires { ⌜ (h .a ≤ 5) × (h .b ≤ 5) × (h .c ≤ 5) × (h .d ≤ 5) × (v .a ≤ 5) × (v .b ≤ 5) × (v .c ≤ 5) × (v .d ≤ 5) ⌝ }
-    ensures { λ r. ⌜ (r ≡ fourBits bits h v) × (r < 16) ⌝ }
+fn detail_by(bits: u32, h: [u8; 2], v: [u8; 2]) -> u8
+    requires { ⌜ (getD h 0 0 < 64) × (getD h 1 0 < 64) × (getD v 0 0 < 64) × (getD v 1 0 < 64) ⌝ }
+    ensures { λ r. ⌜ (r ≡ fourMasked bits h v) × (r < 16) ⌝ }
 {
-    let a = quadrant_bit(bits, h.a, h.b, v.a, v.b);
-    let b = quadrant_bit(bits, h.c, h.d, v.a, v.b);
-    let c = quadrant_bit(bits, h.a, h.b, v.c, v.d);
-    let d = quadrant_bit(bits, h.c, h.d, v.c, v.d);
+    let left = h[0] as u32;
+    let right = h[1] as u32;
+    let upper = AS_ROWS[v[0] as usize] as u32;
+    let lower = AS_ROWS[v[1] as usize] as u32;
+    let a = any(bits, left, upper);
+    let b = any(bits, right, upper);
+    let c = any(bits, left, lower);
+    let d = any(bits, right, lower);
     (a + 2 * b + 4 * c + 8 * d) as u8
 }
 
 // ---- The detail of a macroblock
 // Where several macroblocks are read: those of the corners are all (`detail-corners`).
-pub fn detail_of_more(base: &[i16], width: usize, across: [u16; 4], down: [u16; 4]) -> u8
-    requires { ⌜ Readable width across down (now base) × (width ≤ 256) × Rising across × Rising down ⌝ }
+pub fn detail_of_more(
+    base: &[i16],
+    width: usize,
+    across: [u16; 4],
+    down: [u16; 4],
+    h: [u8; 2],
+    v: [u8; 2],
+) -> u8
+    requires { ⌜ Readable width across down (now base) × (width ≤ 256) × Rising across × Rising down × (h ≡ halvesOf across) × (v ≡ halvesOf down) ⌝ }
     ensures { λ r. ⌜ (r ≡ detailBy width across down (now (base .entry))) × (r < 16) ⌝ }
 {
     let bits = details_of(base, width, across, down);
-    detail_by(bits, places_of(across), places_of(down))
+    detail_by(bits, h, v)
 }
 
-// Where one is read, its bits are all that matter (`detail-one`).
-pub fn detail_of_one(base: &[i16], width: usize, across: [u16; 4], down: [u16; 4]) -> u8
-    requires { ⌜ Readable width across down (now base) × (width ≤ 256) × Rising across × Rising down × InOne 4 across × InOne 4 down ⌝ }
+// The first two blocks lie in the first half of a macroblock, the last two in the second.
+fn is_own(h: [u8; 2]) -> bool
+    ensures { λ r. ⌜ r ≡ Own h ⌝ }
+{
+    (h[0] == 1) & (h[1] == 2)
+}
+
+// Where one is read, its bits are all that matter (`detail-one`), and where each quadrant reads the one in its own place, they are the answer (`detail-own`).
+pub fn detail_of_one(
+    base: &[i16],
+    width: usize,
+    across: [u16; 4],
+    down: [u16; 4],
+    h: [u8; 2],
+    v: [u8; 2],
+) -> u8
+    requires { ⌜ Readable width across down (now base) × (width ≤ 256) × Rising across × Rising down × InOne 4 across × InOne 4 down × (h ≡ halvesOf across) × (v ≡ halvesOf down) ⌝ }
     ensures { λ r. ⌜ (r ≡ detailBy width across down (now (base .entry))) × (r < 16) ⌝ }
 {
     let bits = reads_detail(base, width, across[0], down[0]);
-    detail_by(bits, places_in(across), places_in(down))
+    if is_own(h) & is_own(v) {
+        return bits as u8;
+    }
+    detail_by(bits, h, v)
 }
 
 // Where one quadrant of one is read, all four bits are its bit (`detail-quarter`).

@@ -27,6 +27,7 @@ use definitions::SubSplits;
 use details::detail_of_more;
 use details::detail_of_one;
 use details::detail_of_quarter;
+use details::halves_of;
 use gather::Spot;
 use gather::across_of;
 use gather::block_read;
@@ -81,7 +82,7 @@ pub fn fixed_of(g: Axes) -> Fixed
 // Twelve bytes, since a picture keeps one for each column.
 pub struct AxisRead {
     pub reads: [u16; 4],
-    pub first: u16,
+    pub halves: [u8; 2],
     pub two: bool,
     pub inside: bool,
 }
@@ -98,7 +99,7 @@ fn read_in(s: AxisStep) -> AxisRead
             s.reads[2] as u16,
             s.reads[3] as u16,
         ],
-        first: s.first as u16,
+        halves: halves_of(s.reads),
         two: s.two,
         inside: true,
     }
@@ -109,8 +110,8 @@ pub fn read_nowhere() -> AxisRead
     ensures { λ r. ⌜ r ≡ nowhere ⌝ }
 {
     AxisRead {
-        reads: [0; 4],
-        first: 65535,
+        reads: [65535; 4],
+        halves: [0; 2],
         two: false,
         inside: false,
     }
@@ -137,10 +138,14 @@ pub fn make(base: &[i16], f: Fixed, h: AxisRead, v: AxisRead, out: &mut [i16]) -
     if h.inside & v.inside {
         let across = h.reads;
         let down = v.reads;
+        let columns = h.halves;
+        let rows = v.halves;
         if is_one(across) & is_one(down) {
-            return make_of_one(base, f, across, down, out);
+            let detail = detail_within(base, f.width, across, down, columns, rows);
+            return make_of_one(base, f, across, down, detail, out);
         }
-        return make_of_more(base, f, across, down, out);
+        let detail = detail_of_more(base, f.width, across, down, columns, rows);
+        return make_of_more(base, f, across, down, detail, out);
     }
     write_unused(out, OUTSIDE, 0);
     Sort::Outside
@@ -167,17 +172,25 @@ fn detail_within(
     width: usize,
     across: [u16; 4],
     down: [u16; 4],
-    quarter: bool,
+    columns: [u8; 2],
+    rows: [u8; 2],
 ) -> u8 {
-    if quarter {
+    if is_half(across) & is_half(down) {
         return detail_of_quarter(base, width, across, down);
     }
-    detail_of_one(base, width, across, down)
+    detail_of_one(base, width, across, down, columns, rows)
 }
 
 // Where one macroblock is read. If it is intra, all blocks are (`set-all`), else the set is empty (`set-none`). If it is 16×16, or one quadrant of it is read that is not
 // divided, all blocks have one motion (`one-read`), which no step but the fourth changes, and the split is 16×16 (`whole-written`).
-fn make_of_one(base: &[i16], f: Fixed, across: [u16; 4], down: [u16; 4], out: &mut [i16]) -> Sort
+fn make_of_one(
+    base: &[i16],
+    f: Fixed,
+    across: [u16; 4],
+    down: [u16; 4],
+    detail: u8,
+    out: &mut [i16],
+) -> Sort
     requires { ⌜ Ready f across down (now base) × ((onePart 4 across && onePart 4 down) ≡ true) × (length (now out) ≡ recordWords) ⌝ }
     ensures sort { λ r. ⌜ r ≡ sortInside f across down (now (base .entry)) ⌝ }
     ensures written { λ r. ⌜ now (out .exit) ≡ writtenInside f across down (now (base .entry)) ⌝ }
@@ -185,12 +198,11 @@ fn make_of_one(base: &[i16], f: Fixed, across: [u16; 4], down: [u16; 4], out: &m
     let width = f.width;
     let x = across[0];
     let y = down[0];
-    let quarter = is_half(across) & is_half(down);
-    let detail = detail_within(base, width, across, down, quarter);
     if reads_intra(base, width, x, y) {
         write_unused(out, INTRA, detail as i16);
         return Sort::Intra;
     }
+    let quarter = is_half(across) & is_half(down);
     if reads_whole(base, width, x, y) | (quarter & reads_single(base, width, x, y)) {
         write_one(
             out,
@@ -205,12 +217,18 @@ fn make_of_one(base: &[i16], f: Fixed, across: [u16; 4], down: [u16; 4], out: &m
 }
 
 // Where more macroblocks are read: those of the corners are all (`set-corners`).
-fn make_of_more(base: &[i16], f: Fixed, across: [u16; 4], down: [u16; 4], out: &mut [i16]) -> Sort
+fn make_of_more(
+    base: &[i16],
+    f: Fixed,
+    across: [u16; 4],
+    down: [u16; 4],
+    detail: u8,
+    out: &mut [i16],
+) -> Sort
     requires { ⌜ Ready f across down (now base) × (length (now out) ≡ recordWords) ⌝ }
     ensures sort { λ r. ⌜ r ≡ sortInside f across down (now (base .entry)) ⌝ }
     ensures written { λ r. ⌜ now (out .exit) ≡ writtenInside f across down (now (base .entry)) ⌝ }
 {
-    let detail = detail_of_more(base, f.width, across, down);
     let c = corners_of(base, f.width, across, down);
     if c.first | c.right | c.below | c.diagonal {
         let set = set_of(c, across, down);
@@ -327,8 +345,8 @@ fn origin_of(h: AxisRead, v: AxisRead) -> Origin
 {
     Origin {
         class: class_of(h.two, v.two),
-        column: h.first as u32,
-        row: v.first as u32,
+        column: (h.reads[0] / 4) as u32,
+        row: (v.reads[0] / 4) as u32,
     }
 }
 
