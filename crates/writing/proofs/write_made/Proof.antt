@@ -1,9 +1,19 @@
 -- `writing::write_made` meets its contract: four quadrants are put into the record, and then the types. Assumes nothing.
 use mathlib.Core.Logic.{⊎-elim}
-use mathlib.Core.Path.{refl, _∙_}
+use mathlib.Core.List.{_++_}
+use mathlib.Core.Path.{_≡_, refl, sym, ap, _∙_}
+use native.Mathlib.Omega.{arith}
+use lib.IntN.{ℤ, pos}
+use lib.ListN.{length, drop, set}
+use mir.Facts.{toZ-pos}
+use mir.Syntax.{w16}
+use mir.Val.{toZ}
+use Rattle.definitions.specs.Answer.{dividedBy}
+use Rattle.definitions.specs.Record.{laidOut}
+use Rattle.definitions.proofs.Records.{laid-length}
 use lib.Dec.{lit<}
 use borrow.Author.Needs.{needs}
-use Rattle.definitions.specs.Inheriting.{chosen}
+use Rattle.definitions.specs.Inheriting.{chosen, motionAt}
 use Rattle.motion.specs.ByValue.{quadrantsIn}
 use Rattle.motion.specs.Scales.{allScaled}
 use Rattle.writing.proofs.Assembled.{assembled, type-written}
@@ -71,11 +81,17 @@ part-put-types-end c = search needs
 put-types-requires : tie.Need-put-types-requires
 put-types-requires c κs = search needs
 
-same-length : tie.Need-same-length
-same-length c = search needs
+cast-out : tie.Need-cast-out
+cast-out c = search needs
 
-returns : tie.Need-returns
-returns c =
+slice-set-from-out : tie.Need-slice-set-from-out
+slice-set-from-out c = search needs
+
+-- the words that are written
+whole : (c : tie.After-out5) → let s = c .before .before .before .before .before .before .before .before .before .before .before .before .before .before .before .before .before .before .before .before in
+    set (c .before .put-types .last .0 ++ drop 5 (c .before .before .before .before .before .put-quadrant4 .last .0)) 77 (toZ w16 (s .args .detail))
+    ≡ laidOut (dividedBy (chosen (allScaled (s .args .s) (quadrantsIn (s .args .t3)))) (motionAt (allScaled (s .args .s) (quadrantsIn (s .args .t3)))) (pos (s .args .detail)))
+whole c =
     let s = c .before .before .before .before .before .before .before .before .before .before .before .before .before .before .before .before .before .before .before .before in
     let g = s .args in
     let m = quadrantsIn (g .t3) in
@@ -93,7 +109,14 @@ returns c =
     (if1 .kind) (w .0 .left) (w .1))
     (if1 .came) in
     assembled (g .s) m (g .out .now) (s .pre .0) (one .last .0) (two .last .0) (three .last .0) (four .last .0) (one .ensures .0) (two .ensures .0) (three .ensures .0) (four .ensures .0)
-    (c .before .put-types .last .0) _ (if1 .kind) (one .result) (two .result) (three .result) (four .result) (c .before .put-types .ensures) said
+    (c .before .put-types .last .0) _ (if1 .kind) (one .result) (two .result) (three .result) (four .result) _ (c .before .put-types .ensures) said
+    ∙ ap (λ (z : ℤ). laidOut (dividedBy (chosen (allScaled (g .s) m)) (motionAt (allScaled (g .s) m)) z)) (toZ-pos w16 {n = g .detail} (omega (arith, s .fits .detail)))
+
+same-length : tie.Need-same-length
+same-length c = ap length (whole c) ∙ (laid-length _ ∙ sym (c .before .before .before .before .before .before .before .before .before .before .before .before .before .before .before .before .before .before .before .before .pre .0))
+
+returns : tie.Need-returns
+returns c = whole c
 
 pub write-made-spec : {M : Type 1} → statement M
 write-made-spec =
@@ -119,5 +142,7 @@ write-made-spec =
     part-put-types-start
     part-put-types-end
     put-types-requires
+    cast-out
+    slice-set-from-out
     same-length
     returns)
