@@ -6,7 +6,7 @@ use mathlib.Core.Bool.{Bool, true, false}
 use mathlib.Core.List.{List, [], _∷_, _++_, map}
 use lib.Count.{ones, onesIn}
 use lib.IntN.{ℤ, pos}
-use lib.ListN.{length, replicate, drop}
+use lib.ListN.{length, replicate, drop, set}
 use Rattle.definitions.specs.declared.AxisNumbers.{AxisNumbers}
 use Rattle.definitions.specs.declared.Numbers.{Numbers}
 use Rattle.definitions.specs.declared.Class.{Class}
@@ -170,6 +170,10 @@ ofClass class column = record { origin = record { class = class; column = column
 abbrev inherits : Class → Split → List ℤ → Outcome MacroblockReply
 inherits class split w = record { reply = Answered (Inherited (ofClass class 0) split); words = w }
 
+-- a record with another last word
+abbrev withDetail : ℕ → List ℤ → List ℤ
+withDetail d r = set r 77 (pos d)
+
 -- 8×8 with sub-types by quadrant
 abbrev quarters : SubSplit → SubSplit → SubSplit → SubSplit → Split
 quarters a b c d = Quarters (record { a = a; b = b; c = c; d = d })
@@ -323,6 +327,19 @@ unstarred =
     (inherits Center (quarters S4x8 S8x8 S4x8 S8x8)
     (words (pos 4) (listOf4 (pos 2) (pos 0) (pos 2) (pos 0)) (both (pos 0) (minus 1))
     (ofAll (rowOf4 (block 3 4 0 0) (block 5 6 0 0) (block 5 6 0 0) (block 5 6 0 0)))))
+    -- Detail (document 02, E7). A quadrant to each base macroblock, whose quadrants 3, 2, 1 and 0 are read: base 0, intra, and 3 have that bit, 1 has all others, 2 has none.
+    ∷ call shifted
+    (withDetail 8 noMotion ++ (withDetail 11 (firstList 0 1 2) ++ (firstList 0 1 2 ++ withDetail 1 (firstList 0 1 2))))
+    (pos 1) (pos 1) 78
+    (record { reply = Answered (Inherited (record { origin = record { class = Center; column = 0; row = 0 }; detail = 9 }) S16x16); words = withDetail 9 (firstList 0 1 2) })
+    -- In the first quadrant four blocks read base 0, 1, 2 and 3, one each: base 1's bit is enough. The others read base 1's, 2's and 3's quadrants.
+    ∷ call centre (firstList 0 1 2 ++ (withDetail 4 (firstList 0 1 2) ++ (firstList 0 1 2 ++ withDetail 8 (firstList 0 1 2)))) (pos 1) (pos 1) 78
+    (record { reply = Answered (Inherited (record { origin = record { class = Center; column = 0; row = 0 }; detail = 11 }) S16x16); words = withDetail 11 (firstList 0 1 2) })
+    -- An intra answer has its bits, each in its place; outside there is none.
+    ∷ call (by plain plain) (withDetail 6 noMotion) (pos 0) (pos 0) 78
+    (record { reply = Answered (Intra (record { origin = record { class = Corner; column = 0; row = 0 }; detail = 6 })); words = withDetail 6 noMotion })
+    ∷ call (withAcross (pos 16) (pos 16) (pos 0) (pos 32)) (withDetail 15 noMotion) (pos 1) (pos 0) 78
+    (record { reply = Answered Outside; words = words (pos 5) noSub (both (minus 1) (minus 1)) (allBlocks (block 0 0 0 0)) })
     -- Limits of a geometry, each on both sides: B, E,
     ∷ geometry (withAcross (pos 16) (pos 16) (pos 0) (pos 16)) 0
     ∷ geometry (withAcross (pos 4096) (pos 4096) (pos 0) (pos 16)) 0
@@ -402,15 +419,20 @@ unstarred =
     ∷ rule (halves (pos 3)) 6
     ∷ rule (sides (pos 2)) 6
     ∷ rule (words (pos 4) (listOf4 (pos 0) (pos 2) (pos 1) (pos 3)) (both (pos 0) (pos 2)) (rising 1)) 6
+    -- Detail,
+    ∷ rule (withDetail 15 (ofType (pos 1))) 0
+    ∷ rule (withDetail 16 (ofType (pos 1))) 7
+    ∷ rule (set noMotion 77 (minus 1)) 7
     -- Two neighbouring rules are broken: the first of them.
+    ∷ rule (withDetail 16 (halves (pos 1))) 6
     ∷ rule (ofSub (pos 5) (listOf4 (pos 1) (pos 0) (pos 0) (pos 0))) 1
     ∷ rule (words (pos 1) (listOf4 (pos 1) (pos 0) (pos 0) (pos 0)) (both (pos 32) (minus 1)) (allBlocks (block 0 0 0 0))) 2
     ∷ rule (ofReferences (listOf4 (minus 1) (minus 1) (pos 32) (minus 1) ++ listOf4 (pos 0) (minus 1) (pos 0) (minus 1))) 3
     ∷ rule (words (pos 1) noSub (oneQuadrant (minus 1) (minus 1)) (allBlocks (block 1 2 0 0))) 4
     ∷ rule (words (pos 1) noSub (both (pos 0) (pos 0)) (rising 8150)) 5
     -- The words of record lines, in order,
-    ∷ lines (entry intra (pos 0 ∷ []) ∷ entry whole (listOf4 (pos 1) (pos 2) (pos 3) (pos 4) ++ (pos 5 ∷ pos 6 ∷ pos 0 ∷ [])) ∷ entry mb various ∷ [])
-    (noMotion ++ (words (pos 1) noSub (both (pos 1) (pos 2)) (allBlocks (block 3 4 5 6)) ++ various))
+    ∷ lines (entry intra (minus 7 ∷ []) ∷ entry whole (listOf4 (pos 1) (pos 2) (pos 3) (pos 4) ++ (pos 5 ∷ pos 6 ∷ pos 8 ∷ [])) ∷ entry mb various ∷ [])
+    (set noMotion 77 (minus 7) ++ (detailed (pos 1) noSub (both (pos 1) (pos 2)) (allBlocks (block 3 4 5 6)) (pos 8) ++ various))
     -- and the log of a refusal: too many lines, though a record is malformed; and a malformed record, the second.
     ∷ log (by plain plain) (entry intra (pos 0 ∷ []) ∷ entry mb (ofType (pos 5)) ∷ []) (refusedLog 5 0)
     ∷ log (by (axisWith (pos 32) (pos 32) (pos 0) (pos 32)) plain) (entry intra (pos 0 ∷ []) ∷ entry mb (ofType (pos 5)) ∷ []) (refusedLog 8 1)
