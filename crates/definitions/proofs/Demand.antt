@@ -221,6 +221,14 @@ module _ (limit : ℕ) where
         subst (λ (m : Made). SinglyGives limit n column row words other (m .answer) (m .written)) same
         (gives-made n column row words other (verdict-same other l read ∙ v))
 
+  -- what is handed over is what is made
+  pub singly-made : (n : Numbers) (column row : ℕ) (words base : List ℤ) (answer : Answer) (written : List ℤ) → SinglyGives limit n column row words base answer written
+      → (madeOf (axesOf n) base column row .answer ≡ answer) × (madeOf (axesOf n) base column row .written ≡ written)
+  singly-made n column row words base answer written e =
+      let v = call-accepted n base (pos column) (pos row) words answer (ap (λ (o : Outcome MacroblockReply). o .reply) e) in
+      let p = sym (gives-made n column row words base v) ∙ e in
+      (cc (ap (λ (o : Outcome MacroblockReply). o .reply) p), ap (λ (o : Outcome MacroblockReply). o .words) p)
+
   -- Demand 3 for the one-macroblock call: whatever it hands over.
   singly : (n : Numbers) (column row : ℕ) (words base : List ℤ) (answer : Answer) (written : List ℤ)
       → SinglyGives limit n column row words base answer written → Demand3Singly limit n column row words base answer written
@@ -228,9 +236,9 @@ module _ (limit : ℕ) where
       let g = axesOf n in
       let v = call-accepted n base (pos column) (pos row) words answer (ap (λ (o : Outcome MacroblockReply). o .reply) e) in
       let made = madeOf g base column row in
-      let p = sym (gives-made n column row words base v) ∙ e in
-      let a : made .answer ≡ answer = cc (ap (λ (o : Outcome MacroblockReply). o .reply) p) in
-      let w : made .written ≡ written = ap (λ (o : Outcome MacroblockReply). o .words) p in
+      let p = singly-made n column row words base answer written e in
+      let a : made .answer ≡ answer = p .0 in
+      let w : made .written ≡ written = p .1 in
       subst (λ (x : Answer). Demand3Singly limit n column row words base x written) a
       (subst (λ (x : List ℤ). Demand3Singly limit n column row words base (made .answer) x) w
       (promised n column row (geometry-accepted n column row words base v) base (AnyWords base) (SinglyGives limit n column row words) (others-same n column row words base v)))
@@ -341,6 +349,15 @@ module _ (limit : ℕ) where
         at-address = record-made n words base column row (q .column-within) (q .row-within) v;
       }
 
+  -- and so that is all that it gives
+  pub picture-made : (n : Numbers) (column row : ℕ) (words alone base : List ℤ) (answer : Answer) (written : List ℤ) → PictureGives limit n column row words alone base answer written
+      → (madeOf (axesOf n) base column row .answer ≡ answer) × (madeOf (axesOf n) base column row .written ≡ written)
+  picture-made n column row words alone base answer written given =
+      let k = passed n words base (counted-accepted n words base (given .counts) (given .accepted)) in
+      let q = asked n column row alone base (call-accepted n base (pos column) (pos row) alone answer (given .answered)) in
+      let own = picture-gives n column row words alone base k q in
+      (cc (sym (own .answered) ∙ given .answered), sym (own .at-address) ∙ given .at-address)
+
   -- Demand 3 for the picture call: whatever stands at a macroblock's address, with the one-macroblock call's answer on the same base.
   picture : (n : Numbers) (column row : ℕ) (words alone base : List ℤ) (answer : Answer) (written : List ℤ)
       → PictureGives limit n column row words alone base answer written → Demand3Picture limit n column row words alone base answer written
@@ -349,9 +366,9 @@ module _ (limit : ℕ) where
       let made = madeOf g base column row in
       let k = passed n words base (counted-accepted n words base (given .counts) (given .accepted)) in
       let q = asked n column row alone base (call-accepted n base (pos column) (pos row) alone answer (given .answered)) in
-      let own = picture-gives n column row words alone base k q in
-      let a : made .answer ≡ answer = cc (sym (own .answered) ∙ given .answered) in
-      let w : made .written ≡ written = sym (own .at-address) ∙ given .at-address in
+      let p = picture-made n column row words alone base answer written given in
+      let a : made .answer ≡ answer = p .0 in
+      let w : made .written ≡ written = p .1 in
       subst (λ (z : Answer). Demand3Picture limit n column row words alone base z written) a
       (subst (λ (z : List ℤ). Demand3Picture limit n column row words alone base (made .answer) z) w
       (promised n column row (k .geometry) base (FormedWords limit g base) (PictureGives limit n column row words alone) (others k q)))

@@ -18,6 +18,7 @@ pub mod Parts
 pub mod Verdicts
 pub mod Sets
 pub mod Answers
+pub mod Apart
 pub mod Sameness
 pub mod Blocks
 pub mod Addresses

@@ -20,7 +20,6 @@ use Rattle.definitions.specs.declared.Split.{Split}
 use Rattle.definitions.specs.declared.Split.the-variants.{S16x16, S16x8, S8x16, S8x8 as Quarters}
 use Rattle.definitions.specs.declared.Numbers.{Numbers}
 use Rattle.definitions.specs.declared.Answer.{Answer}
-use Rattle.definitions.specs.declared.MacroblockReply.{MacroblockReply}
 use Rattle.definitions.specs.Basics.{pick, minus, eqZ, between, allBelow, upTo, four}
 use Rattle.definitions.specs.Geometry.{axesOf, baseSize, scaledSize, inside}
 use Rattle.definitions.specs.Accepted.{Sized}
@@ -31,7 +30,6 @@ use Rattle.definitions.specs.Record.{recordAt, referenceOf, vectorXOf, v
 use Rattle.definitions.specs.Inheriting.{readsIntra, marked, intraSet, zeroMotion, at, motionAt, gathered, unused, clearOf, filled, merged, liveOf, copied, resolved, scaledWord, scaledPrediction, scaledMotion, inheritedMotions, chosen}
 use Rattle.definitions.specs.Detail.{quadrantDetail, detailAt}
 use Rattle.definitions.specs.Answer.{basisAt, dividedBy, unusedMotion, withoutMotion, writtenFor, madeOf}
-use Rattle.definitions.specs.Calls.{Outcome}
 use Rattle.definitions.specs.Demand3.{Case}
 use Rattle.definitions.specs.Written.{vectorsInRange, AsRecord, WrittenEntire, withoutStep1, Step1Unseen}
 use Rattle.definitions.proofs.Choices.{yes, no, and-intro, both-true, or-left, or-right, eqZ-true, four-at, four-same, below-true, below-intro, below-same}
@@ -45,7 +43,7 @@ use Rattle.definitions.proofs.Formed.{rules-of, vectors-of}
 use Rattle.definitions.proofs.Sets.{set-below, intra-bit}
 use Rattle.definitions.proofs.Answers.{Decided, is-outside, is-intra, is-inherited, decided}
 use Rattle.definitions.proofs.Promises.{sort, other-sort, motions-written, fewest-written, split-said}
-use Rattle.definitions.proofs.Demand.{call-accepted, gives-made}
+use Rattle.definitions.proofs.Demand.{singly-made}
 
 -- ---- ranges
 is-true : (t : Bool) → T t → t ≡ true
@@ -445,11 +443,10 @@ pub written-entire : (limit : ℕ) → WrittenEntire limit
 unfolding madeOf
 written-entire limit n column row base case words answer written e =
     let g = axesOf n in
-    let v = call-accepted limit n base (pos column) (pos row) words answer (ap (λ (o : Outcome MacroblockReply). o .reply) e) in
     let made = madeOf g base column row in
-    let p = sym (gives-made limit n column row words base v) ∙ e in
-    let a : made .answer ≡ answer = cc (ap (λ (o : Outcome MacroblockReply). o .reply) p) in
-    let w : made .written ≡ written = ap (λ (o : Outcome MacroblockReply). o .words) p in
+    let p = singly-made limit n column row words base answer written e in
+    let a : made .answer ≡ answer = p .0 in
+    let w : made .written ≡ written = p .1 in
     subst (λ (x : Answer). AsRecord limit x written) a
     (subst (λ (x : List ℤ). AsRecord limit (made .answer) x) w
     (made-as limit n column row base case (decided g base column row)))

@@ -65,6 +65,12 @@ answerOrigin a = answerBasis a .origin
 abbrev pub answerDetail : Answer → ℕ
 answerDetail a = answerBasis a .detail
 
+-- the same answer with other bits; outside there are none
+abbrev pub withBits : ℕ → Answer → Answer
+withBits d Outside = Outside
+withBits d (Intra b) = Intra (record { origin = b .origin; detail = d })
+withBits d (Inherited b s) = Inherited (record { origin = b .origin; detail = d }) s
+
 -- The base macroblocks that an answer names are those that its class reads, from its first column and row on; outside there are none.
 abbrev pub twoColumns : Class → Bool
 twoColumns Corner = false

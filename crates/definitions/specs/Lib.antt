@@ -17,6 +17,7 @@ pub mod Session
 pub mod Text
 pub mod Log
 pub mod Demand3
+pub mod Apart
 pub mod Written
 pub mod Examples
 pub mod Unstarred
