@@ -1,15 +1,13 @@
 -- `sync_records::intra_tail` meets its contract. Assumes nothing.
 use Rattle.definitions.specs.Text.{intra, intraLine, numbersThen, tailOf, wordsFor}
 use Rattle.grammar.proofs.Patterns.{Chain, chain-first, chain-word, chain-numbers, tail-stored}
-use borrow.Author.Needs.{needs}
-use mathlib.Core.Path.{_≡_, refl, ap, _∙_}
+use borrow.Author.Needs.{needs, sfits-of}
+use mathlib.Core.Path.{refl, ap, _∙_}
 use mathlib.Core.List.{List, [], _∷_}
 use lib.IntN.{ℤ, pos}
-use lib.ListN.{getD}
 use lib.Seq.{sets}
 use mir.Facts.{toZ-ofZ}
 use mir.Syntax.{w16}
-use mir.Val.{ofZ, toZ}
 use Rattle.sync_records.proofs.intra_tail.Statement.{statement}
 use Rattle.sync_records.proofs.intra_tail.Tie as tie
 
@@ -62,8 +60,7 @@ same-length c = search needs
 returns : tie.Need-returns
 returns c =
     let a = c .before .before .before .before .before .before .before .before .before .before .before .before .before .before .before .args in
-    let own = c .before .before .before .before .before .before .before .before .before .before .then-fields .last .1 .1 .1 .0 in
-    let d : toZ w16 (ofZ w16 (getD own 0 (pos 0))) ≡ getD own 0 (pos 0) = toZ-ofZ (search needs) in
+    let d = toZ-ofZ {w = w16} (sfits-of (c .before .before .put-record-arg2 .given)) in
     tail-stored intra (a .s .now) (a .at) (a .out .now) (a .from) _ zeros _ _ refl (c .before .put-record .ensures ∙ ap (λ (z : ℤ). sets (a .out .now) (a .from) (wordsFor intra (z ∷ []))) d) (rw (c .before .before .before .before .before .r .given .1) at (line-read (c .before .before .before .before .before .before .before) .is))
 
 returns-2 : tie.Need-returns-2

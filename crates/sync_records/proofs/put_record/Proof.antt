@@ -1,4 +1,7 @@
 -- `sync_records::put_record` meets its contract. Assumes nothing.
+use mathlib.Core.Path.{ap, _∙_}
+use lib.IntN.{ℤ}
+use Rattle.definitions.specs.Record.{allOne, laidOut}
 use Rattle.motion.specs.ByValue.{motionIn}
 use Rattle.sync_records.proofs.Words.{record-put}
 use borrow.Author.Needs.{needs}
@@ -29,8 +32,10 @@ same-length c = search needs
 
 returns : tie.Need-returns
 returns c =
-    let a = c .before .before .before .args in
-    record-put (a .out .now) (a .from) (c .before .before .before .pre .0) (a .kind) (motionIn (a .m)) (a .detail) _ (rw (toZ-ofZ (c .before .before .before .fits .detail)) at (c .before .write-one .ensures))
+    let s = c .before .before .before in
+    let a = s .args in
+    let m = motionIn (a .m) in
+    record-put (a .out .now) (a .from) (s .pre .0) (a .kind) m (a .detail) _ (c .before .write-one .ensures ∙ ap (λ (z : ℤ). laidOut (allOne (a .kind) m z)) (toZ-ofZ (s .fits .detail)))
 
 pub put-record-spec : {M : Type 1} → statement M
 put-record-spec =

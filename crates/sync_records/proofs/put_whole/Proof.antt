@@ -1,13 +1,10 @@
 -- `sync_records::put_whole` meets its contract. Assumes nothing.
-use mathlib.Core.Path.{_≡_, _∙_}
+use mathlib.Core.Path.{_∙_}
 use Rattle.definitions.specs.Record.{allOne, laidOut}
-use lib.IntN.{pos}
-use lib.ListN.{getD}
 use lib.Seq.{sets}
 use mir.Facts.{toZ-ofZ}
 use mir.Syntax.{w16}
-use mir.Val.{ofZ, toZ}
-use borrow.Author.Needs.{needs}
+use borrow.Author.Needs.{needs, sfits-of}
 use Rattle.sync_records.proofs.put_whole.Statement.{statement}
 use Rattle.sync_records.proofs.put_whole.Tie as tie
 
@@ -27,7 +24,7 @@ returns : tie.Need-returns
 returns c =
     let s = c .before .before .before .before .before in
     let m = c .before .before .before .motion-of .ensures .0 in
-    let d : toZ w16 (ofZ w16 (getD (s .args .t3) 6 (pos 0))) ≡ getD (s .args .t3) 6 (pos 0) = toZ-ofZ (search needs) in
+    let d = toZ-ofZ {w = w16} (sfits-of (c .before .before .put-record-arg2 .given)) in
     c .before .put-record .ensures ∙ (λ i. sets (s .args .out .now) (s .args .from) (laidOut (allOne 1 (m i) (d i))))
 
 pub put-whole-spec : {M : Type 1} → statement M
