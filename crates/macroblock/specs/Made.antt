@@ -5,13 +5,14 @@ use mathlib.Core.Bool.{Bool, true, false, _&&_}
 use mathlib.Core.Path.{_≡_}
 use mathlib.Core.List.{List, [], _∷_}
 use lib.Dec.{eqb}
-use lib.IntN.{ℤ}
+use lib.IntN.{ℤ, pos}
 use lib.ListN.{getD}
 use Rattle.definitions.specs.declared.Axis.{Axis}
 use Rattle.definitions.specs.declared.Axes.{Axes}
 use Rattle.definitions.specs.declared.AxisStep.{AxisStep}
 use Rattle.definitions.specs.declared.Motion.{Motion}
 use Rattle.definitions.specs.declared.Origin.{Origin}
+use Rattle.definitions.specs.declared.Basis.{Basis}
 use Rattle.definitions.specs.declared.Answer.{Answer}
 use Rattle.definitions.specs.declared.Answer.the-variants.{Outside, Intra, Inherited}
 use Rattle.macroblock.specs.declared.AxisRead.{AxisRead}
@@ -20,7 +21,8 @@ use Rattle.common.specs.declared.counts.Sort.{Sort}
 use Rattle.common.specs.declared.counts.Sort.the-variants.{Inherited as SortInherited, Intra as SortIntra, Outside as SortOutside}
 use Rattle.definitions.specs.Basics.{pick}
 use Rattle.definitions.specs.Geometry.{baseSize, classOf, macroblocks, insideAxis, sampleOf}
-use Rattle.definitions.specs.BlockMap.{stepOf}
+use Rattle.definitions.specs.BlockMap.{columnOf, stepOf}
+use Rattle.details.specs.Bits.{detailBy, halvesOf}
 use Rattle.definitions.specs.Record.{laidOut}
 use Rattle.definitions.specs.Inheriting.{mostlyIntra, motionAt, resolved, chosen}
 use Rattle.definitions.specs.Answer.{Made, dividedBy, withoutMotion}
@@ -32,20 +34,20 @@ abbrev pub fixedOf : Axes → Fixed
 fixedOf g = record { width = macroblocks (baseSize (g .horizontal)); scales = scalesOf g }
 
 -- ---- An axis at a macroblock
--- inside, of its step the coordinates that are read, the first column (row), and whether two are read
+-- inside, of its step the coordinates that are read, the sets of base quadrants along it that the first two blocks and the last two read, and whether two columns (rows) are read
 abbrev pub readIn : AxisStep → AxisRead
-readIn s = record { reads = s .reads; first = s .first; two = s .two; inside = true }
+readIn s = record { reads = s .reads; halves = halvesOf (s .reads); two = s .two; inside = true }
 
 abbrev pub nowhere : AxisRead
-nowhere = record { reads = 0 ∷ 0 ∷ 0 ∷ 0 ∷ []; first = 65535; two = false; inside = false }
+nowhere = record { reads = 65535 ∷ 65535 ∷ 65535 ∷ 65535 ∷ []; halves = 0 ∷ 0 ∷ []; two = false; inside = false }
 
 unfoldable pub readOf : Axis → ℕ → AxisRead
 readOf a x = pick (insideAxis a (sampleOf x)) (readIn (stepOf a (sampleOf x))) nowhere
 
--- the numbers of a step have sixteen bits
+-- the coordinates of a step have sixteen bits, and rise
 pub record Small (s : AxisStep) : Type 0 where
   pub reads : (i : ℕ) → i < 4 → getD (s .reads) i 0 < 65536
-  pub first : s .first < 65536
+  pub rising : Rising (s .reads)
 
 -- ---- What is made inside, by the coordinates that are read
 -- the first and the last coordinate lie in one column (row) where d is 4, and in one half of it where d is 2
@@ -53,7 +55,10 @@ abbrev pub onePart : ℕ → List ℕ → Bool
 onePart d reads = eqb (getD reads 3 0 / d) (getD reads 0 0 / d)
 
 module _ (f : Fixed) (across down : List ℕ) (base : List ℤ) where
-  -- the intra set; the motions after steps 1 to 3, and after step 4
+  -- the detail; the intra set; the motions after steps 1 to 3, and after step 4
+  abbrev pub detailInside : ℕ
+  detailInside = detailBy (f .width) across down base
+
   abbrev pub setInside : ℕ
   setInside = setBy (f .width) across down base
 
@@ -65,10 +70,10 @@ module _ (f : Fixed) (across down : List ℕ) (base : List ℤ) where
 
   -- the record where it inherits, and where it is inside
   unfoldable pub inheritedInside : List ℤ
-  inheritedInside = laidOut (dividedBy (chosen motionsInside) (motionAt motionsInside))
+  inheritedInside = laidOut (dividedBy (chosen motionsInside) (motionAt motionsInside) (pos detailInside))
 
   unfoldable pub writtenInside : List ℤ
-  writtenInside = pick (mostlyIntra setInside) (withoutMotion 0) inheritedInside
+  writtenInside = pick (mostlyIntra setInside) (withoutMotion 0 (pos detailInside)) inheritedInside
 
   unfoldable pub sortInside : Sort
   sortInside = pick (mostlyIntra setInside) SortIntra SortInherited
@@ -76,22 +81,25 @@ module _ (f : Fixed) (across down : List ℕ) (base : List ℤ) where
 -- ---- What is made of any macroblock: outside no record is read
 module _ (f : Fixed) (h v : AxisRead) (base : List ℤ) where
   unfoldable pub writtenBy : List ℤ
-  writtenBy = pick (h .inside && v .inside) (writtenInside f (h .reads) (v .reads) base) (withoutMotion 5)
+  writtenBy = pick (h .inside && v .inside) (writtenInside f (h .reads) (v .reads) base) (withoutMotion 5 (pos 0))
 
   unfoldable pub sortBy : Sort
   sortBy = pick (h .inside && v .inside) (sortInside f (h .reads) (v .reads) base) SortOutside
 
--- the answer of a sort: its origin, and the split that is chosen
+-- the answer of a sort: what it names (the first column is that of the first coordinate), its detail, and the split that is chosen
 abbrev pub originBy : AxisRead → AxisRead → Origin
-originBy h v = record { class = classOf (h .two) (v .two); column = h .first; row = v .first }
+originBy h v = record { class = classOf (h .two) (v .two); column = columnOf (getD (h .reads) 0 0); row = columnOf (getD (v .reads) 0 0) }
 
-abbrev pub answerFor : Sort → Origin → List (List Motion) → Answer
-answerFor SortOutside o m = Outside
-answerFor SortIntra o m = Intra o
-answerFor SortInherited o m = Inherited o (chosen m)
+abbrev pub basisBy : Fixed → AxisRead → AxisRead → List ℤ → Basis
+basisBy f h v base = record { origin = originBy h v; detail = detailInside f (h .reads) (v .reads) base }
+
+abbrev pub answerFor : Sort → Basis → List (List Motion) → Answer
+answerFor SortOutside b m = Outside
+answerFor SortIntra b m = Intra b
+answerFor SortInherited b m = Inherited b (chosen m)
 
 unfoldable pub answerBy : Fixed → AxisRead → AxisRead → List ℤ → Answer
-answerBy f h v base = answerFor (sortBy f h v base) (originBy h v) (motionsInside f (h .reads) (v .reads) base)
+answerBy f h v base = answerFor (sortBy f h v base) (basisBy f h v base) (motionsInside f (h .reads) (v .reads) base)
 
 -- both, as the laws of the calls have it
 unfoldable pub madeBy : Fixed → AxisRead → AxisRead → List ℤ → Made
@@ -106,5 +114,11 @@ pub record Ready (f : Fixed) (across down : List ℕ) (base : List ℤ) : Type 0
   pub columns : Rising across
   pub rows : Rising down
 
+-- and of the axes that their sets are those of their coordinates
+pub record MakeableInside (f : Fixed) (h v : AxisRead) (base : List ℤ) : Type 0 where
+  pub ready : Ready f (h .reads) (v .reads) base
+  pub columns : h .halves ≡ halvesOf (h .reads)
+  pub rows : v .halves ≡ halvesOf (v .reads)
+
 abbrev pub Makeable : Fixed → AxisRead → AxisRead → List ℤ → Type 0
-Makeable f h v base = (h .inside && v .inside) ≡ true → Ready f (h .reads) (v .reads) base
+Makeable f h v base = (h .inside && v .inside) ≡ true → MakeableInside f h v base

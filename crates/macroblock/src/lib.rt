@@ -5,11 +5,13 @@
 ghost use Prim.Native.Nat.{_<_, _≤_};
 ghost use Rattle.definitions.specs.Accepted.{AcceptedAxes, AcceptedAxis};
 ghost use Rattle.definitions.specs.Inheriting.{filled, merged, resolved};
-ghost use Rattle.definitions.specs.Record.{recordWords, splitSaid, subSplitOf};
-ghost use Rattle.gather.specs.Reads.{Readable, gatheredBy, quadrantFrom, setBy};
-ghost use Rattle.macroblock.specs.Made.{Makeable, Ready, Small, answerBy, fixedOf, inheritedInside, nowhere, onePart, originBy, readIn, readOf, setInside, sortBy, sortInside, writtenBy, writtenInside};
+ghost use Rattle.definitions.specs.Record.{detailOf, recordWords, rule7, splitSaid, subSplitOf};
+ghost use Rattle.details.specs.Bits.{detailBy, halvesOf};
+ghost use Rattle.gather.specs.Reads.{Readable, Rising, gatheredBy, quadrantFrom, setBy};
+ghost use Rattle.macroblock.specs.Made.{Makeable, Ready, Small, answerBy, detailInside, fixedOf, inheritedInside, nowhere, onePart, originBy, readIn, readOf, setInside, sortBy, sortInside, writtenBy, writtenInside};
 ghost use Rattle.macroblock.specs.Quadrants.{Alike, Mergeable, plainAt};
 ghost use Rattle.motion.specs.ByValue.{motionsIn, quadrantsIn};
+ghost use lib.IntN.{natAbs};
 ghost use lib.ListN.{length};
 ghost use mathlib.Core.Bool.{_&&_, true};
 ghost use mathlib.Core.Path.{_≡_};
@@ -174,7 +176,10 @@ fn detail_within(
     down: [u16; 4],
     columns: [u8; 2],
     rows: [u8; 2],
-) -> u8 {
+) -> u8
+    requires { ⌜ Readable width across down (now base) × (width ≤ 256) × Rising across × Rising down × ((onePart 4 across && onePart 4 down) ≡ true) × (columns ≡ halvesOf across) × (rows ≡ halvesOf down) ⌝ }
+    ensures { λ r. ⌜ (r ≡ detailBy width across down (now (base .entry))) × (r < 16) ⌝ }
+{
     if is_half(across) & is_half(down) {
         return detail_of_quarter(base, width, across, down);
     }
@@ -191,7 +196,7 @@ fn make_of_one(
     detail: u8,
     out: &mut [i16],
 ) -> Sort
-    requires { ⌜ Ready f across down (now base) × ((onePart 4 across && onePart 4 down) ≡ true) × (length (now out) ≡ recordWords) ⌝ }
+    requires { ⌜ Ready f across down (now base) × ((onePart 4 across && onePart 4 down) ≡ true) × (detail ≡ detailInside f across down (now base)) × (length (now out) ≡ recordWords) ⌝ }
     ensures sort { λ r. ⌜ r ≡ sortInside f across down (now (base .entry)) ⌝ }
     ensures written { λ r. ⌜ now (out .exit) ≡ writtenInside f across down (now (base .entry)) ⌝ }
 {
@@ -225,7 +230,7 @@ fn make_of_more(
     detail: u8,
     out: &mut [i16],
 ) -> Sort
-    requires { ⌜ Ready f across down (now base) × (length (now out) ≡ recordWords) ⌝ }
+    requires { ⌜ Ready f across down (now base) × (detail ≡ detailInside f across down (now base)) × (length (now out) ≡ recordWords) ⌝ }
     ensures sort { λ r. ⌜ r ≡ sortInside f across down (now (base .entry)) ⌝ }
     ensures written { λ r. ⌜ now (out .exit) ≡ writtenInside f across down (now (base .entry)) ⌝ }
 {
@@ -255,7 +260,7 @@ fn make_inherited(
     detail: u8,
     out: &mut [i16],
 )
-    requires { ⌜ Ready f across down (now base) × (set ≡ setInside f across down (now base)) × (length (now out) ≡ recordWords) ⌝ }
+    requires { ⌜ Ready f across down (now base) × (set ≡ setInside f across down (now base)) × (detail ≡ detailInside f across down (now base)) × (length (now out) ≡ recordWords) ⌝ }
     ensures { λ _. ⌜ now (out .exit) ≡ inheritedInside f across down (now (base .entry)) ⌝ }
 {
     write_made(
