@@ -1,0 +1,144 @@
+-- The detail of a macroblock by the bits of the macroblocks that its corner blocks read (specs/Bits). Assumes nothing.
+use Prim.Native.Nat.{ℕ, zero, suc, _+_, _-_, _*_, _/_, _%_, _^_, _≤_, _<_}
+use mathlib.Core.Path.{_≡_, refl, sym, ap, ap₂, _∙_}
+use mathlib.Core.Bool.{Bool, true, false, _&&_, _||_}
+use mathlib.Core.List.{List, [], _∷_}
+use mathlib.Core.Logic.{⊎-elim}
+use native.Mathlib.Nat.{eq-or-lt-of-le}
+use native.Mathlib.Omega.{arith}
+use lib.Dec.{eqb}
+use lib.IntN.{ℤ, natAbs}
+use lib.ListN.{getD}
+use borrow.Author.Tests.{eqb-true}
+use Rattle.definitions.specs.Basics.{allBelow, bitSet, four, pick}
+use Rattle.definitions.specs.BlockMap.{blockIn, columnOf}
+use Rattle.definitions.specs.Blocks.{quadrantOf}
+use Rattle.definitions.specs.Inheriting.{setOf, someOf}
+use Rattle.definitions.specs.Record.{detailOf, narrow, recordAt, rule7}
+use Rattle.definitions.proofs.Choices.{below-true, both-true, each, four-same}
+use Rattle.definitions.proofs.Formed.{rules-of}
+use Rattle.definitions.proofs.Sameness.{set-same}
+use Rattle.records.proofs.Words.{four-bits}
+use Rattle.gather.specs.Reads.{Readable, ReadableAt, Rising, blockAt, recordRead}
+use Rattle.gather.proofs.Sets.{bit, bits-set}
+use Rattle.details.specs.Bits.{InOne, Own, asRows, detailBy, detailRead, detailsBy, fourMasked, halvesOf, masked, pairOf, placeOf, quadrantReads, wordRead}
+use Rattle.details.proofs.Masks.{bit-first, bit-fourth, bit-second, bit-third, mask-is, masked-four, pair, place}
+
+-- ---- Along an axis
+-- what lies between the first coordinate and the last
+between : (x : List ℕ) → Rising x → (i : ℕ) → i < 4 → (getD x 0 0 ≤ getD x i 0) × (getD x i 0 ≤ getD x 3 0)
+between x r =
+    each (λ i. (getD x 0 0 ≤ getD x i 0) × (getD x i 0 ≤ getD x 3 0))
+    (omega (arith, r), omega (arith, r)) (omega (arith, r), omega (arith, r)) (omega (arith, r), omega (arith, r)) (omega (arith, r), omega (arith, r))
+
+-- the place of a block's bits, by its macroblock of two and its half of it as one number below 4
+abbrev half : ℕ → ℕ → ℕ
+half first x = 2 * (columnOf x - columnOf first) + blockIn x / 2
+
+half-below : (x : List ℕ) → Rising x → (i : ℕ) → i < 4 → half (getD x 0 0) (getD x i 0) < 4
+half-below x r i h = omega (arith, r, between x r i h)
+
+half-place : (first x : ℕ) → place (half first x) ≡ placeOf first x
+half-place first x = omega arith
+
+-- what holds of a block whose macroblock is the first one's holds of each, if it holds of those in the next one, which is the last block's
+by-side : (P : Type 0) (x : List ℕ) → Rising x → (i : ℕ) → i < 4
+    → (columnOf (getD x 0 0) ≡ columnOf (getD x i 0) → P)
+    → (columnOf (getD x 3 0) ≡ columnOf (getD x i 0) → columnOf (getD x i 0) ≡ columnOf (getD x 0 0) + 1 → P)
+    → P
+by-side P x r i h near far =
+    ⊎-elim near
+    (λ l. far (omega (arith, r, between x r i h, l)) (omega (arith, r, between x r i h, l)))
+    (eq-or-lt-of-le (let q : columnOf (getD x 0 0) ≤ columnOf (getD x i 0) = omega (arith, between x r i h) in q))
+
+-- ---- By sets of columns and rows
+module _ (width : ℕ) (across down : List ℕ) (base : List ℤ) (a : Rising across) (d : Rising down) where
+  abbrev x : ℕ → ℕ
+  x i = getD across i 0
+
+  abbrev y : ℕ → ℕ
+  y j = getD down j 0
+
+  abbrev reads : ℕ → ℕ → Bool
+  reads i j = detailRead width base (x i) (y j)
+
+  -- the bit of what each block reads stands in n at its place
+  abbrev Holds : ℕ → Type 0
+  Holds n = (i j : ℕ) → i < 4 → j < 4 → bitSet n (placeOf (x 0) (x i) + 2 * placeOf (y 0) (y j)) ≡ reads i j
+
+  module _ (n : ℕ) (holds : Holds n) where
+    -- a quadrant, by its two columns and its two rows
+    quadrant : (i j k l : ℕ) → i < 4 → j < 4 → k < 4 → l < 4
+        → masked n (pairOf (x 0) (x i) (x j) * asRows (pairOf (y 0) (y k) (y l))) ≡ bit (someOf (reads i k ∷ reads j k ∷ reads i l ∷ reads j l ∷ []))
+    quadrant i j k l hi hj hk hl =
+        let p = half-place (x 0) (x i) in
+        let q = half-place (x 0) (x j) in
+        let r = half-place (y 0) (y k) in
+        let s = half-place (y 0) (y l) in
+        (λ t. masked n (pair (sym p t) (sym q t) * asRows (pair (sym r t) (sym s t))))
+        ∙ (ap (masked n) (mask-is _ _ _ _ (half-below across a i hi) (half-below across a j hj) (half-below down d k hk) (half-below down d l hl))
+        ∙ (masked-four n _ _ _ _
+        ∙ ((λ t. bit (someOf (bitSet n (p t + 2 * r t) ∷ bitSet n (q t + 2 * r t) ∷ bitSet n (p t + 2 * s t) ∷ bitSet n (q t + 2 * s t) ∷ [])))
+        ∙ ap (λ (b : List Bool). bit (someOf b)) (four-same (holds i k hi hk) (holds j k hj hk) (holds i l hi hl) (holds j l hj hl)))))
+
+    by-sets : fourMasked n (halvesOf across) (halvesOf down) ≡ detailBy width across down base
+    unfolding detailBy halvesOf
+    by-sets =
+        let e = quadrant 0 1 0 1 (omega arith) (omega arith) (omega arith) (omega arith) in
+        let f = quadrant 2 3 0 1 (omega arith) (omega arith) (omega arith) (omega arith) in
+        let g = quadrant 0 1 2 3 (omega arith) (omega arith) (omega arith) (omega arith) in
+        let h = quadrant 2 3 2 3 (omega arith) (omega arith) (omega arith) (omega arith) in
+        (λ t. e t + 2 * f t + 4 * g t + 8 * h t) ∙ bits-set (quadrantReads width across down base)
+
+  -- ---- the bits of a macroblock; its quadrant's in which a block lies
+  abbrev word : ℕ → ℕ → ℕ
+  word column row = natAbs (detailOf (recordAt base (row * width + column)))
+
+  abbrev part : ℕ → ℕ → ℕ
+  part i j = blockIn (x i) / 2 + 2 * (blockIn (y j) / 2)
+
+  read-of : {column row : ℕ} (i j : ℕ) → column ≡ columnOf (x i) → row ≡ columnOf (y j) → bitSet (word column row) (part i j) ≡ reads i j
+  read-of i j p q =
+      let e : part i j ≡ quadrantOf (blockAt (x i) (y j)) = omega arith in
+      λ t. bitSet (word (p t) (q t)) (e t)
+
+  -- where all lie in one macroblock
+  pub detail-one : InOne 4 across → InOne 4 down
+      → fourMasked (wordRead width base (x 0) (y 0)) (halvesOf across) (halvesOf down) ≡ detailBy width across down base
+  detail-one o u = by-sets (wordRead width base (x 0) (y 0)) (λ i j hi hj.
+      let p : columnOf (x 0) ≡ columnOf (x i) = omega (arith, o, between across a i hi) in
+      let q : columnOf (y 0) ≡ columnOf (y j) = omega (arith, u, between down d j hj) in
+      let e : placeOf (x 0) (x i) + 2 * placeOf (y 0) (y j) ≡ part i j = omega (arith, p, q) in
+      ap (bitSet (word (columnOf (x 0)) (columnOf (y 0)))) e ∙ read-of i j p q)
+
+  -- where they lie in one quadrant of it
+  pub detail-quarter : InOne 2 across → InOne 2 down
+      → detailBy width across down base ≡ 15 * bit (reads 0 0)
+  unfolding detailBy setOf someOf pick
+  detail-quarter o u = ?
+
+  -- in all of them
+  module _ (readable : Readable width across down base) where
+    small : (i : ℕ) → i < 16 → wordRead width base (x (i % 4)) (y (i / 4)) < 16
+    unfolding rule7
+    small i h = four-bits _ (rules-of narrow _ (readable i h .formed) .detail) .1
+
+    pub detail-corners : fourMasked (detailsBy width across down base) (halvesOf across) (halvesOf down) ≡ detailBy width across down base
+    detail-corners = by-sets (detailsBy width across down base) (λ i j hi hj.
+        let ha = small 0 (omega arith) in
+        let hb = small 3 (omega arith) in
+        let hc = small 12 (omega arith) in
+        let n = detailsBy width across down base in
+        let at : ℕ = placeOf (x 0) (x i) + 2 * placeOf (y 0) (y j) in
+        let e : part i j < 4 = omega arith in
+        by-side (bitSet n at ≡ reads i j) across a i hi
+        (λ p. by-side (bitSet n at ≡ reads i j) down d j hj
+          (λ q. let k : at ≡ part i j = omega (arith, p, q) in
+          ap (bitSet n) k ∙ (bit-first _ _ _ _ ha hb hc (part i j) e ∙ read-of i j p q))
+          (λ q f. let k : at ≡ 4 + (4 + part i j) = omega (arith, p, f) in
+          ap (bitSet n) k ∙ (bit-third _ _ _ _ ha hb hc (part i j) e ∙ read-of i j p q)))
+        (λ p g. by-side (bitSet n at ≡ reads i j) down d j hj
+          (λ q. let k : at ≡ 4 + part i j = omega (arith, g, q) in
+          ap (bitSet n) k ∙ (bit-second _ _ _ _ ha hb hc (part i j) e ∙ read-of i j p q))
+          (λ q f. let k : at ≡ 4 + (4 + (4 + part i j)) = omega (arith, g, f) in
+          ap (bitSet n) k ∙ (bit-fourth _ _ _ _ ha hb hc (part i j) ∙ read-of i j p q))))
