@@ -1,20 +1,21 @@
 -- The bits of a number that a mask leaves, and the masks that are made of a set of columns and a set of rows. Plain numbers only. Assumes nothing.
 use Prim.Native.Nat.{ℕ, zero, suc, _+_, _-_, _*_, _/_, _%_, _^_, _≤_, _<_, min, max}
-use mathlib.Core.Path.{_≡_, refl, sym, ap, ap₂, _∙_}
+use mathlib.Core.Path.{_≡_, refl, sym, ap, ap₂, subst, _∙_}
 use mathlib.Core.Bool.{Bool, true, false, _&&_, _||_, not}
-use mathlib.Core.List.{[], _∷_}
+use mathlib.Core.List.{List, [], _∷_}
 use native.Mathlib.Nat.{div-div-eq-div-mul}
 use native.Mathlib.Omega.{arith}
 use lib.Arith.{bin-ind}
-use lib.Bits.{bitAnd, bitOr, and-step, or-step, and-shr, or-shr, and-high, or-add-and, and-le-l, and-le-r}
-use lib.Dec.{eqb}
+use lib.Bits.{bitAnd, bitOr, and-step, or-step, and-shr, or-shr, and-high, and-mask, or-add-and, and-le-l, and-le-r}
+use lib.Dec.{eqb, ltb}
+use lib.ListN.{getD}
 use lib.Pow.{pow-add, pow-pos}
-use borrow.Author.Tests.{eqb-true, eq-eqb, ne-eqb}
-use Rattle.definitions.specs.Basics.{allBelow, bitSet, pick}
+use borrow.Author.Tests.{eqb-true, eq-eqb, ltb-true, ne-eqb}
+use Rattle.definitions.specs.Basics.{allBelow, bitSet, pick, upTo}
 use Rattle.definitions.specs.Inheriting.{someOf}
 use Rattle.definitions.proofs.Choices.{and-intro, below-true, both-true, both-ways, each}
 use Rattle.gather.proofs.Sets.{bit}
-use Rattle.details.specs.Bits.{asRows, fourMasked, masked}
+use Rattle.details.specs.Bits.{Own, asRows, fourMasked, masked}
 
 -- ---- What a mask of several bits leaves is what each of its bits leaves
 or-odd : (a b : ℕ) → bitOr a b % 2 ≡ max (a % 2) (b % 2)
@@ -111,6 +112,75 @@ pub mask-is : (i j k l : ℕ) → i < 4 → j < 4 → k < 4 → l < 4
 unfolding product-test
 mask-is i j k l hi hj hk hl =
     eqb-true _ _ (below-true 4 _ (below-true 4 _ (below-true 4 _ (below-true 4 _ all-products i hi) j hj) k hk) l hl)
+
+pair-test : ℕ → ℕ → Bool
+pair-test i j = ltb (pair (place i) (place j)) 64
+
+all-pairs : allBelow 4 (λ i. allBelow 4 (λ j. pair-test i j)) ≡ true
+unfolding allBelow pair-test
+all-pairs = refl
+
+pub pair-below : (i j : ℕ) → i < 4 → j < 4 → pair (place i) (place j) < 64
+unfolding pair-test
+pair-below i j hi hj = ltb-true _ _ (below-true 4 _ (below-true 4 _ all-pairs i hi) j hj)
+
+-- ---- Tables: what block k from the first macroblock on adds to a set of columns, and a set of columns as rows
+abbrev pub inHalf : ℕ → ℕ
+inHalf k = 2 ^ (4 * (k / 4) + k % 4 / 2)
+
+half-test : ℕ → Bool
+half-test k = eqb (getD (upTo 8 inHalf) k 0) (inHalf k)
+
+all-halves : allBelow 8 half-test ≡ true
+unfolding allBelow half-test upTo
+all-halves = refl
+
+pub half-at : (k : ℕ) → k < 8 → getD (upTo 8 inHalf) k 0 ≡ inHalf k
+unfolding half-test
+half-at k h = eqb-true _ _ (below-true 8 half-test all-halves k h)
+
+rows-test : ℕ → Bool
+rows-test c = eqb (getD (upTo 64 asRows) c 0) (asRows c) && ltb (asRows c) 2048
+
+all-rows : allBelow 64 rows-test ≡ true
+unfolding allBelow rows-test upTo
+all-rows = refl
+
+pub rows-at : (c : ℕ) → c < 64 → (getD (upTo 64 asRows) c 0 ≡ asRows c) × (getD (upTo 64 asRows) c 0 < 2048)
+unfolding rows-test
+rows-at c h =
+    let b = both-true (eqb (getD (upTo 64 asRows) c 0) (asRows c)) (ltb (asRows c) 2048) (below-true 64 rows-test all-rows c h) in
+    let e = eqb-true (getD (upTo 64 asRows) c 0) (asRows c) (b .0) in
+    (e, subst (λ (n : ℕ). n < 2048) (sym e) (ltb-true (asRows c) 2048 (b .1)))
+
+-- ---- One bit of a number, as it is computed; and the four where each quadrant reads the one in its own place
+odd-bit : (m : ℕ) → m < 2 → bit (eqb m 1) ≡ m
+unfolding pick
+odd-bit zero h = refl
+odd-bit (suc zero) h = refl
+odd-bit (suc (suc m)) h = absurd (omega arith)
+
+pub one-bit : (n k : ℕ) → bitAnd (n / 2 ^ k) 1 ≡ bit (bitSet n k)
+one-bit n k = and-mask (n / 2 ^ k) 1 ∙ sym (odd-bit (n / 2 ^ k % 2) (omega arith))
+
+own-test : ℕ → Bool
+own-test n = eqb n (fourMasked n (1 ∷ 2 ∷ []) (1 ∷ 2 ∷ []))
+
+all-own : allBelow 16 own-test ≡ true
+unfolding allBelow own-test pick
+all-own = refl
+
+pub detail-own : (n : ℕ) → n < 16 → (h v : List ℕ) → Own h ≡ true → Own v ≡ true → n ≡ fourMasked n h v
+unfolding own-test
+detail-own n l h v p q =
+    let b = both-true _ _ p in
+    let d = both-true _ _ q in
+    let left = sym (eqb-true (getD h 0 0) 1 (b .0)) in
+    let right = sym (eqb-true (getD h 1 0) 2 (b .1)) in
+    let upper = sym (eqb-true (getD v 0 0) 1 (d .0)) in
+    let lower = sym (eqb-true (getD v 1 0) 2 (d .1)) in
+    eqb-true _ _ (below-true 16 own-test all-own n l)
+    ∙ (λ t. fourMasked n (left t ∷ right t ∷ []) (upper t ∷ lower t ∷ []))
 
 -- ---- Four numbers of four bits in one: a bit of it is one of theirs
 low-bit : (x y : ℕ) → x < 16 → (e : ℕ) → e < 4 → bitSet (x + 16 * y) e ≡ bitSet x e

@@ -1,20 +1,18 @@
+-- `details::detail_of_more` meets its contract. Assumes nothing.
 use borrow.Author.Needs.{needs}
+use mathlib.Core.Path.{sym, subst, _∙_}
+use mathlib.Core.List.{List}
+use Rattle.details.specs.Bits.{fourMasked}
+use Rattle.details.proofs.Reading.{detail-corners, halves-below}
 use Rattle.details.proofs.detail_of_more.Statement.{statement}
 use Rattle.details.proofs.detail_of_more.Tie as tie
-use Rattle.details.proofs.detail_of_more.Reads as reads
-use Rattle.details.proofs.detail_of_more.Lts as lts
-use Rattle.details.proofs.detail_by.Reads as detail-by-reads
-use Rattle.details.proofs.details_of.Reads as details-of-reads
 
--- src/lib.rt:159:9
 details-of-requires : tie.Need-details-of-requires
 details-of-requires c κs = search needs
 
--- src/lib.rt:160:5
 detail-by-requires : tie.Need-detail-by-requires
 detail-by-requires c κs = ?
 
--- src/lib.rt:148:1
 returns : tie.Need-returns
 returns c = ?
 
