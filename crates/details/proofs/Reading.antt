@@ -76,7 +76,7 @@ unfolding halvesOf
 halves-below x r =
     let set : (i : ℕ) → i + 1 < 4 → pairOf (getD x 0 0) (getD x i 0) (getD x (i + 1) 0) < 64 =
     λ i h. subst (λ (n : ℕ). n < 64) (λ t. pair (half-place (getD x 0 0) (getD x i 0) t) (half-place (getD x 0 0) (getD x (i + 1) 0) t))
-      (pair-below _ _ (half-below x r i (omega arith)) (half-below x r (i + 1) h)) in
+    (pair-below _ _ (half-below x r i (omega arith)) (half-below x r (i + 1) h)) in
     (set 0 (omega arith), set 2 (omega arith))
 
 -- ---- Four bits that are all the same
@@ -197,12 +197,12 @@ module _ (width : ℕ) (across down : List ℕ) (base : List ℤ) (a : Rising ac
         let e : part i j < 4 = omega arith in
         by-side (bitSet n at ≡ reads i j) across a i hi
         (λ p. by-side (bitSet n at ≡ reads i j) down d j hj
-          (λ q. let k : at ≡ part i j = omega (arith, p, q) in
-          ap (bitSet n) k ∙ (bit-first _ _ _ _ ha hb hc (part i j) e ∙ read-of i j p q))
-          (λ q f. let k : at ≡ 4 + (4 + part i j) = omega (arith, p, f) in
-          ap (bitSet n) k ∙ (bit-third _ _ _ _ ha hb hc (part i j) e ∙ read-of i j p q)))
+        (λ q. let k : at ≡ part i j = omega (arith, p, q) in
+        ap (bitSet n) k ∙ (bit-first _ _ _ _ ha hb hc (part i j) e ∙ read-of i j p q))
+        (λ q f. let k : at ≡ 4 + (4 + part i j) = omega (arith, p, f) in
+        ap (bitSet n) k ∙ (bit-third _ _ _ _ ha hb hc (part i j) e ∙ read-of i j p q)))
         (λ p g. by-side (bitSet n at ≡ reads i j) down d j hj
-          (λ q. let k : at ≡ 4 + part i j = omega (arith, g, q) in
-          ap (bitSet n) k ∙ (bit-second _ _ _ _ ha hb hc (part i j) e ∙ read-of i j p q))
-          (λ q f. let k : at ≡ 4 + (4 + (4 + part i j)) = omega (arith, g, f) in
-          ap (bitSet n) k ∙ (bit-fourth _ _ _ _ ha hb hc (part i j) ∙ read-of i j p q))))
+        (λ q. let k : at ≡ 4 + part i j = omega (arith, g, q) in
+        ap (bitSet n) k ∙ (bit-second _ _ _ _ ha hb hc (part i j) e ∙ read-of i j p q))
+        (λ q f. let k : at ≡ 4 + (4 + (4 + part i j)) = omega (arith, g, f) in
+        ap (bitSet n) k ∙ (bit-fourth _ _ _ _ ha hb hc (part i j) ∙ read-of i j p q))))

@@ -1,8 +1,10 @@
 -- `details::halves_of` meets its contract. Assumes nothing.
-use mathlib.Core.Path.{_≡_}
 use native.Mathlib.Omega.{arith}
 use Rattle.definitions.specs.Basics.{upTo}
 use Rattle.details.proofs.Reading.{halves-are}
+use lib.ListN.{getD}
+use mir.Syntax.{w32}
+use mir.Val.{Fits}
 use borrow.Author.Needs.{needs}
 use Rattle.details.proofs.halves_of.Statement.{statement}
 use Rattle.details.proofs.halves_of.Tie as tie
@@ -11,7 +13,9 @@ array-read-first : tie.Need-array-read-first
 array-read-first c = search needs
 
 mul-first : tie.Need-mul-first
-mul-first c = ?
+mul-first c =
+    let f : Fits w32 (getD (c .args .t1) 0 0) = search needs in
+    omega (arith, f)
 
 array-read-a : tie.Need-array-read-a
 array-read-a c = search needs

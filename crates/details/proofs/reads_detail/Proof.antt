@@ -20,9 +20,10 @@ cast-result : tie.Need-cast-result
 cast-result c = search needs
 
 returns : tie.Need-returns
-returns c =
-    (c .detail-at .ensures .0 ∙ ap (λ (a : ℕ). natAbs (detailOf (recordAt (c .before .before .args .base .now) a))) (c .before .address-of .ensures),
-    c .detail-at .ensures .1)
+returns c = (
+  c .detail-at .ensures .0 ∙ ap (λ (a : ℕ). natAbs (detailOf (recordAt (c .before .before .args .base .now) a))) (c .before .address-of .ensures),
+  c .detail-at .ensures .1,
+)
 
 pub reads-detail-spec : {M : Type 1} → statement M
 reads-detail-spec = tie.close (tie.spec address-of-requires detail-at-requires cast-result returns)
