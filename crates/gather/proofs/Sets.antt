@@ -18,7 +18,7 @@ use Rattle.gather.specs.declared.Corners.{Corners}
 use Rattle.gather.specs.Reads.{Rising, beside, cornersBy, setAmong, setBy}
 
 -- ---- sets by weighted sums, as they are computed: of four blocks by their bits, and of sixteen by their rows
-abbrev bit : Bool → ℕ
+abbrev pub bit : Bool → ℕ
 bit on = pick on 1 0
 
 weighted : (on : Bool) (n : ℕ) → pick on n 0 ≡ n * bit on
@@ -26,7 +26,7 @@ unfolding pick
 weighted true n = omega arith
 weighted false n = omega arith
 
-bits-set : (on : ℕ → Bool) → bit (on 0) + 2 * bit (on 1) + 4 * bit (on 2) + 8 * bit (on 3) ≡ setOf 4 on
+pub bits-set : (on : ℕ → Bool) → bit (on 0) + 2 * bit (on 1) + 4 * bit (on 2) + 8 * bit (on 3) ≡ setOf 4 on
 unfolding setOf
 bits-set on = omega (arith, weighted (on 0) 1, weighted (on 1) 2, weighted (on 2) 4, weighted (on 3) 8)
 

@@ -1,0 +1,143 @@
+-- `details::detail_by` meets its contract. Assumes nothing.
+use Prim.Native.Nat.{ℕ, _+_, _*_, _<_}
+use mathlib.Core.Path.{_≡_, ap, _∙_}
+use native.Mathlib.Omega.{arith}
+use lib.ListN.{getD}
+use Rattle.definitions.specs.Basics.{upTo}
+use Rattle.details.specs.Bits.{asRows, masked}
+use Rattle.details.proofs.Masks.{rows-at}
+use mir.Syntax.{w32}
+use borrow.Author.Needs.{fits-under, needs}
+use Rattle.details.proofs.detail_by.Statement.{statement}
+use Rattle.details.proofs.detail_by.Tie as tie
+
+array-read-left : tie.Need-array-read-left
+array-read-left c = search needs
+
+cast-left : tie.Need-cast-left
+cast-left c = search needs
+
+array-read-right : tie.Need-array-read-right
+array-read-right c = search needs
+
+cast-right : tie.Need-cast-right
+cast-right c = search needs
+
+array-read-upper : tie.Need-array-read-upper
+array-read-upper c = search needs
+
+cast-upper : tie.Need-cast-upper
+cast-upper c = search needs
+
+mul-upper : tie.Need-mul-upper
+mul-upper c = search needs
+
+array-read-upper-2 : tie.Need-array-read-upper-2
+array-read-upper-2 c = search needs
+
+cast-upper-2 : tie.Need-cast-upper-2
+unfolding upTo
+cast-upper-2 c = fits-under w32 _ 2048 (rows-at (getD (c .args .t3) 0 0) (c .pre .2) .1) tt
+
+array-read-lower : tie.Need-array-read-lower
+array-read-lower c = search needs
+
+cast-lower : tie.Need-cast-lower
+cast-lower c = search needs
+
+mul-lower : tie.Need-mul-lower
+mul-lower c = search needs
+
+array-read-lower-2 : tie.Need-array-read-lower-2
+array-read-lower-2 c = search needs
+
+cast-lower-2 : tie.Need-cast-lower-2
+unfolding upTo
+cast-lower-2 c = fits-under w32 _ 2048 (rows-at (getD (c .args .t3) 1 0) (c .pre .3) .1) tt
+
+any-requires : tie.Need-any-requires
+unfolding upTo
+any-requires c κs = let s = c in (s .pre .0, rows-at (getD (s .args .t3) 0 0) (s .pre .2) .1)
+
+any-requires-2 : tie.Need-any-requires-2
+unfolding upTo
+any-requires-2 c κs = let s = c .before in (s .pre .1, rows-at (getD (s .args .t3) 0 0) (s .pre .2) .1)
+
+any-requires-3 : tie.Need-any-requires-3
+unfolding upTo
+any-requires-3 c κs = let s = c .before .before in (s .pre .0, rows-at (getD (s .args .t3) 1 0) (s .pre .3) .1)
+
+any-requires-4 : tie.Need-any-requires-4
+unfolding upTo
+any-requires-4 c κs = let s = c .before .before .before in (s .pre .1, rows-at (getD (s .args .t3) 1 0) (s .pre .3) .1)
+
+mul-result : tie.Need-mul-result
+mul-result c = search needs
+
+add-result : tie.Need-add-result
+add-result c = search needs
+
+mul-result-2 : tie.Need-mul-result-2
+mul-result-2 c = search needs
+
+add-result-2 : tie.Need-add-result-2
+add-result-2 c = search needs
+
+mul-result-3 : tie.Need-mul-result-3
+mul-result-3 c = search needs
+
+add-result-3 : tie.Need-add-result-3
+add-result-3 c = search needs
+
+cast-result : tie.Need-cast-result
+cast-result c = search needs
+
+returns : tie.Need-returns
+unfolding upTo
+returns c =
+    let s = c .before .before .before .before in
+    let bits = s .args .bits in
+    let left = getD (s .args .t2) 0 0 in
+    let right = getD (s .args .t2) 1 0 in
+    let upper = rows-at (getD (s .args .t3) 0 0) (s .pre .2) .0 in
+    let lower = rows-at (getD (s .args .t3) 1 0) (s .pre .3) .0 in
+    let p = c .before .before .before .any .ensures in
+    let q = c .before .before .any2 .ensures in
+    let r = c .before .any3 .ensures in
+    let e = c .any4 .ensures in
+    let a = p .0 ∙ ap (λ (rows : ℕ). masked bits (left * rows)) upper in
+    let b = q .0 ∙ ap (λ (rows : ℕ). masked bits (right * rows)) upper in
+    let d = r .0 ∙ ap (λ (rows : ℕ). masked bits (left * rows)) lower in
+    let f = e .0 ∙ ap (λ (rows : ℕ). masked bits (right * rows)) lower in
+    (λ t. a t + 2 * b t + 4 * d t + 8 * f t, omega (arith, p .1, q .1, r .1, e .1))
+
+pub detail-by-spec : {M : Type 1} → statement M
+detail-by-spec =
+    tie.close
+    (tie.spec
+    array-read-left
+    cast-left
+    array-read-right
+    cast-right
+    array-read-upper
+    cast-upper
+    mul-upper
+    array-read-upper-2
+    cast-upper-2
+    array-read-lower
+    cast-lower
+    mul-lower
+    array-read-lower-2
+    cast-lower-2
+    any-requires
+    any-requires-2
+    any-requires-3
+    any-requires-4
+    mul-result
+    add-result
+    mul-result-2
+    add-result-2
+    mul-result-3
+    add-result-3
+    cast-result
+    returns)
