@@ -317,8 +317,9 @@ pub fn edges(calls: &mut Calls) {
     }
 }
 
-/// The detail of each form at every limit, in each of three records, before and after
-/// one that breaks another rule too: it is read whatever it is, and then judged last.
+/// The detail of each form at every limit, in each of three records, beside one that
+/// breaks rule 3 or 6 and has a detail at a limit too: it is read whatever it is, and
+/// then judged last.
 pub fn details(calls: &mut Calls) {
     let texts = &mut Texts::new(calls);
     let limits = [-32768, -32767, -256, -128, 255, 256, 257, 271, 32766, 32767];
@@ -329,6 +330,8 @@ pub fn details(calls: &mut Calls) {
     };
     let head = head(&[16, 48, 24, 72, -2, 6, 48, 80]).concat();
     for detail in (-40..=80).chain(limits) {
+        let mut two_motions = detailed(distinct(1, [0; 4], 1), detail);
+        two_motions[13] += 1;
         for number in 0..3 {
             for at in 0..3 {
                 let mut lines = [form(0, 1), form(1, 6), form(2, 12)];
@@ -339,7 +342,9 @@ pub fn details(calls: &mut Calls) {
                 if picture != (0..=15).contains(&detail) {
                     texts.differs(text.as_bytes(), "rule 7 is not that of 0 to 15");
                 }
-                lines[(at + 1) % 3] = whole(&[0, 32], &[0; 4], -detail);
+                lines[(at + 1) % 3] = whole(&[0, 32], &[0; 4], detail);
+                texts.compare(head.clone() + &lines.concat());
+                lines[(at + 1) % 3] = mb(&two_motions);
                 texts.compare(head.clone() + &lines.concat());
             }
         }
