@@ -241,6 +241,8 @@ fn wrong_length(random: &mut Random, length: usize) -> usize {
         length + 1,
         length + WORDS,
         2 * length,
+        // As if records had no detail.
+        length / WORDS * (WORDS - 1),
     ])
 }
 
