@@ -6,9 +6,9 @@
  * from malloc, for a memory checker), or is a null pointer of length 0. Of each
  * input: a refused call leaves every lent word and byte, and what is only read stays;
  * a text's log, its picture, its macroblocks one by one and its session say the same;
- * an answer says what its record says, and names base macroblocks that are there. The
- * last line says how many inputs were tried and how often each refusal came; the exit
- * status is 0 if all held. */
+ * an answer says what its record says, and names base macroblocks that are there, from
+ * which its detail comes. The last line says how many inputs were tried, how often each
+ * refusal and rule came, and details; the exit status is 0 if all held. */
 #define _DEFAULT_SOURCE
 #include "spiewomir.h"
 #include <stdio.h>
@@ -20,7 +20,8 @@
 static int from_malloc;
 static unsigned long long state;
 static unsigned long calls[5];
-static unsigned long refusals[32];
+static unsigned long refusals[32], rules[8];
+static unsigned long details[3]; /* answers without, and inherited and intra ones with */
 
 static unsigned below(unsigned n) {
     state ^= state << 13;
@@ -98,7 +99,7 @@ static void put(size_t at, const void *bytes, size_t n, size_t instead) {
 }
 
 static void damage(const unsigned char *other, size_t other_length) {
-    static const char *const bits[] = {"-32769", "-32768", "32767", "32768", "-0", "00", "01", "4096", "4112", "16", "5", "-1", "(note)\n", "(note a (1 (b)))\n", "((((((((a))))))))", "(intra)\n", " ", "(", ")", "\n"};
+    static const char *const bits[] = {"-32769", "-32768", "32767", "32768", "-0", "00", "01", "4096", "4112", "16", "15", "5", "-1", "(note)\n", "(note a (1 (b)))\n", "((((((((a))))))))", "(intra 15)\n", " ", "(", ")", "\n"};
     size_t at = below((unsigned)length + 1);
     size_t some = 1 + below(6);
     if (some > length - at) some = length - at;
@@ -113,7 +114,7 @@ static void damage(const unsigned char *other, size_t other_length) {
         break;
     }
     case 5: { /* a number replaced */
-        const char *b = bits[below(12)];
+        const char *b = bits[below(13)];
         while (at < length && (text[at] < '0' || text[at] > '9')) at++;
         size_t n = 0;
         while (at + n < length && text[at + n] >= '0' && text[at + n] <= '9') n++;
@@ -130,10 +131,10 @@ static void damage(const unsigned char *other, size_t other_length) {
 /* ---- what one macroblock's call hands back, with the words that it wrote */
 static int inside(int32_t at, int32_t offset, int32_t scaled) { return offset <= 16 * at && 16 * at + 16 <= offset + scaled; }
 
-static void answer(SpiewomirGeometry g, int32_t column, int32_t row, SpiewomirMacroblock m, const int16_t *record) {
+static void answer(SpiewomirGeometry g, const int16_t *base, int32_t column, int32_t row, SpiewomirMacroblock m, const int16_t *record) {
     if (m.refusal) {
-        HOLDS(m.refusal == SPIEWOMIR_REFUSED_RECORD ? m.rule >= 1 && m.rule <= 6 : m.place == 0 && m.rule == 0);
-        HOLDS(!m.kind && !m.sub0 && !m.sub1 && !m.sub2 && !m.sub3 && !m.class_ && !m.column && !m.row);
+        HOLDS(m.refusal == SPIEWOMIR_REFUSED_RECORD ? m.rule >= 1 && m.rule <= 7 : m.place == 0 && m.rule == 0);
+        HOLDS(!m.kind && !m.sub0 && !m.sub1 && !m.sub2 && !m.sub3 && !m.class_ && !m.column && !m.row && !m.detail);
         return;
     }
     HOLDS(m.place == 0 && m.rule == 0);
@@ -141,8 +142,9 @@ static void answer(SpiewomirGeometry g, int32_t column, int32_t row, SpiewomirMa
     HOLDS(m.sub0 == (uint32_t)record[1] && m.sub1 == (uint32_t)record[2] && m.sub2 == (uint32_t)record[3] && m.sub3 == (uint32_t)record[4]);
     HOLDS(m.sub0 <= 3 && m.sub1 <= 3 && m.sub2 <= 3 && m.sub3 <= 3);
     HOLDS(m.kind == SPIEWOMIR_8X8 || !(m.sub0 || m.sub1 || m.sub2 || m.sub3));
+    HOLDS(m.detail == (uint32_t)record[77] && m.detail <= 15);
     if (!inside(column, g.offset_x, g.scaled_width) || !inside(row, g.offset_y, g.scaled_height)) {
-        HOLDS(m.kind == SPIEWOMIR_OUTSIDE && m.class_ == SPIEWOMIR_CORNER && m.column == 0 && m.row == 0);
+        HOLDS(m.kind == SPIEWOMIR_OUTSIDE && m.class_ == SPIEWOMIR_CORNER && m.column == 0 && m.row == 0 && m.detail == 0);
         return;
     }
     HOLDS(m.kind == SPIEWOMIR_INTRA || m.kind == SPIEWOMIR_16X16 || m.kind == SPIEWOMIR_16X8 || m.kind == SPIEWOMIR_8X16 || m.kind == SPIEWOMIR_8X8);
@@ -151,6 +153,17 @@ static void answer(SpiewomirGeometry g, int32_t column, int32_t row, SpiewomirMa
     uint32_t rows = m.class_ == SPIEWOMIR_HORI || m.class_ == SPIEWOMIR_CENTER ? 2 : 1;
     HOLDS(m.column < 256 && m.column + columns <= (uint32_t)g.base_width / 16);
     HOLDS(m.row < 256 && m.row + rows <= (uint32_t)g.base_height / 16);
+
+    /* detail comes from the base macroblocks that are named, and from no others: none if they have none, all if they have all */
+    int16_t some = 0, every = 15;
+    for (uint32_t r = m.row; r < m.row + rows; r++)
+        for (uint32_t c = m.column; c < m.column + columns; c++) {
+            int16_t d = base[(r * ((uint32_t)g.base_width / 16) + c) * SPIEWOMIR_WORDS + 77];
+            some |= d, every &= d;
+        }
+    HOLDS(some || m.detail == 0);
+    HOLDS(every != 15 || m.detail == 15);
+    details[m.detail ? m.kind == SPIEWOMIR_INTRA ? 2 : 1 : 0]++;
 }
 
 /* ---- null pointers of length 0, for each buffer of each call. `g` is refused by `verdict`, or by none. */
@@ -175,7 +188,15 @@ static void nulls(SpiewomirGeometry g, uint32_t verdict, const int16_t *base, si
 static void records(SpiewomirGeometry g, const int16_t *words, size_t count, const SpiewomirPicture *logged) {
     Lent base = lend(count * sizeof(int16_t));
     memcpy(base.at, words, count * sizeof(int16_t));
-    if (!logged && count) ((int16_t *)base.at)[below((unsigned)count)] = (int16_t)(below(65536) - 32768);
+    int16_t *in = base.at;
+    if (below(2)) /* other details where they are right */
+        for (size_t at = 77; at < count; at += SPIEWOMIR_WORDS)
+            if (in[at] >= 0 && in[at] <= 15) in[at] = (int16_t)below(16);
+    if (!logged && count) { /* a word damaged, now and then a detail */
+        size_t at = below((unsigned)count);
+        if (below(8) == 0) at = at - at % SPIEWOMIR_WORDS + 77;
+        in[at] = (int16_t)(below(65536) - 32768);
+    }
     void *lent = copy_of(base.at, base.size);
     size_t full = 16;
     if (g.full_width > 0 && g.full_width <= 4096 && g.full_height > 0 && g.full_height <= 4096)
@@ -211,8 +232,9 @@ static void records(SpiewomirGeometry g, const int16_t *words, size_t count, con
         SpiewomirMacroblock m = spiewomir_macroblock(g, base.at, count, column, row, one.at, SPIEWOMIR_WORDS);
         calls[2]++;
         refusals[m.refusal]++;
+        rules[m.rule & 7]++;
         if (m.refusal) HOLDS(memcmp(one.at, was, one.size) == 0);
-        answer(g, column, row, m, one.at);
+        answer(g, base.at, column, row, m, one.at);
         if (!p.refusal && a < full) {
             HOLDS(m.refusal == 0);
             HOLDS(memcmp(one.at, (int16_t *)out.at + a * SPIEWOMIR_WORDS, one.size) == 0);
@@ -304,7 +326,7 @@ static void try_text(void) {
             char line[64];
             int n = snprintf(line, sizeof line, "(refused %u %u)\n", g.text_refusal, g.place);
             HOLDS((size_t)n == end && memcmp(line, log, end) == 0);
-            HOLDS(g.text_refusal == SPIEWOMIR_REFUSED_RECORD ? g.rule >= 1 && g.rule <= 6 : g.rule == 0);
+            HOLDS(g.text_refusal == SPIEWOMIR_REFUSED_RECORD ? g.rule >= 1 && g.rule <= 7 : g.rule == 0);
         } else {
             HOLDS(g.place == 0 && g.rule == 0);
         }
@@ -367,6 +389,8 @@ int main(int argc, char **argv) {
     printf("fuzz: %lu inputs: %lu text calls, %lu logs, %lu pictures, %lu macroblocks, %lu session calls; refusals", count, calls[0], calls[4], calls[1], calls[2], calls[3]);
     for (int r = 1; r < 32; r++)
         if (refusals[r]) printf(" %d:%lu", r, refusals[r]);
-    puts("");
+    printf("; rules of 8, singly,");
+    for (int r = 1; r < 8; r++) printf(" %d:%lu", r, rules[r]);
+    printf("; details %lu inherited, %lu intra, %lu none\n", details[1], details[2], details[0]);
     return 0;
 }

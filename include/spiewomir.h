@@ -4,10 +4,11 @@
  * installs it; it needs no other library). For C99 and C++11 or later.
  *
  * Of a small picture (the base) each 16x16 macroblock has a motion record: how it
- * is split, references, vectors. The base, scaled, is a window of the large (full)
- * picture; the calls make the records of the large picture's macroblocks from those
- * of up to four base macroblocks each. A macroblock is inside when all of it lies in
- * the window; else it is outside, and inherits nothing.
+ * is split, references, vectors, and which quadrants have coded detail. The base,
+ * scaled, is a window of the large (full) picture; the calls make the records of the
+ * large picture's macroblocks from those of up to four base macroblocks each. A
+ * macroblock is inside when all of it lies in the window; else it is outside, and
+ * inherits nothing.
  *
  * Every call ends, asks nothing of its numbers, and judges what it is lent. The
  * caller only has to lend what it says: `base_len` words at `base` (or `text_len`
@@ -36,31 +37,37 @@ extern "C" {
 
 /* The version that this header is of: major times 10,000, plus minor times 100, plus
  * patch. CHANGELOG.md says what is new. */
-#define SPIEWOMIR_VERSION 20000
+#define SPIEWOMIR_VERSION 30000
 
 /* The version of the library that is linked: SPIEWOMIR_VERSION, unless the header is
  * another version's. */
 uint32_t spiewomir_version(void);
 
-/* A motion record has 77 words:
+/* A motion record has 78 words:
  *   0            type: 0 intra, 1 16x16, 2 16x8, 3 8x16, 4 8x8 (width by height);
  *                5 outside, in written records only
  *   1 + q        sub-type of quadrant q (0 to 3, raster): 0 8x8, 1 8x4, 2 4x8, 3 4x4
  *   5 + 2q + l   reference of quadrant q in list l (0 or 1), -1 where it is unused
  *   13 + 4b + 2l, and the next: horizontal and vertical vector, in quarter samples,
  *                of 4x4 block b (0 to 15, raster: four to a row) in list l
+ *   77           detail: bit q (of value 1, 2, 4, 8) says that quadrant q has luma
+ *                coefficients in the base
  * Well formed, by rule: 1 type 0..4; 2 sub-types 0..3, all 0 unless type 4;
  * 3 references -1..31; 4 type 0 has only -1, any other type a used list in each
  * quadrant; 5 vector words -8192..8191, and 0 where the reference is -1; 6 all blocks
- * of a partition or sub-partition have the same references and vectors.
+ * of a partition or sub-partition have the same references and vectors; 7 detail 0..15.
  * A written vector word is (v * scale + 32768) / 65536, rounded down, also below zero,
  * of a base's word v, with scale = (S * 65536 + B / 2) / B of its axis, rounded down (B
  * and S are the base's and the scaled base's size along it), as Annex G of H.264 has it.
+ * A written detail has a quadrant's bit set exactly when one of the quadrant's four
+ * blocks reads a base quadrant whose bit is set, of an intra macroblock too: the base
+ * quadrant that lies there counts, also where the block takes its motion from a
+ * neighbour. Outside it is 0. It takes no part in the split.
  * A picture of W by H samples has W/16 times H/16 macroblocks; columns, rows and
  * addresses (raster order) count from 0. A written record is not well formed as a
  * base's if it is of type 5 or has a vector word outside -8192..8191; these reach
  * -16384..16382. */
-#define SPIEWOMIR_WORDS 77
+#define SPIEWOMIR_WORDS 78
 
 /* The macroblocks along a side of `size` samples, and the words of a picture's
  * records; 0 for a size outside 1..4096, which the calls refuse. An argument is
@@ -73,7 +80,7 @@ uint32_t spiewomir_version(void);
  * these. */
 #define SPIEWOMIR_TEXT_BYTES 65536
 #define SPIEWOMIR_TEXT_RECORDS 99
-#define SPIEWOMIR_TEXT_WORDS 7623
+#define SPIEWOMIR_TEXT_WORDS 7722
 
 /* The bytes that every log fits: 65,536 lines of at most 18, and a last one of at
  * most 31. */
@@ -86,8 +93,8 @@ uint32_t spiewomir_version(void);
 #define SPIEWOMIR_REFUSED_FULL_SIZE 2     /* the same for the full picture's size */
 #define SPIEWOMIR_REFUSED_SCALED_SIZE 3   /* scaled size odd, below the base's or above twice that */
 #define SPIEWOMIR_REFUSED_OFFSET 4        /* offset odd or outside -8192..8190 */
-#define SPIEWOMIR_REFUSED_BASE_LENGTH 5   /* base_len is not 77 for each base macroblock */
-#define SPIEWOMIR_REFUSED_OUTPUT_LENGTH 6 /* out_len is not what the call writes; words_len is not 7623;
+#define SPIEWOMIR_REFUSED_BASE_LENGTH 5   /* base_len is not 78 for each base macroblock */
+#define SPIEWOMIR_REFUSED_OUTPUT_LENGTH 6 /* out_len is not what the call writes; words_len is not 7722;
                                              log_len is below 1179679 */
 #define SPIEWOMIR_REFUSED_POSITION 7      /* column or row outside the picture (one macroblock only) */
 #define SPIEWOMIR_REFUSED_RECORD 8        /* a malformed record: `place` is the lowest malformed
@@ -134,6 +141,7 @@ typedef struct {
     uint32_t sub0, sub1, sub2, sub3; /* sub-types of the quadrants; 0 unless kind is 4 */
     uint32_t class_;                 /* what is read of the base; 0 (CORNER) outside */
     uint32_t column, row;            /* first base column and row that are read; 0 outside */
+    uint32_t detail;                 /* word 77 of the written record; 0 outside */
 } SpiewomirMacroblock;
 
 typedef struct {
@@ -181,15 +189,15 @@ typedef struct {
 } SpiewomirLog;
 
 /* One macroblock. `base` has the base picture's records in raster order, `out`
- * has 77 words. Refusals 1 to 8; only the records that the macroblock reads are
- * checked by 8, none of them outside the window. Answered, all 77 words at `out`
+ * has 78 words. Refusals 1 to 8; only the records that the macroblock reads are
+ * checked by 8, none of them outside the window. Answered, all 78 words at `out`
  * are written: the inherited record, or one of type 0 (intra) or 5 (outside) with
- * sub-types 0, references -1 and vectors 0. The records that are not read may hold
- * any words and change nothing. */
+ * sub-types 0, references -1 and vectors 0, and with its detail, 0 outside. The
+ * records that are not read may hold any words and change nothing. */
 SpiewomirMacroblock spiewomir_macroblock(SpiewomirGeometry geometry, const int16_t *base, size_t base_len,
                                          int32_t column, int32_t row, int16_t *out, size_t out_len);
 
-/* The whole picture. `out` has 77 words for each macroblock of the full picture.
+/* The whole picture. `out` has 78 words for each macroblock of the full picture.
  * Refusals 1 to 6 and 8; all base records are checked by 8. Answered, all words at
  * `out` are written in raster order, for each macroblock those that
  * spiewomir_macroblock writes for it, and the counts are the numbers of its answers
@@ -220,18 +228,19 @@ SpiewomirTotals spiewomir_session_totals(SpiewomirSession session);
 
 /* A sync text has one bracket form a line, a line feed after each, items separated by
  * one space: (base W H), (scaled W H), (at X Y), (full W H) in that order, then none
- * or more lines, one for each base record in raster order: (intra), or (whole (R0 R1)
- * (X0 Y0 X1 Y1)), which is type 1 with this motion in all blocks, or (mb T
- * (4 sub-types) (8 references) (64 vector words)), the record's words. Numbers are
- * -32768..32767, with no leading zero and no -0. Between lines and at both ends may
- * stand lines (note ..) of any count, none included, of words of letters a to z,
- * numbers, and lists of one or more of the same, to depth 8 with the note at 1.
+ * or more lines, one for each base record in raster order: (intra D), or (whole (R0 R1)
+ * (X0 Y0 X1 Y1) D), which is type 1 with this motion in all blocks, or (mb T
+ * (4 sub-types) (8 references) (64 vector words) D), the record's words. D is the
+ * detail, word 77. Numbers are -32768..32767, with no leading zero and no -0. Between
+ * lines and at both ends may stand lines (note ..) of any count, none included, of
+ * words of letters a to z, numbers, and lists of one or more of the same, to depth 8
+ * with the note at 1.
  *
- * Reads one. `words` has 7623 words, those of 99 records. Refusals 6, then 10 by
+ * Reads one. `words` has 7722 words, those of 99 records. Refusals 6, then 10 by
  * length, then 9, then 10 by lines; nothing else is judged: the geometry's numbers
  * and the records' words are those that stand in the text, fit for
  * spiewomir_picture or not. Read, the words of the record lines stand first in
- * `words`, 77 for each line in the text's order, and the rest is as it was. */
+ * `words`, 78 for each line in the text's order, and the rest is as it was. */
 SpiewomirText spiewomir_text(const uint8_t *text, size_t text_len, int16_t *words, size_t words_len);
 
 /* Writes the log of a sync text. `log` has 1179679 bytes or more; fewer are refused

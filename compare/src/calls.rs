@@ -1,13 +1,13 @@
 //! Each call made in both implementations, and the answers compared.
 
-use crate::coverage::{map_row, Counts, Coverage, Inside};
+use crate::coverage::{detail, map_row, Block, Blocks, Counts, Coverage, Inside};
 use crate::lent::Lent;
 use crate::session_coverage::SessionCoverage;
 use crate::text_coverage::TextCoverage;
 use compare::generate::{library, Eight};
 use second::geometry::{Axis, Geometry};
 use second::map::{reading, Reading};
-use second::record::broken_rule;
+use second::record::{block_in, broken_rule, record_at, DETAIL};
 use second::{Numbers, WORDS};
 use spiewomir::numbers;
 
@@ -64,6 +64,7 @@ pub fn macroblock_numbers(result: Result<second::Answer, second::Refusal>) -> nu
                 },
                 column: answer.first_column as u32,
                 row: answer.first_row as u32,
+                detail: answer.detail as u32,
                 ..numbers::Macroblock::default()
             }
         }
@@ -87,17 +88,24 @@ fn picture_numbers(result: Result<second::Counts, second::Refusal>) -> numbers::
     }
 }
 
-/// Blocks that read intra macroblocks.
-fn intra_blocks(base: &[i16], base_columns: usize, x: &Reading, y: &Reading) -> usize {
-    let mut count = 0;
-    for row in 0..4 {
-        for column in 0..4 {
+/// What each block reads.
+fn blocks_read(base: &[i16], base_columns: usize, x: &Reading, y: &Reading) -> Blocks {
+    let mut blocks = Blocks::default();
+    for (q, quadrant) in blocks.iter_mut().enumerate() {
+        for (i, block) in quadrant.iter_mut().enumerate() {
+            let (column, row) = (block_in(q, i) % 4, block_in(q, i) / 4);
             let base_row = y.first + y.step[row] as usize;
             let base_column = x.first + x.step[column] as usize;
-            count += (base[(base_row * base_columns + base_column) * WORDS] == 0) as usize;
+            let record = record_at(base, base_row * base_columns + base_column);
+            let base_quadrant = y.block[row] / 2 * 2 + x.block[column] / 2;
+            *block = Block {
+                intra: record[0] == 0,
+                bit: record[DETAIL] >> base_quadrant & 1 == 1,
+                macroblock: record[DETAIL] != 0,
+            };
         }
     }
-    count
+    blocks
 }
 
 /// Along one axis, for a macroblock inside: what it reads and the map's row.
@@ -105,7 +113,7 @@ fn along(axis: &Axis, at: usize) -> Option<(Reading, usize)> {
     reading(axis, at).map(|reading| (reading, map_row(axis, 16 * at as i32)))
 }
 
-/// Counts what an answered macroblock had.
+/// Counts what an answered macroblock had. Returns its detail, block by block.
 fn count(
     counts: &mut Counts,
     base: &[i16],
@@ -113,15 +121,22 @@ fn count(
     x: &Option<(Reading, usize)>,
     y: &Option<(Reading, usize)>,
     words: &[i16],
-) {
+) -> i16 {
     match (x, y) {
-        (Some((x, x_row)), Some((y, y_row))) => counts.inside(Inside {
-            map_rows: [*x_row, *y_row],
-            class: x.two as usize + 2 * y.two as usize,
-            intra_blocks: intra_blocks(base, base_columns, x, y),
-            words,
-        }),
-        _ => counts.outside(),
+        (Some((x, x_row)), Some((y, y_row))) => {
+            let blocks = blocks_read(base, base_columns, x, y);
+            counts.inside(Inside {
+                map_rows: [*x_row, *y_row],
+                class: x.two as usize + 2 * y.two as usize,
+                blocks,
+                words,
+            });
+            detail(&blocks)
+        }
+        _ => {
+            counts.outside();
+            0
+        }
     }
 }
 
@@ -144,6 +159,7 @@ pub fn same_answer(library: &spiewomir::Answer, second: &second::Answer) -> bool
     );
     kind && class
         && (library.column, library.row) == (second.first_column as u32, second.first_row as u32)
+        && library.detail == second.detail
 }
 
 fn same_split(library: spiewomir::Split, second: second::Split) -> bool {
@@ -239,6 +255,13 @@ impl Calls {
         }
     }
 
+    /// The written detail is the answer's, or the definition's.
+    pub fn detail_is(&mut self, call: impl Fn() -> String, words: &[i16], detail: i16) {
+        if words[DETAIL] != detail {
+            self.differs(|| format!("{}: detail {}, not {detail}", call(), words[DETAIL]));
+        }
+    }
+
     /// The picture call. Returns the words that the library wrote, or the number
     /// of its refusal.
     pub fn picture(
@@ -264,7 +287,7 @@ impl Calls {
         }
         self.words_agree(call, result.is_err(), base, &ours, &theirs);
         match result {
-            Err(refusal) => self.coverage.picture.refused(refusal.number, refusal.rule),
+            Err(refusal) => self.coverage.picture.refused(refusal, base.words()),
             Ok(_) => {
                 let geometry = Geometry::new(Numbers::from_array(*eight)).expect("accepted");
                 let all = |axis: &Axis| -> Vec<Option<(Reading, usize)>> {
@@ -276,7 +299,7 @@ impl Calls {
                         &columns[address % columns.len()],
                         &rows[address / columns.len()],
                     );
-                    count(
+                    let detail = count(
                         &mut self.coverage.picture,
                         base.words(),
                         geometry.x.base_count(),
@@ -284,6 +307,7 @@ impl Calls {
                         y,
                         words,
                     );
+                    self.detail_is(|| format!("{}: record {address}", call()), words, detail);
                 }
             }
         }
@@ -324,12 +348,12 @@ impl Calls {
         }
         self.words_agree(call, result.is_err(), base, &ours, &theirs);
         match result {
-            Err(refusal) => self.coverage.single.refused(refusal.number, refusal.rule),
-            Ok(_) => {
+            Err(refusal) => self.coverage.single.refused(refusal, base.words()),
+            Ok(answer) => {
                 let geometry = Geometry::new(numbers).expect("accepted");
                 let x = along(&geometry.x, column as usize);
                 let y = along(&geometry.y, row as usize);
-                count(
+                let detail = count(
                     &mut self.coverage.single,
                     base.words(),
                     geometry.x.base_count(),
@@ -337,6 +361,8 @@ impl Calls {
                     &y,
                     &theirs,
                 );
+                self.detail_is(call, &theirs, detail);
+                self.detail_is(call, ours.words(), answer.detail.into());
                 for &address in broken {
                     let record = &base.words()[address * WORDS..][..WORDS];
                     let rule = broken_rule(record.try_into().expect("a record"));

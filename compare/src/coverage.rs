@@ -1,6 +1,9 @@
 //! How often what can happen did happen, in calls whose answers were compared.
 
 use second::geometry::Axis;
+use second::record::{DETAIL, MAX_DETAIL};
+use second::Refusal;
+use second::WORDS;
 
 /// The pairs M,N of document 01's block map: first those for even k.
 const PAIRS: [(i32, i32); 32] = [
@@ -40,6 +43,17 @@ const PAIRS: [(i32, i32); 32] = [
 
 const CLASSES: [&str; 4] = ["Corner", "Vert", "Hori", "Center"];
 
+/// What can be said of a quadrant's bit in an answer's detail.
+const BITS: [&str; 7] = [
+    "set, inherited",
+    "set, intra",
+    "set by intra ones alone",
+    "set, but not by all",
+    "not, its macroblock has",
+    "not, motion copied",
+    "not set",
+];
+
 /// The row of the block map for a macroblock inside at sample `p`.
 pub fn map_row(axis: &Axis, p: i32) -> usize {
     let borders = axis.borders(p);
@@ -63,6 +77,27 @@ fn split_number(words: &[i16]) -> usize {
     }
 }
 
+/// What a block reads of the base.
+#[derive(Clone, Copy, Default)]
+pub struct Block {
+    /// Its macroblock is intra.
+    pub intra: bool,
+    /// Its quadrant has detail.
+    pub bit: bool,
+    /// Its macroblock has detail, in this quadrant or another.
+    pub macroblock: bool,
+}
+
+/// The blocks of a macroblock by quadrant.
+pub type Blocks = [[Block; 4]; 4];
+
+/// An answer's detail as it is defined, block by block.
+pub fn detail(blocks: &Blocks) -> i16 {
+    (0..4)
+        .map(|q| (blocks[q].iter().any(|block| block.bit) as i16) << q)
+        .sum()
+}
+
 /// Counts for one of the two calls.
 #[derive(Clone)]
 pub struct Counts {
@@ -71,15 +106,21 @@ pub struct Counts {
     outside: u64,
     splits: [u64; 259],
     intra_blocks: [u64; 17],
+    /// Details of inherited and of intra answers.
+    details: [[u64; 16]; 2],
+    /// By BITS and quadrant.
+    bits: [[u64; 4]; 7],
     refusals: [u64; 9],
-    rules: [u64; 7],
+    rules: [u64; 8],
+    /// Rules that are given for a record that breaks rule 7 too.
+    before_7: [u64; 7],
 }
 
 /// What a macroblock inside the window had.
 pub struct Inside<'a> {
     pub map_rows: [usize; 2],
     pub class: usize,
-    pub intra_blocks: usize,
+    pub blocks: Blocks,
     /// The written record.
     pub words: &'a [i16],
 }
@@ -92,8 +133,11 @@ impl Counts {
             outside: 0,
             splits: [0; 259],
             intra_blocks: [0; 17],
+            details: [[0; 16]; 2],
+            bits: [[0; 4]; 7],
             refusals: [0; 9],
-            rules: [0; 7],
+            rules: [0; 8],
+            before_7: [0; 7],
         }
     }
 
@@ -106,16 +150,44 @@ impl Counts {
             self.map_rows[axis][inside.map_rows[axis]] += 1;
         }
         self.classes[inside.class] += 1;
-        self.intra_blocks[inside.intra_blocks] += 1;
-        if inside.words[0] != 0 {
+        let blocks = inside.blocks.as_flattened().iter();
+        self.intra_blocks[blocks.filter(|block| block.intra).count()] += 1;
+        let intra = inside.words[0] == 0;
+        if !intra {
             self.splits[split_number(inside.words)] += 1;
+        }
+        let detail = detail(&inside.blocks);
+        self.details[intra as usize][detail as usize] += 1;
+        for (q, blocks) in inside.blocks.iter().enumerate() {
+            let set = detail >> q & 1 == 1;
+            let all_intra = blocks.iter().all(|block| block.intra);
+            let is = [
+                set && !intra,
+                set && intra,
+                // No base macroblock with motion has it, but the answer has motion.
+                set && !intra && blocks.iter().all(|block| block.intra || !block.bit),
+                set && blocks.iter().any(|block| !block.bit),
+                // A base macroblock that is read has detail, in another quadrant.
+                !set && blocks.iter().any(|block| block.macroblock),
+                // The motion is another quadrant's, and some quadrant's bit is set.
+                !set && !intra && all_intra && detail != 0,
+                !set,
+            ];
+            for (count, is) in self.bits.iter_mut().zip(is) {
+                count[q] += is as u64;
+            }
         }
     }
 
-    pub fn refused(&mut self, number: u32, rule: u32) {
-        self.refusals[number as usize] += 1;
-        if number == 8 {
-            self.rules[rule as usize] += 1;
+    /// A call on this base was refused.
+    pub fn refused(&mut self, refusal: Refusal, base: &[i16]) {
+        self.refusals[refusal.number as usize] += 1;
+        if refusal.number == 8 {
+            self.rules[refusal.rule as usize] += 1;
+            let detail = base[refusal.place as usize * WORDS + DETAIL];
+            if refusal.rule < 7 && !(0..=MAX_DETAIL).contains(&detail) {
+                self.before_7[refusal.rule as usize] += 1;
+            }
         }
     }
 }
@@ -125,7 +197,7 @@ pub struct Coverage {
     pub single: Counts,
     /// Malformed records that an answered one-macroblock call did not name, by
     /// the rule that they break.
-    pub unnamed: [u64; 7],
+    pub unnamed: [u64; 8],
 }
 
 impl Coverage {
@@ -133,13 +205,13 @@ impl Coverage {
         Coverage {
             picture: Counts::new(),
             single: Counts::new(),
-            unnamed: [0; 7],
+            unnamed: [0; 8],
         }
     }
 
     /// Prints the tables. For each, its name and whether everything that it
     /// lists did happen.
-    pub fn report(&self) -> [(&'static str, bool); 6] {
+    pub fn report(&self) -> [(&'static str, bool); 9] {
         [
             (
                 "each row of the block map, on both axes, in both calls",
@@ -154,10 +226,22 @@ impl Coverage {
                 self.print_intra_blocks(),
             ),
             ("each of the 259 splits, in both calls", self.print_splits()),
+            (
+                "each detail, of inherited and of intra answers, in both calls",
+                self.print_details(),
+            ),
+            (
+                "each way in which a quadrant's bit is set or not, in both calls",
+                self.print_bits(),
+            ),
             ("each refusal of each call", self.print_refusals()),
             (
                 "each rule of refusal 8 in each call, and in records not named",
                 self.print_rules(),
+            ),
+            (
+                "each rule before 7 of a record that breaks 7 too, in both calls",
+                self.print_before_7(),
             ),
         ]
     }
@@ -235,6 +319,35 @@ impl Coverage {
         (0..259).all(|n| picture[n] > 0 && single[n] > 0)
     }
 
+    fn print_details(&self) -> bool {
+        println!("detail: inherited and intra in pictures, and singly");
+        let mut all = true;
+        for detail in 0..16 {
+            let (picture, single) = (&self.picture.details, &self.single.details);
+            let counts = [
+                picture[0][detail],
+                picture[1][detail],
+                single[0][detail],
+                single[1][detail],
+            ];
+            line(&detail.to_string(), &counts);
+            all &= counts.iter().all(|&count| count > 0);
+        }
+        all
+    }
+
+    fn print_bits(&self) -> bool {
+        println!("bits of details: quadrants 0 to 3 in pictures, and singly");
+        let mut all = true;
+        for (number, name) in BITS.iter().enumerate() {
+            let counts = [self.picture.bits[number], self.single.bits[number]];
+            let counts = counts.as_flattened();
+            line(name, counts);
+            all &= counts.iter().all(|&count| count > 0);
+        }
+        all
+    }
+
     fn print_refusals(&self) -> bool {
         println!("refusal: in pictures, singly");
         let mut all = true;
@@ -250,12 +363,23 @@ impl Coverage {
     fn print_rules(&self) -> bool {
         println!("rule that refusal 8 gives: in pictures, singly; broken in records that an answer does not name");
         let mut all = true;
-        for rule in 1..7 {
+        for rule in 1..8 {
             let counts = [
                 self.picture.rules[rule],
                 self.single.rules[rule],
                 self.unnamed[rule],
             ];
+            line(&rule.to_string(), &counts);
+            all &= counts.iter().all(|&count| count > 0);
+        }
+        all
+    }
+
+    fn print_before_7(&self) -> bool {
+        println!("rule that refusal 8 gives of a record that breaks 7 too: in pictures, singly");
+        let mut all = true;
+        for rule in 1..7 {
+            let counts = [self.picture.before_7[rule], self.single.before_7[rule]];
             line(&rule.to_string(), &counts);
             all &= counts.iter().all(|&count| count > 0);
         }

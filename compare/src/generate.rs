@@ -1,6 +1,7 @@
 //! Geometries, well-formed records, and records that break a rule.
 
 use crate::random::Random;
+use second::record::DETAIL;
 use second::WORDS;
 
 /// The geometry's numbers in the order of the sync text: base width and height,
@@ -95,7 +96,16 @@ pub struct Mood {
     highest_reference: i32,
     /// Vector words are between these.
     vectors: (i32, i32),
+    /// Details are one of these.
+    details: &'static [i16],
 }
+
+/// Every detail.
+const ALL_DETAILS: &[i16] = &[0, 1, 2, 3, 4, 5, 6, 7, 8, 9, 10, 11, 12, 13, 14, 15];
+
+/// Mostly no bit, or mostly all of them, so that a single one decides.
+const FEW_DETAILS: &[i16] = &[0, 0, 0, 0, 0, 0, 0, 0, 1, 2, 4, 8];
+const MANY_DETAILS: &[i16] = &[15, 15, 15, 15, 15, 15, 15, 15, 14, 13, 11, 7];
 
 impl Mood {
     pub fn new(random: &mut Random) -> Mood {
@@ -117,6 +127,16 @@ impl Mood {
                 (8180, 8191),
                 (-8192, -8180),
             ]),
+            details: random.pick(&[
+                ALL_DETAILS,
+                ALL_DETAILS,
+                FEW_DETAILS,
+                FEW_DETAILS,
+                MANY_DETAILS,
+                &[1, 2, 4, 8],
+                &[0, 15],
+                &[0],
+            ]),
         };
         for _ in 0..random.within(1, 6) {
             let motion = mood.new_motion(random);
@@ -125,7 +145,7 @@ impl Mood {
         mood
     }
 
-    /// Records of every type, one of eight intra.
+    /// Records of every type and every detail, one of eight intra.
     pub fn mixed(random: &mut Random) -> Mood {
         let mut mood = Mood {
             intra: 2,
@@ -134,6 +154,7 @@ impl Mood {
             new_once_in: 2,
             highest_reference: 3,
             vectors: (-512, 511),
+            details: ALL_DETAILS,
         };
         for _ in 0..4 {
             let motion = mood.new_motion(random);
@@ -176,15 +197,17 @@ impl Mood {
 
     /// A well-formed record.
     pub fn record(&self, random: &mut Random) -> Record {
-        if random.below(16) < self.intra {
-            return intra();
-        }
-        let kind = random.pick(&self.kinds);
-        let mut subs = [0; 4];
-        if kind == 4 {
-            subs = [0; 4].map(|_: i16| random.below(4) as i16);
-        }
-        record(kind, subs, || self.motion(random))
+        let record = if random.below(16) < self.intra {
+            intra()
+        } else {
+            let kind = random.pick(&self.kinds);
+            let mut subs = [0; 4];
+            if kind == 4 {
+                subs = [0; 4].map(|_: i16| random.below(4) as i16);
+            }
+            record(kind, subs, || self.motion(random))
+        };
+        detailed(record, random.pick(self.details))
     }
 
     /// Well-formed records for a base picture.
@@ -197,9 +220,16 @@ impl Mood {
     }
 }
 
+/// An intra record without detail.
 pub fn intra() -> Record {
     let mut record = [0; WORDS];
     record[5..13].fill(-1);
+    record
+}
+
+/// The record with this detail.
+pub fn detailed(mut record: Record, detail: i16) -> Record {
+    record[DETAIL] = detail;
     record
 }
 
@@ -224,8 +254,8 @@ fn lead(kind: i16, subs: &[i16; 4], block: usize) -> usize {
     row / height * height * 4 + column / width * width
 }
 
-/// A record of type 1 to 4 that has one motion in each piece. In a quadrant the
-/// first piece's references serve for all.
+/// A record of type 1 to 4 that has one motion in each piece, and no detail. In a
+/// quadrant the first piece's references serve for all.
 fn record(kind: i16, subs: [i16; 4], mut motion: impl FnMut() -> Motion) -> Record {
     let mut record = intra();
     record[0] = kind;
@@ -301,15 +331,26 @@ pub fn break_record(random: &mut Random, record: &mut [i16], rule: usize) {
             let near = random.pick(&[-8192, -1, 1, 8191]);
             record[13 + at] = if used || random.one_in(3) { far } else { near };
         }
+        7 => {
+            let details = [
+                -32768, -256, -16, -2, -1, 16, 17, 31, 32, 255, 256, 271, 32767,
+            ];
+            record[DETAIL] = random.pick(&details);
+        }
         _ if kind == 0 => {
             record[13 + random.below(64)] = 1;
         }
         _ => break_piece(random, record),
     }
     if random.one_in(4) {
-        let again = 1 + random.below(6);
+        let again = random_rule(random);
         break_record(random, record, again);
     }
+}
+
+/// A rule to break.
+pub fn random_rule(random: &mut Random) -> usize {
+    1 + random.below(7)
 }
 
 /// Two motions in one piece.

@@ -20,26 +20,27 @@ mod texts;
 use calls::Calls;
 
 /// Random pictures.
-const PICTURES: u64 = 25_000;
+const PICTURES: u64 = 30_000;
 
 /// Random lists of session calls, whole pictures made by a session, and session
 /// values that no list of calls makes.
-const LISTS: u64 = 40_000;
+const LISTS: u64 = 48_000;
 const SESSION_PICTURES: u64 = 5_000;
 const FORGED: u64 = 100_000;
 
 /// Random texts, each with six others made of it.
-const TEXTS: u64 = 4_000;
+const TEXTS: u64 = 5_000;
 
 /// Every test, a line each: its name, and what makes its calls.
 #[rustfmt::skip]
-const TESTS: [(&str, fn(&mut Calls)); 25] = [
+const TESTS: [(&str, fn(&mut Calls)); 28] = [
     ("bench example: S 2B passes, 2B + 2 is refused", sweeps::bench_scaled),
     ("bench example: offset -8,192 passes, -8,194 is refused", sweeps::bench_offset),
     ("each of the 259 splits", sweeps::splits),
     ("every window of bases to 128", sweeps::windows),
     ("windows of bases to 4096", sweeps::long_windows),
     ("every two rows of the block map with every intra pattern", sweeps::intra_patterns),
+    ("every two rows of the block map with each bit of detail", sweeps::detail_patterns),
     ("each word of a record at every limit", sweeps::words),
     ("every vector word, scaled by more than 200 pairs of B and S", sweeps::scaled_words),
     ("each number of a geometry at every limit", sweeps::numbers),
@@ -52,6 +53,8 @@ const TESTS: [(&str, fn(&mut Calls)); 25] = [
     ("texts with a byte replaced", texts::replaced),
     ("texts with bytes or lines removed, doubled, moved, or ended early", texts::moved),
     ("texts with each number at the edges of its range", texts::edges),
+    ("texts with the detail of each form at every limit", texts::details),
+    ("texts with lines that have no detail, or one elsewhere", texts::old_forms),
     ("texts with lists to depth 10", texts::depths),
     ("texts of 98 to 101 record lines", texts::counts),
     ("texts of 65,535 to 65,537 bytes", texts::lengths),

@@ -3,11 +3,13 @@
 use crate::calls::Calls;
 use crate::lent::Lent;
 use compare::generate::{
-    base_macroblocks, break_record, full_macroblocks, geometry, intra, Eight, Mood,
+    base_macroblocks, break_record, detailed, full_macroblocks, geometry, intra, random_rule,
+    Eight, Mood,
 };
 use compare::random::Random;
 use second::geometry::Geometry;
 use second::map::reading;
+use second::record::DETAIL;
 use second::{Numbers, WORDS};
 
 /// Column and row of a macroblock.
@@ -141,7 +143,7 @@ fn with_broken_records(random: &mut Random, base: &[i16]) -> (Vec<i16>, Vec<usiz
     let mut broken = Vec::new();
     for _ in 0..random.within(1, 3) {
         let address = random.below(records);
-        let rule = 1 + random.below(6);
+        let rule = random_rule(random);
         break_record(random, &mut base[address * WORDS..][..WORDS], rule);
         broken.push(address);
     }
@@ -199,7 +201,7 @@ fn refused(calls: &mut Calls, random: &mut Random, eight: &Eight, base: &[i16]) 
         }
     }
     if faults & 4 != 0 {
-        single_length = random.pick(&[0, 1, 76, 78, 154, picture_length]);
+        single_length = random.pick(&[0, 1, WORDS - 1, WORDS + 1, 2 * WORDS, picture_length]);
         picture_length = wrong_length(random, picture_length);
     }
     if faults & 8 != 0 {
@@ -239,11 +241,14 @@ fn wrong_length(random: &mut Random, length: usize) -> usize {
         length + 1,
         length + WORDS,
         2 * length,
+        // As if records had no detail.
+        length / WORDS * (WORDS - 1),
     ])
 }
 
 /// Pictures of 4096 by 4096: every ratio's end, a window that is cut on all
-/// sides, one off the picture, and a malformed record at the last address.
+/// sides, one off the picture, and a record at the last address that breaks rule 7
+/// and then rule 5.
 pub fn large(calls: &mut Calls) {
     let geometries: [Eight; 5] = [
         [4096, 4096, 4096, 4096, 0, 0, 4096, 4096],
@@ -262,12 +267,14 @@ pub fn large(calls: &mut Calls) {
     }
 
     let eight = geometries[0];
-    let mut base = intra().repeat(65_536);
+    let mut base = detailed(intra(), 10).repeat(65_536);
     whole_and_single(calls, &eight, &Lent::of(&base), &[(255, 255)]);
     let last = 65_535 * WORDS;
-    base[last + 76] = 1;
-    let base = Lent::of(&base);
-    let _ = calls.picture(&eight, &base, 65_536 * WORDS);
-    let _ = calls.single(&eight, &base, (255, 255), WORDS, &[65_535]);
-    let _ = calls.single(&eight, &base, (254, 255), WORDS, &[65_535]);
+    for (word, value) in [(DETAIL, 16), (DETAIL - 1, 1)] {
+        base[last + word] = value;
+        let base = Lent::of(&base);
+        let _ = calls.picture(&eight, &base, 65_536 * WORDS);
+        let _ = calls.single(&eight, &base, (255, 255), WORDS, &[65_535]);
+        let _ = calls.single(&eight, &base, (254, 255), WORDS, &[65_535]);
+    }
 }

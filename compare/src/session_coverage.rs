@@ -10,9 +10,11 @@ pub struct SessionCoverage {
     next: [u64; 23],
     abandon: [u64; 23],
     /// Rules of refusal 8.
-    rules: [u64; 7],
+    rules: [u64; 8],
     /// Accepted next calls: inherited, intra, outside.
     sorts: [u64; 3],
+    /// Those of them with detail.
+    detailed: [u64; 3],
     forged: [u64; 7],
 }
 
@@ -48,7 +50,10 @@ impl SessionCoverage {
     pub fn next(&mut self, answer: &Macroblock) {
         self.next[answer.refusal as usize] += 1;
         match answer.refusal {
-            0 => self.sorts[sort(answer.kind)] += 1,
+            0 => {
+                self.sorts[sort(answer.kind)] += 1;
+                self.detailed[sort(answer.kind)] += (answer.detail != 0) as u64;
+            }
             8 => self.rules[answer.rule as usize] += 1,
             _ => {}
         }
@@ -63,7 +68,7 @@ impl SessionCoverage {
 
     /// Prints the tables. For each, its name and whether everything that it
     /// lists did happen.
-    pub fn report(&self) -> [(&'static str, bool); 3] {
+    pub fn report(&self) -> [(&'static str, bool); 4] {
         println!("session calls by refusal (0: accepted): begin, next, abandon");
         let mut refusals = true;
         for number in (0..9).chain(20..23) {
@@ -77,13 +82,13 @@ impl SessionCoverage {
             refusals &= (0..3).all(|call| (counts[call] > 0) == possible[call]);
         }
         println!("rule that refusal 8 gives in a session");
-        for rule in 1..7 {
+        for rule in 1..8 {
             line(&rule.to_string(), &[self.rules[rule]]);
             refusals &= self.rules[rule] > 0;
         }
-        println!("accepted next calls by sort");
-        for (name, &count) in ["inherited", "intra", "outside"].iter().zip(&self.sorts) {
-            line(name, &[count]);
+        println!("accepted next calls by sort, and those with detail");
+        for (at, name) in ["inherited", "intra", "outside"].iter().enumerate() {
+            line(name, &[self.sorts[at], self.detailed[at]]);
         }
         println!("forged sessions");
         for (name, &count) in FORGED.iter().zip(&self.forged) {
@@ -94,6 +99,10 @@ impl SessionCoverage {
             (
                 "each sort of answer in sessions",
                 self.sorts.iter().all(|&count| count > 0),
+            ),
+            (
+                "details in sessions, of inherited and of intra answers and of no other",
+                self.detailed.map(|count| count > 0) == [true, true, false],
             ),
             (
                 "each sort of forged session",

@@ -4,7 +4,9 @@
 use crate::calls::{answered, macroblock_numbers, same_answer, Calls, FILL, FILL_SECOND};
 use crate::lent::Lent;
 use crate::session_coverage::sort;
-use compare::generate::{base_macroblocks, break_record, full_macroblocks, library, Eight, Mood};
+use compare::generate::{
+    base_macroblocks, break_record, full_macroblocks, library, random_rule, Eight, Mood,
+};
 use compare::random::Random;
 use second::geometry::Geometry;
 use second::{Numbers, WORDS};
@@ -58,7 +60,7 @@ impl Picture {
         match random.below(12) {
             0 => {
                 let address = random.below(base.len() / WORDS);
-                let rule = 1 + random.below(6);
+                let rule = random_rule(random);
                 break_record(random, &mut base[address * WORDS..][..WORDS], rule);
             }
             1 => {
@@ -176,6 +178,9 @@ impl Both {
             calls.differs(|| format!("{}: the wrapper answers otherwise", call()));
         }
         calls.words_agree(call, result.is_err(), base, &ours, &theirs);
+        if let Ok(answer) = result {
+            calls.detail_is(call, ours.words(), answer.detail.into());
+        }
         if result.is_err() && advanced.session != self.library {
             calls.differs(|| format!("{}: refused, but the session changed", call()));
         }

@@ -5,19 +5,20 @@ use crate::coverage::map_row;
 use crate::lent::Lent;
 use crate::pictures::{positions, whole_and_single};
 use compare::generate::{
-    base_macroblocks, distinct, full_macroblocks, intra, whole, Eight, Mood, Record,
+    base_macroblocks, detailed, distinct, full_macroblocks, intra, whole, Eight, Mood, Record,
 };
 use compare::random::Random;
 use second::geometry::{Axis, Geometry};
+use second::record::DETAIL;
 use second::{Numbers, WORDS};
 
 /// A picture of 3 by 3 macroblocks over a base of 2 by 2, with every class.
 const SMALL: Eight = [32, 32, 48, 48, 0, 0, 48, 48];
 
-/// Values of a record's word at and beside every limit of the six rules.
-const WORD_LIMITS: [i16; 24] = [
-    -32768, -8194, -8193, -8192, -8191, -256, -2, -1, 0, 1, 2, 3, 4, 5, 6, 30, 31, 32, 33, 256,
-    8190, 8191, 8192, 32767,
+/// Values of a record's word at and beside every limit of the seven rules.
+const WORD_LIMITS: [i16; 29] = [
+    -32768, -8194, -8193, -8192, -8191, -256, -2, -1, 0, 1, 2, 3, 4, 5, 6, 8, 14, 15, 16, 17, 30,
+    31, 32, 33, 256, 8190, 8191, 8192, 32767,
 ];
 
 /// Numbers of a geometry at and beside every limit, and far from all.
@@ -56,10 +57,10 @@ const NUMBER_LIMITS: [i32; 30] = [
 
 fn small_base() -> Vec<i16> {
     [
-        distinct(1, [0; 4], 1),
-        intra(),
+        detailed(distinct(1, [0; 4], 1), 8),
+        detailed(intra(), 6),
         distinct(4, [0, 1, 2, 3], 20),
-        distinct(3, [0; 4], 40),
+        detailed(distinct(3, [0; 4], 40), 15),
     ]
     .concat()
 }
@@ -99,7 +100,7 @@ pub fn bench_offset(calls: &mut Calls) {
     }
 }
 
-/// At ratio 1 each split of the base comes out as it is.
+/// At ratio 1 each split of the base comes out as it is, and so does its detail.
 pub fn splits(calls: &mut Calls) {
     let eight = [16, 16, 16, 16, 0, 0, 16, 16];
     let mut records = vec![
@@ -110,7 +111,8 @@ pub fn splits(calls: &mut Calls) {
     for n in 0..256 {
         records.push(distinct(4, [n / 64, n / 16 % 4, n / 4 % 4, n % 4], 1));
     }
-    for record in records {
+    for (detail, record) in (0..).zip(records) {
+        let record = detailed(record, detail % 16);
         whole_and_single(calls, &eight, &Lent::of(&record), &[(0, 0)]);
         let words = calls.single(&eight, &Lent::of(&record), (0, 0), WORDS, &[]);
         if words.as_deref() != Ok(&record) {
@@ -134,11 +136,13 @@ fn accepted_windows() -> Vec<(i32, i32, i32)> {
     found
 }
 
-/// Each of them along either axis, with another vector in each base block.
+/// Each of them along either axis, with another vector in each base block, and any
+/// details.
 pub fn windows(calls: &mut Calls) {
+    let random = &mut Random::new(6);
     for (base, scaled, distance) in accepted_windows() {
         let records: Vec<Record> = (0..base as i16 / 16)
-            .map(|n| distinct(4, [3; 4], 1 + 16 * n))
+            .map(|n| detailed(distinct(4, [3; 4], 1 + 16 * n), random.below(16) as i16))
             .collect();
         let lent = Lent::of(&records.concat());
         whole_and_single(
@@ -158,9 +162,11 @@ pub fn windows(calls: &mut Calls) {
 
 /// Random windows of bases to 4096 along either axis.
 pub fn long_windows(calls: &mut Calls) {
-    let records: Vec<Record> = (0..256).map(|n| distinct(4, [3; 4], 1 + 16 * n)).collect();
-    let words = records.concat();
     let random = &mut Random::new(4);
+    let records: Vec<Record> = (0..256)
+        .map(|n| detailed(distinct(4, [3; 4], 1 + 16 * n), random.below(16) as i16))
+        .collect();
+    let words = records.concat();
     for _ in 0..5_000 {
         let base = 16 * random.within(1, 256);
         let scaled = base + 2 * random.within(0, base / 2);
@@ -189,9 +195,8 @@ pub fn long_windows(calls: &mut Calls) {
     }
 }
 
-/// For every two rows of the block map a picture of one macroblock, with each
-/// of the sixteen ways in which four base macroblocks are intra or not.
-pub fn intra_patterns(calls: &mut Calls) {
+/// For every two rows of the block map the geometry of a picture of one macroblock.
+fn two_map_rows() -> Vec<Eight> {
     let mut examples = [None; 32];
     for (base, scaled, distance) in accepted_windows() {
         let axis = Axis {
@@ -206,10 +211,10 @@ pub fn intra_patterns(calls: &mut Calls) {
         }
     }
     let examples: Vec<(i32, i32, i32)> = examples.iter().flatten().copied().collect();
-    let random = &mut Random::new(1);
+    let mut found = Vec::new();
     for &(base_width, scaled_width, x) in &examples {
         for &(base_height, scaled_height, y) in &examples {
-            let eight = [
+            found.push([
                 base_width,
                 base_height,
                 scaled_width,
@@ -218,20 +223,56 @@ pub fn intra_patterns(calls: &mut Calls) {
                 -y,
                 16,
                 16,
-            ];
-            let mood = Mood::without_intra(random);
-            let base = mood.base(random, base_macroblocks(&eight));
-            for pattern in 0..16 {
-                let mut base = base.clone();
-                for (address, record) in base.chunks_mut(WORDS).enumerate() {
-                    // Neighbours differ in the lowest bit of column or row.
-                    let columns = base_width as usize / 16;
-                    let (column, row) = (address % columns, address / columns);
-                    if pattern >> (row % 2 * 2 + column % 2) & 1 == 1 {
-                        record.copy_from_slice(&intra());
-                    }
+            ]);
+        }
+    }
+    found
+}
+
+/// Which of four base macroblocks that are neighbours one is: they differ in the
+/// lowest bit of column or row.
+fn neighbour(eight: &Eight, address: usize) -> usize {
+    let columns = eight[0] as usize / 16;
+    address / columns % 2 * 2 + address % columns % 2
+}
+
+/// With each of the sixteen ways in which four base macroblocks are intra or not.
+pub fn intra_patterns(calls: &mut Calls) {
+    let random = &mut Random::new(1);
+    for eight in two_map_rows() {
+        let mood = Mood::without_intra(random);
+        let base = mood.base(random, base_macroblocks(&eight));
+        for pattern in 0..16 {
+            let mut base = base.clone();
+            for (address, record) in base.chunks_mut(WORDS).enumerate() {
+                if pattern >> neighbour(&eight, address) & 1 == 1 {
+                    // It keeps its detail.
+                    record[..DETAIL].copy_from_slice(&intra()[..DETAIL]);
                 }
-                whole_and_single(calls, &eight, &Lent::of(&base), &[(0, 0)]);
+            }
+            whole_and_single(calls, &eight, &Lent::of(&base), &[(0, 0)]);
+        }
+    }
+}
+
+/// With one quadrant of four base macroblocks that has detail, and with one that has
+/// none; the macroblock is intra, or all others are, or none is.
+pub fn detail_patterns(calls: &mut Calls) {
+    let moving = distinct(4, [0, 1, 2, 3], 1);
+    for eight in two_map_rows() {
+        for one in 0..16 {
+            for (bits, intras) in [(0, 1), (0, 2), (0, 0), (15, 1), (15, 2), (15, 0)] {
+                let records: Vec<Record> = (0..base_macroblocks(&eight))
+                    .map(|address| {
+                        let named = neighbour(&eight, address) == one / 4;
+                        let record = match (intras, named) {
+                            (1, true) | (2, false) => intra(),
+                            _ => moving,
+                        };
+                        detailed(record, bits ^ (named as i16) << (one % 4))
+                    })
+                    .collect();
+                whole_and_single(calls, &eight, &Lent::of(&records.concat()), &[(0, 0)]);
             }
         }
     }
@@ -269,7 +310,7 @@ pub fn words(calls: &mut Calls) {
 /// Every vector word is scaled, for more than 200 pairs B, S along either axis: the
 /// smallest and the largest of both, ratios whose scale is exact and some whose is
 /// not. The macroblock at 0,0 reads base macroblock 0 alone, which moves as a whole,
-/// by a word below zero in list 0 and one from 0 on in list 1.
+/// by a word below zero in list 0 and one from 0 on in list 1, with any detail.
 pub fn scaled_words(calls: &mut Calls) {
     let random = &mut Random::new(5);
     let mut pairs: Vec<(i32, i32)> = vec![(32, 48), (80, 156), (112, 130)];
@@ -292,7 +333,7 @@ pub fn scaled_words(calls: &mut Calls) {
             [16, base, other, scaled, 0, 0, 16, 16],
         ] {
             for word in -8192..0 {
-                lent.lend_first(&whole(word, word + 8192));
+                lent.lend_first(&detailed(whole(word, word + 8192), word & 15));
                 let _ = calls.single(&eight, &lent, (0, 0), WORDS, &[]);
             }
         }
@@ -342,7 +383,8 @@ pub fn faults(calls: &mut Calls) {
             }
             let mut base = small_base();
             if has(8) {
-                base[2 * WORDS + 5] = 32;
+                // By rule 3, or by rule 7.
+                base[2 * WORDS + [5, DETAIL][axis]] = 32;
             }
             if has(5) {
                 base.pop();

@@ -1,10 +1,12 @@
 //! Sync texts: the lines of document 01, and texts with notes between them.
 
-use crate::generate::{base_macroblocks, full_macroblocks, geometry, intra, Eight};
+use crate::generate::{base_macroblocks, full_macroblocks, geometry, Eight};
 use crate::random::Random;
+use second::record::DETAIL;
 use second::{TEXT_RECORDS, WORDS};
 
-pub const INTRA: &str = "(intra)\n";
+/// An intra record without detail.
+pub const INTRA: &str = "(intra 0)\n";
 
 /// Notes nest to this depth, the note being at 1.
 const DEPTH: u32 = 8;
@@ -28,18 +30,24 @@ fn spaced(words: &[i16]) -> String {
     words.join(" ")
 }
 
-pub fn whole(references: &[i16], vectors: &[i16]) -> String {
-    format!("(whole ({}) ({}))\n", spaced(references), spaced(vectors))
+pub fn intra_with(detail: i16) -> String {
+    format!("(intra {detail})\n")
+}
+
+pub fn whole(references: &[i16], vectors: &[i16], detail: i16) -> String {
+    let (references, vectors) = (spaced(references), spaced(vectors));
+    format!("(whole ({references}) ({vectors}) {detail})\n")
 }
 
 pub fn mb(record: &[i16]) -> String {
-    let (subs, references, vectors) = (&record[1..5], &record[5..13], &record[13..]);
+    let (subs, references, vectors) = (&record[1..5], &record[5..13], &record[13..DETAIL]);
     format!(
-        "(mb {} ({}) ({}) ({}))\n",
+        "(mb {} ({}) ({}) ({}) {})\n",
         record[0],
         spaced(subs),
         spaced(references),
-        spaced(vectors)
+        spaced(vectors),
+        record[DETAIL]
     )
 }
 
@@ -49,8 +57,8 @@ pub fn line(random: &mut Random, record: &[i16]) -> String {
         return mb(record);
     }
     match record[0] {
-        0 if record == intra() => INTRA.to_string(),
-        1 => whole(&record[5..7], &record[13..17]),
+        0 => intra_with(record[DETAIL]),
+        1 => whole(&record[5..7], &record[13..17], record[DETAIL]),
         _ => mb(record),
     }
 }
@@ -126,7 +134,8 @@ pub fn long_records(full: i32) -> String {
         let mut record = [3; WORDS];
         record[0] = 4;
         record[5..13].fill_with(|| random.within(0, 31) as i16);
-        record[13..].fill_with(|| random.within(-8192, -1000) as i16);
+        record[13..DETAIL].fill_with(|| random.within(-8192, -1000) as i16);
+        record[DETAIL] = random.within(0, 15) as i16;
         text += &mb(&record);
     }
     text
@@ -136,7 +145,7 @@ pub fn long_records(full: i32) -> String {
 /// the last note lacks is one word.
 pub fn long_notes(bytes: usize, mut note: impl FnMut() -> String) -> String {
     let whole_case =
-        head(&[16, 16, 32, 32, 0, 0, 48, 32]).concat() + &whole(&[0, -1], &[4, -8, 0, 0]);
+        head(&[16, 16, 32, 32, 0, 0, 48, 32]).concat() + &whole(&[0, -1], &[4, -8, 0, 0], 0);
     let mut text = String::new();
     loop {
         let next = note();

@@ -10,9 +10,15 @@ pub struct TextCoverage {
     /// By LOG_ANSWERS.
     log: [u64; 12],
     /// Refusal 8 of the log, by the broken rule that the call hands back.
-    rules: [u64; 6],
+    rules: [u64; 7],
+    /// That by rule 7, by the form of the line, of RECORD_FORMS.
+    by_7: [u64; 3],
     /// Lines of texts that were read, by FORMS.
     forms: [u64; 4],
+    /// Record lines of them, by RECORD_FORMS and the sort of their detail.
+    details: [[u64; 3]; 3],
+    /// Refusal 9 where a record line lacks its detail, by RECORD_FORMS.
+    lacking: [u64; 3],
     /// Lines of logs by the type of their macroblock.
     types: [u64; 6],
 }
@@ -39,14 +45,20 @@ const LOG_ANSWERS: [&str; 12] = [
     "9 at the end",
     "10 by lines",
 ];
-const RULES: [&str; 6] = ["1", "2", "3", "4", "5", "6"];
-const FORMS: [&str; 4] = ["(intra)", "(whole ..)", "(mb ..)", "(note ..)"];
+const RULES: [&str; 7] = ["1", "2", "3", "4", "5", "6", "7"];
+const FORMS: [&str; 4] = ["(intra D)", "(whole .. D)", "(mb .. D)", "(note ..)"];
+const RECORD_FORMS: [&str; 3] = ["(intra D)", "(whole .. D)", "(mb .. D)"];
+const DETAILS: [&str; 3] = [
+    "lines of texts that are read, D 0",
+    "lines of texts that are read, D 1 to 15",
+    "lines of texts that are read, another D",
+];
 const TYPES: [&str; 6] = ["0", "1", "2", "3", "4", "5"];
 
 impl TextCoverage {
     /// Prints the tables. For each, its name and whether everything that it
     /// lists did happen.
-    pub fn report(&self) -> [(&'static str, bool); 5] {
+    pub fn report(&self) -> [(&'static str, bool); 8] {
         [
             (
                 "each refusal of the text call",
@@ -61,8 +73,23 @@ impl TextCoverage {
                 print("log, refusal 8 by rule", &RULES, &self.rules),
             ),
             (
+                "rule 7 broken in each form of a record line",
+                print("log, rule 7 by form", &RECORD_FORMS, &self.by_7),
+            ),
+            (
                 "each form of a line in texts that are read",
                 print("lines of texts that are read", &FORMS, &self.forms),
+            ),
+            (
+                "each form of a record line with each sort of detail",
+                [0, 1, 2].map(|sort| {
+                    let counts = self.details.map(|form| form[sort]);
+                    print(DETAILS[sort], &RECORD_FORMS, &counts)
+                }) == [true; 3],
+            ),
+            (
+                "each form of a record line refused by 9 for want of its detail",
+                print("9 for want of D", &RECORD_FORMS, &self.lacking),
             ),
             (
                 "each type of macroblock in logs",
@@ -79,18 +106,51 @@ impl TextCoverage {
                 self.read(text);
             }
             6 => self.text[1] += 1,
-            number => self.text[2 + by_text(number, answer.place, text)] += 1,
+            number => {
+                self.text[2 + by_text(number, answer.place, text)] += 1;
+                if number == 9 {
+                    self.lacking(text, answer.place as usize);
+                }
+            }
         }
     }
 
     fn read(&mut self, text: &[u8]) {
         for line in text.split(|&byte| byte == b'\n') {
-            match line.get(1) {
-                Some(b'i') => self.forms[0] += 1,
-                Some(b'w') => self.forms[1] += 1,
-                Some(b'm') => self.forms[2] += 1,
-                Some(b'n') => self.forms[3] += 1,
-                _ => {}
+            if let Some(form) = record_form(line) {
+                self.forms[form] += 1;
+                let end = line.rsplit(|&byte| byte == b' ').next();
+                let detail: Option<i32> = end.and_then(|end| {
+                    let digits = std::str::from_utf8(end.strip_suffix(b")")?).ok()?;
+                    digits.parse().ok()
+                });
+                let sort = match detail.expect("a number at the end of a record line") {
+                    0 => 0,
+                    1..=15 => 1,
+                    _ => 2,
+                };
+                self.details[form][sort] += 1;
+            } else if line.starts_with(b"(n") {
+                self.forms[3] += 1;
+            }
+        }
+    }
+
+    /// A text refused by 9 at a place: whether the line is closed there as a record's
+    /// was before there was a detail.
+    fn lacking(&mut self, text: &[u8], place: usize) {
+        if text.get(place) != Some(&b')') {
+            return;
+        }
+        let line = text[..place].rsplit(|&byte| byte == b'\n').next();
+        let line = line.expect("one at least");
+        let opened = line.iter().filter(|&&byte| byte == b'(').count();
+        let closed = line.iter().filter(|&&byte| byte == b')').count();
+        if let Some(form) = record_form(line) {
+            let lists = [0, 2, 3][form];
+            let last = if form == 0 { b'a' } else { b')' };
+            if (opened, closed) == (lists + 1, lists) && line.last() == Some(&last) {
+                self.lacking[form] += 1;
             }
         }
     }
@@ -111,8 +171,14 @@ impl TextCoverage {
                 1..=5 => number as usize,
                 8 => {
                     // No other rule comes, or the comparison has said so.
-                    if (1..=6).contains(&rule) {
+                    if (1..=7).contains(&rule) {
                         self.rules[rule as usize - 1] += 1;
+                    }
+                    if rule == 7 {
+                        let lines = text.split(|&byte| byte == b'\n');
+                        let mut forms = lines.filter_map(record_form);
+                        let form = forms.nth(place as usize).expect("the line at the place");
+                        self.by_7[form] += 1;
                     }
                     7
                 }
@@ -129,6 +195,16 @@ impl TextCoverage {
                 self.types[(kind - b'0') as usize] += 1;
             }
         }
+    }
+}
+
+/// Which of RECORD_FORMS a line is of; the forms of lines differ in their first letter.
+fn record_form(line: &[u8]) -> Option<usize> {
+    match line.get(1) {
+        Some(b'i') => Some(0),
+        Some(b'w') => Some(1),
+        Some(b'm') => Some(2),
+        _ => None,
     }
 }
 

@@ -3,12 +3,12 @@
 
 use crate::calls::{Calls, FILL, FILL_SECOND};
 use crate::lent::Lent;
-use compare::generate::{base_macroblocks, break_record, distinct, Mood};
+use compare::generate::{base_macroblocks, break_record, detailed, distinct, random_rule, Mood};
 use compare::random::Random;
 use compare::sync::{
-    head, lines, long_notes, long_records, mb, note, noted, text_geometry, whole, INTRA,
+    head, intra_with, lines, long_notes, long_records, mb, note, noted, text_geometry, whole, INTRA,
 };
-use second::{TEXT_WORDS, WORDS};
+use second::{TEXT_RECORDS, TEXT_WORDS, WORDS};
 use spiewomir::numbers;
 use spiewomir::LOG_BYTES;
 
@@ -48,6 +48,10 @@ const EDGES: &[&str] = &[
     "327670",
     "1-",
     "1a",
+    "14",
+    "15",
+    "16",
+    "17",
     "65536",
     "4294967296",
     "18446744073709551616",
@@ -60,7 +64,7 @@ const LIMITS: [i32; 20] = [
 ];
 
 const WHOLE_CASE: &str =
-    "(base 16 16)\n(scaled 32 32)\n(at 0 0)\n(full 48 32)\n(whole (0 -1) (4 -8 0 0))\n";
+    "(base 16 16)\n(scaled 32 32)\n(at 0 0)\n(full 48 32)\n(whole (0 -1) (4 -8 0 0) 0)\n";
 
 /// The beginning of a text, for messages.
 fn shown(text: &[u8]) -> String {
@@ -221,14 +225,14 @@ impl Texts<'_> {
     }
 }
 
-/// A text with every form of a line that is read and gives a picture's log. Its
-/// last note is as deep as can be.
+/// A text with every form of a line that is read and gives a picture's log, with
+/// detail in each record. Its last note is as deep as can be.
 fn every_form() -> String {
     [
         "(note)\n(base 16 48)\n(note a -32768 (b (0) 327))\n(scaled 24 72)\n(at -2 6)\n(full 48 80)\n",
-        "(whole (0 -1) (4 -8 0 0))\n(note zz)\n",
-        INTRA,
-        &mb(&distinct(4, [0, 1, 2, 3], 1)),
+        "(whole (0 -1) (4 -8 0 0) 15)\n(note zz)\n",
+        "(intra 9)\n",
+        &mb(&detailed(distinct(4, [0, 1, 2, 3], 1), 10)),
         "(note (((((((1)))) 0) -7) x))\n",
     ]
     .concat()
@@ -313,6 +317,79 @@ pub fn edges(calls: &mut Calls) {
     }
 }
 
+/// The detail of each form at every limit, in each of three records, beside one that
+/// breaks rule 3 or 6 and has a detail at a limit too: it is read whatever it is, and
+/// then judged last.
+pub fn details(calls: &mut Calls) {
+    let texts = &mut Texts::new(calls);
+    let limits = [-32768, -32767, -256, -128, 255, 256, 257, 271, 32766, 32767];
+    let form = |number: usize, detail: i16| match number {
+        0 => intra_with(detail),
+        1 => whole(&[0, -1], &[4, -8, 0, 0], detail),
+        _ => mb(&detailed(distinct(4, [0, 1, 2, 3], 1), detail)),
+    };
+    let head = head(&[16, 48, 24, 72, -2, 6, 48, 80]).concat();
+    for detail in (-40..=80).chain(limits) {
+        let mut two_motions = detailed(distinct(1, [0; 4], 1), detail);
+        two_motions[13] += 1;
+        for number in 0..3 {
+            for at in 0..3 {
+                let mut lines = [form(0, 1), form(1, 6), form(2, 12)];
+                lines[at] = form(number, detail);
+                let text = head.clone() + &lines.concat();
+                texts.compare(&text);
+                let picture = second::log(text.as_bytes()).starts_with(b"(mb ");
+                if picture != (0..=15).contains(&detail) {
+                    texts.differs(text.as_bytes(), "rule 7 is not that of 0 to 15");
+                }
+                lines[(at + 1) % 3] = whole(&[0, 32], &[0; 4], detail);
+                texts.compare(head.clone() + &lines.concat());
+                lines[(at + 1) % 3] = mb(&two_motions);
+                texts.compare(head.clone() + &lines.concat());
+            }
+        }
+    }
+}
+
+/// Lines of every form without their detail, as they were before it was, and with it
+/// elsewhere, twice, or in brackets.
+pub fn old_forms(calls: &mut Calls) {
+    let texts = &mut Texts::new(calls);
+    let head = head(&[16, 16, 32, 32, 0, 0, 48, 32]).concat();
+    let record = mb(&detailed(distinct(4, [0, 1, 2, 3], 1), 7));
+    for line in ["(intra 7)\n", "(whole (0 -1) (4 -8 0 0) 7)\n", &record] {
+        let end = line.strip_suffix(" 7)\n").expect("a detail");
+        let (name, rest) = end.split_once(' ').unwrap_or((end, ""));
+        let inner = end.strip_suffix(')').unwrap_or(end);
+        for bad in [
+            format!("{end})\n"),
+            format!("{end} )\n"),
+            format!("{end}\n"),
+            format!("{end} 7\n"),
+            format!("{end}7)\n"),
+            format!("{end}  7)\n"),
+            format!("{end} 7 )\n"),
+            format!("{end} 7))\n"),
+            format!("{end} 7 7)\n"),
+            format!("{end} (7))\n"),
+            format!("{end} (7)\n"),
+            format!("{end} a)\n"),
+            format!("{end}) 7\n"),
+            format!("{inner} 7)\n"),
+            format!("{inner} 7))\n"),
+            format!("{inner} 7) 7)\n"),
+            format!("{name} 7 {rest})\n"),
+            format!("{name} 7 {rest} 7)\n"),
+        ] {
+            // As the first record line, after one, and after a note.
+            for before in ["", line, "(note 7)\n"] {
+                texts.compare(format!("{head}{before}{bad}"));
+                texts.compare(format!("{head}{before}{bad}{line}"));
+            }
+        }
+    }
+}
+
 /// Lists to depth 10 in notes wherever a note may stand, closed or not, with
 /// an item or nothing in the innermost.
 pub fn depths(calls: &mut Calls) {
@@ -356,8 +433,11 @@ pub fn counts(calls: &mut Calls) {
                 let mut lines = lines(random, &eight, &base);
                 for line in &mut lines[4..] {
                     match form {
-                        1 => *line = INTRA.to_string(),
-                        2 => *line = whole(&[3, -1], &[random.word() / 4, -1, 0, 0]),
+                        1 => *line = intra_with(random.below(16) as i16),
+                        2 => {
+                            let (word, detail) = (random.word() / 4, random.below(16) as i16);
+                            *line = whole(&[3, -1], &[word, -1, 0, 0], detail);
+                        }
                         3 => *line = mb(&mood.record(random)),
                         _ => {}
                     }
@@ -414,19 +494,22 @@ pub fn buffers(calls: &mut Calls) {
     let words = [
         0,
         1,
-        77,
-        154,
-        TEXT_WORDS - 77,
+        WORDS,
+        2 * WORDS,
+        // Words of 99 records that have no detail.
+        TEXT_RECORDS * (WORDS - 1),
+        TEXT_WORDS - WORDS,
         TEXT_WORDS - 1,
         TEXT_WORDS,
         TEXT_WORDS + 1,
-        TEXT_WORDS + 77,
+        TEXT_WORDS + WORDS,
     ];
     let bytes = [
         0,
         1,
         31,
         4096,
+        LOG_BYTES / 2,
         LOG_BYTES - 31,
         LOG_BYTES - 1,
         LOG_BYTES,
@@ -454,7 +537,7 @@ pub fn numbers_at_limits(calls: &mut Calls) {
                     eight[second] = b;
                     // Of the largest pictures, only those that are refused.
                     if eight[6].min(eight[7]) < 4080 {
-                        texts.compare(head(&eight).concat() + &whole(&[0, -1], &[4, -8, 0, 0]));
+                        texts.compare(head(&eight).concat() + &whole(&[0, -1], &[4, -8, 0, 0], 0));
                     }
                 }
             }
@@ -483,7 +566,7 @@ pub fn random(calls: &mut Calls, count: u64) {
         texts.compare(head(&wrong).concat() + &right[4..].concat());
 
         let at = random.below(base.len() / WORDS) * WORDS;
-        let rule = 1 + random.below(6);
+        let rule = random_rule(random);
         break_record(random, &mut base[at..at + WORDS], rule);
         let mut broken = head(&eight).to_vec();
         broken.extend(base.chunks(WORDS).map(mb));

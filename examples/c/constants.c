@@ -70,10 +70,25 @@ static void records(void) {
     IS(m.refusal, SPIEWOMIR_REFUSED_RECORD);
     IS(m.place, 1);
     IS(m.rule, 4);
+    IS(m.detail, 0);
     SpiewomirPicture p = spiewomir_picture(g, base, 2 * W, out, W);
     IS(p.refusal, SPIEWOMIR_REFUSED_RECORD);
     IS(p.place, 1);
     IS(p.rule, 4);
+
+    /* rule 7, of a record that has no other fault */
+    intra(base + W);
+    base[W + 77] = 16;
+    IS(spiewomir_macroblock(g, base, 2 * W, 0, 0, one, W).rule, 7);
+    p = spiewomir_picture(g, base, 2 * W, out, W);
+    IS(p.refusal, SPIEWOMIR_REFUSED_RECORD);
+    IS(p.place, 1);
+    IS(p.rule, 7);
+    base[W + 77] = 15;
+    m = spiewomir_macroblock(g, base, 2 * W, 0, 0, one, W);
+    IS(m.refusal, SPIEWOMIR_ANSWERED);
+    IS(m.kind, SPIEWOMIR_INTRA);
+    IS(m.detail, 15);
 }
 
 /* ---- kinds and sub-types: at ratio 1 the motions of the base's sixteen blocks, a digit for each motion */
@@ -81,7 +96,7 @@ static SpiewomirMacroblock split(const char *motions) {
     base[0] = 4;
     for (int i = 1; i < 5; i++) base[i] = 3;
     for (int i = 5; i < 13; i++) base[i] = i % 2 ? 0 : -1;
-    memset(base + 13, 0, 64 * sizeof *base);
+    memset(base + 13, 0, 65 * sizeof *base);
     for (int i = 0; i < 16; i++) base[13 + 4 * i] = (int16_t)(motions[i] - '0');
     return spiewomir_macroblock(small, base, W, 0, 0, one, W);
 }
@@ -98,6 +113,16 @@ static void kinds(void) {
     IS(m.sub1, SPIEWOMIR_SUB_8X4);
     IS(m.sub2, SPIEWOMIR_SUB_4X8);
     IS(m.sub3, SPIEWOMIR_SUB_4X4);
+    IS(m.detail, 0);
+    /* and each detail is kept */
+    for (uint32_t detail = 0; detail < 16; detail++) {
+        base[77] = (int16_t)detail;
+        m = spiewomir_macroblock(small, base, W, 0, 0, one, W);
+        IS(m.refusal, SPIEWOMIR_ANSWERED);
+        IS(m.kind, SPIEWOMIR_8X8);
+        IS(m.detail, detail);
+        IS(one[77], detail);
+    }
 }
 
 /* ---- the log of the text's first n bytes is the line of a refusal, and hands it back */
@@ -126,10 +151,11 @@ static void texts(void) {
     IS(t.refusal, SPIEWOMIR_REFUSED_GRAMMAR);
     IS(t.place, n - 1);
     IS(t.rule, 0);
-    for (int i = 0; i <= SPIEWOMIR_TEXT_RECORDS; i++) memcpy(text + n + 8 * (size_t)i, "(intra)\n", 8);
-    t = spiewomir_text(text, n + 8 * SPIEWOMIR_TEXT_RECORDS, base, SPIEWOMIR_TEXT_WORDS);
+    for (int i = 0; i <= SPIEWOMIR_TEXT_RECORDS; i++) memcpy(text + n + 10 * (size_t)i, "(intra 9)\n", 10);
+    t = spiewomir_text(text, n + 10 * SPIEWOMIR_TEXT_RECORDS, base, SPIEWOMIR_TEXT_WORDS);
     IS(t.refusal, SPIEWOMIR_ANSWERED);
     IS(t.lines, SPIEWOMIR_TEXT_RECORDS);
+    for (int i = 0; i < SPIEWOMIR_TEXT_RECORDS; i++) IS(base[i * W + 77], 9);
     IS(t.geometry.base_width, 16);
     IS(t.geometry.base_height, 32);
     IS(t.geometry.scaled_width, 18);
@@ -138,7 +164,7 @@ static void texts(void) {
     IS(t.geometry.offset_y, 4);
     IS(t.geometry.full_width, 48);
     IS(t.geometry.full_height, 64);
-    IS(spiewomir_text(text, n + 8 * (SPIEWOMIR_TEXT_RECORDS + 1), base, SPIEWOMIR_TEXT_WORDS).refusal, SPIEWOMIR_REFUSED_LIMIT);
+    IS(spiewomir_text(text, n + 10 * (SPIEWOMIR_TEXT_RECORDS + 1), base, SPIEWOMIR_TEXT_WORDS).refusal, SPIEWOMIR_REFUSED_LIMIT);
     SpiewomirLog l = spiewomir_log(text, n, room, SPIEWOMIR_LOG_BYTES - 1);
     IS(l.refusal, SPIEWOMIR_REFUSED_OUTPUT_LENGTH);
     IS(l.text_refusal, SPIEWOMIR_ANSWERED);
@@ -147,23 +173,35 @@ static void texts(void) {
     IS(l.bytes, 0);
     logged(n, SPIEWOMIR_REFUSED_BASE_LENGTH, 0, 0, "(refused 5 0)\n");
     logged(n - 1, SPIEWOMIR_REFUSED_GRAMMAR, (uint32_t)(n - 1), 0, "(refused 9 50)\n");
-    static const char two[] = "(intra)\n(whole (0 32) (0 0 0 0))\n";
+    static const char two[] = "(intra 0)\n(whole (0 32) (0 0 0 0) 0)\n", more[] = "(intra 15)\n(whole (0 31) (0 0 0 0) 16)\n", old[] = "(intra)\n";
     memcpy(text + n, two, sizeof two - 1);
     logged(n + sizeof two - 1, SPIEWOMIR_REFUSED_RECORD, 1, 3, "(refused 8 1)\n");
+    memcpy(text + n, more, sizeof more - 1);
+    logged(n + sizeof more - 1, SPIEWOMIR_REFUSED_RECORD, 1, 7, "(refused 8 1)\n");
+    memcpy(text + n, old, sizeof old - 1);
+    logged(n + sizeof old - 1, SPIEWOMIR_REFUSED_GRAMMAR, (uint32_t)(n + 6), 0, "(refused 9 57)\n");
 }
 
-/* ---- the picture of examples/unaligned.sync: classes, counts, and refusals 20 to 22 */
+/* ---- the picture of examples/unaligned.sync: classes, counts, details, and refusals 20 to 22. The text's details are 0;
+ * the four records are given one each, in quadrants 1, 3, 1 (of the intra one) and 2. */
+static const int16_t details[] = {2, 8, 2, 4};
+
 static const struct {
     int32_t column, row;
-    uint32_t class_, base_column, base_row;
+    uint32_t class_, base_column, base_row, detail;
     int inherited;
-} read_by[] = {{1, 1, SPIEWOMIR_CORNER, 0, 0, 1}, {2, 1, SPIEWOMIR_VERT, 0, 0, 1},   {3, 2, SPIEWOMIR_HORI, 1, 0, 1},
-               {2, 2, SPIEWOMIR_CENTER, 0, 0, 1}, {3, 1, SPIEWOMIR_CORNER, 1, 0, 1}, {1, 3, SPIEWOMIR_CORNER, 0, 1, 0}};
+} read_by[] = {{1, 1, SPIEWOMIR_CORNER, 0, 0, 3, 1}, {2, 1, SPIEWOMIR_VERT, 0, 0, 1, 1},    {3, 2, SPIEWOMIR_HORI, 1, 0, 3, 1},
+               {2, 2, SPIEWOMIR_CENTER, 0, 0, 5, 1}, {3, 1, SPIEWOMIR_CORNER, 1, 0, 15, 1}, {1, 3, SPIEWOMIR_CORNER, 0, 1, 3, 0}};
 
 static void picture(size_t length) {
     SpiewomirText t = spiewomir_text(text, length, base, SPIEWOMIR_TEXT_WORDS);
     size_t words = (size_t)t.lines * W;
     IS(t.refusal, SPIEWOMIR_ANSWERED);
+    IS(t.lines, 4);
+    for (int i = 0; i < 4; i++) {
+        IS(base[i * W + 77], 0);
+        base[i * W + 77] = details[i];
+    }
     SpiewomirPicture p = spiewomir_picture(t.geometry, base, words, out, 25 * W);
     IS(p.refusal, SPIEWOMIR_ANSWERED);
     IS(p.inherited, 7);
@@ -176,16 +214,22 @@ static void picture(size_t length) {
         IS(m.class_, read_by[i].class_);
         IS(m.column, read_by[i].base_column);
         IS(m.row, read_by[i].base_row);
+        IS(m.detail, read_by[i].detail);
+        IS(one[77], read_by[i].detail);
     }
     SpiewomirMacroblock m = spiewomir_macroblock(t.geometry, base, words, 1, 2, one, W);
     IS(m.kind, SPIEWOMIR_INTRA);
     IS(one[0], SPIEWOMIR_INTRA);
+    IS(m.detail, 15);
+    IS(one[77], 15);
     m = spiewomir_macroblock(t.geometry, base, words, 4, 3, one, W);
     IS(m.kind, SPIEWOMIR_OUTSIDE);
     IS(one[0], SPIEWOMIR_OUTSIDE);
     IS(m.class_, SPIEWOMIR_CORNER);
     IS(m.column, 0);
     IS(m.row, 0);
+    IS(m.detail, 0);
+    IS(one[77], 0);
 
     SpiewomirSession s = spiewomir_session_fresh();
     IS(s.begun, 0);
@@ -201,6 +245,7 @@ static void picture(size_t length) {
         SpiewomirAdvanced a = spiewomir_session_next(s, base, words, one, W);
         IS(a.macroblock.refusal, SPIEWOMIR_ANSWERED);
         IS(a.macroblock.kind, out[i * W]);
+        IS(a.macroblock.detail, out[i * W + 77]);
         s = a.session;
     }
     IS(spiewomir_session_next(s, base, words, one, W).macroblock.refusal, SPIEWOMIR_REFUSED_FINISHED);

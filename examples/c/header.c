@@ -25,16 +25,19 @@ static int16_t largest[SPIEWOMIR_PICTURE_WORDS(4096, 4096)];
 
 static void sizes(void) {
     int32_t sixteen = 16;
-    IS(sizeof largest / sizeof *largest, 77u * 256 * 256);
-    IS(SPIEWOMIR_PICTURE_WORDS(48, 32), 77 * 3 * 2);
-    IS(SPIEWOMIR_PICTURE_WORDS(16 + 32, sixteen << 1), 77 * 3 * 2);
+    IS(sizeof largest / sizeof *largest, 78u * 256 * 256);
+    IS(SPIEWOMIR_PICTURE_WORDS(48, 32), 78 * 3 * 2);
+    IS(SPIEWOMIR_PICTURE_WORDS(16 + 32, sixteen << 1), 78 * 3 * 2);
     IS(2 * SPIEWOMIR_PICTURE_WORDS(sixteen, 1 ? sixteen : 0) / 7, 22);
-    IS(SPIEWOMIR_PICTURE_WORDS((size_t)48, 32u), 77 * 3 * 2);
+    IS(SPIEWOMIR_PICTURE_WORDS((size_t)48, 32u), 78 * 3 * 2);
     IS(SPIEWOMIR_PICTURE_WORDS(0, 4096), 0);
     IS(SPIEWOMIR_PICTURE_WORDS(-16, -16), 0);
     IS(SPIEWOMIR_PICTURE_WORDS(INT32_MIN, INT32_MAX), 0);
     IS(SPIEWOMIR_PICTURE_WORDS(4096, 4112), 0);
     IS(SPIEWOMIR_MACROBLOCKS(80), 5);
+    IS(SPIEWOMIR_TEXT_WORDS, SPIEWOMIR_TEXT_RECORDS * SPIEWOMIR_WORDS);
+    IS(sizeof(SpiewomirMacroblock), 12 * sizeof(uint32_t));
+    IS(offsetof(SpiewomirMacroblock, detail), 11 * sizeof(uint32_t));
 }
 
 static void *room(size_t size) { /* uninitialised */
@@ -58,6 +61,7 @@ static void calls(const uint8_t *text, size_t length) {
     uint32_t columns = (uint32_t)SPIEWOMIR_MACROBLOCKS(g.full_width);
     IS(base_len, SPIEWOMIR_PICTURE_WORDS(g.base_width, g.base_height));
     int16_t *out = (int16_t *)room(count * sizeof *out);
+    for (uint32_t a = 0; a < t.lines; a++) words[a * (size_t)SPIEWOMIR_WORDS + 77] = (int16_t)(a + 1); /* in a text that has none */
     IS(spiewomir_picture(g, words, base_len, out, count - 1).refusal, SPIEWOMIR_REFUSED_OUTPUT_LENGTH);
     IS(spiewomir_picture(g, words, base_len, out, count).refusal, SPIEWOMIR_ANSWERED);
 
@@ -65,7 +69,9 @@ static void calls(const uint8_t *text, size_t length) {
     for (uint32_t a = 0; a < count / SPIEWOMIR_WORDS; a++) {
         int16_t *one = (int16_t *)room(SPIEWOMIR_WORDS * sizeof *one), *next = (int16_t *)room(SPIEWOMIR_WORDS * sizeof *next);
         IS(next_address(s), a);
-        IS(spiewomir_macroblock(g, words, base_len, (int32_t)(next_address(s) % columns), (int32_t)(next_address(s) / columns), one, SPIEWOMIR_WORDS).refusal, SPIEWOMIR_ANSWERED);
+        SpiewomirMacroblock m = spiewomir_macroblock(g, words, base_len, (int32_t)(next_address(s) % columns), (int32_t)(next_address(s) / columns), one, SPIEWOMIR_WORDS);
+        IS(m.refusal, SPIEWOMIR_ANSWERED);
+        IS(m.detail, one[77]);
         SpiewomirAdvanced refused = spiewomir_session_next(s, words, base_len, next, SPIEWOMIR_WORDS - 1);
         IS(refused.macroblock.refusal, SPIEWOMIR_REFUSED_OUTPUT_LENGTH);
         IS(next_address(refused.session), a);

@@ -48,7 +48,7 @@ int main(int argc, char **argv) {
     if (t.refusal != SPIEWOMIR_ANSWERED) return refused(t.refusal, t.place, t.rule);
     size_t base_words = (size_t)t.lines * SPIEWOMIR_WORDS;
 
-    /* the picture: 77 words for each macroblock. Sizes are judged by the call itself. */
+    /* the picture: 78 words for each macroblock. Sizes are judged by the call itself. */
     SpiewomirGeometry g = t.geometry;
     size_t words = SPIEWOMIR_PICTURE_WORDS(g.full_width, g.full_height);
     int16_t *out = malloc((words ? words : 1) * sizeof *out);
@@ -60,7 +60,7 @@ int main(int argc, char **argv) {
     free(out);
     if (p.refusal != SPIEWOMIR_ANSWERED) return refused(p.refusal, p.place, p.rule);
 
-    /* one record: the words that the picture has from 77 * (row * columns + column) on. The
+    /* one record: the words that the picture has from 78 * (row * columns + column) on. The
      * call judges column and row. */
     SpiewomirMacroblock m = spiewomir_macroblock(g, base, base_words, column, row, record, SPIEWOMIR_WORDS);
     if (m.refusal != SPIEWOMIR_ANSWERED) return refused(m.refusal, m.place, m.rule);

@@ -2,7 +2,8 @@
 //! session over one picture, a sync text and its log.
 //!
 //! Records, refusals and answers are those of document 01, the project's scope
-//! paper, with vectors rounded as document 02's E3 says. No call asks anything of its caller: it judges what it is lent, and a
+//! paper, with vectors rounded as document 02's E3 says and with the detail of its
+//! E7. No call asks anything of its caller: it judges what it is lent, and a
 //! refused call leaves every lent word and byte as it was. `numbers` has the
 //! same calls with plain numbers.
 //!
@@ -14,7 +15,7 @@
 //! use spiewomir::{macroblock, picture, picture_words, refused, TEXT_WORDS, WORDS};
 //!
 //! fn main() -> Result<(), Box<dyn std::error::Error>> {
-//!     let text = b"(base 16 16)\n(scaled 32 32)\n(at 0 0)\n(full 48 32)\n(whole (0 -1) (4 -8 0 0))\n";
+//!     let text = b"(base 16 16)\n(scaled 32 32)\n(at 0 0)\n(full 48 32)\n(whole (0 -1) (4 -8 0 0) 2)\n";
 //!     let mut base = vec![0; TEXT_WORDS];
 //!     let (geometry, lines) = spiewomir::text(text, &mut base)?;
 //!     base.truncate(lines as usize * WORDS);
@@ -23,6 +24,11 @@
 //!     let counts = picture(geometry, &base, &mut out)?;
 //!     assert_eq!((counts.inherited, counts.intra, counts.outside), (4, 0, 2));
 //!     assert_eq!(out[13..15], [8, -16]);
+//!
+//!     // The base has detail in its quadrant 1, which macroblock 1,0 lies on.
+//!     let answer = macroblock(geometry, &base, 1, 0, &mut out[..WORDS])?;
+//!     assert_eq!(answer.detail, 0b1111);
+//!     assert_eq!(out[77], 0b1111);
 //!
 //!     let refusal = macroblock(geometry, &base, 3, 0, &mut out[..WORDS]).unwrap_err();
 //!     assert_eq!(refusal.number, refused::POSITION);
@@ -41,7 +47,7 @@ use std::fmt;
 
 /// The version that this crate is of: major times 10,000, plus minor times 100,
 /// plus patch. [`version`] gives that of the library.
-pub const VERSION: u32 = 20_000;
+pub const VERSION: u32 = 30_000;
 
 /// Words of a motion record. Quadrants, blocks, and the macroblocks of a picture
 /// go in raster order; `l` is the list, 0 or 1.
@@ -51,12 +57,14 @@ pub const VERSION: u32 = 20_000;
 /// - 5 + 2q + l: the reference of quadrant `q`, -1 unused.
 /// - 13 + 4b + 2l, and the next: the horizontal and vertical vector of 4x4 block
 ///   `b`, 0 to 15, in quarter samples; 0 where the reference is -1.
+/// - 77: the detail, 0 to 15. Bit `q` says that quadrant `q` has luma coefficients in
+///   the base.
 ///
 /// [`refused::RECORD`] has the rules for a base's. A written vector word is (v * scale +
 /// 32768) / 65536, rounded down, also below zero, of a base's word v, with scale = (S *
 /// 65536 + B / 2) / B of its axis, rounded down (B is the base's size, S the scaled one):
-/// -16384 to 16382.
-pub const WORDS: usize = 77;
+/// -16384 to 16382. A written detail is [`Answer::detail`].
+pub const WORDS: usize = 78;
 
 /// The words of the records of a picture, [`WORDS`] for each macroblock; 0 for a
 /// side outside 1..=4096, which the calls refuse.
@@ -84,7 +92,7 @@ pub struct Refusal {
     pub number: u32,
     /// For 8 the lowest malformed address, for 9 a byte offset, otherwise 0.
     pub place: u32,
-    /// For 8 the first broken rule, 1 to 6, otherwise 0.
+    /// For 8 the first broken rule, 1 to 7, otherwise 0.
     pub rule: u32,
 }
 
@@ -132,12 +140,12 @@ pub enum Split {
 #[derive(Clone, Copy, Debug, PartialEq, Eq)]
 pub enum Kind {
     /// Nine or more of the sixteen blocks read intra macroblocks: a record of
-    /// type 0, references -1 and vectors 0.
+    /// type 0, references -1 and vectors 0, with its detail.
     Intra,
     /// A record with motion, in the fewest pieces.
     Inherited(Split),
     /// The macroblock does not lie wholly in the window, and reads nothing: a
-    /// record of type 5, references -1 and vectors 0.
+    /// record of type 5, references -1, vectors 0 and detail 0.
     Outside,
 }
 
@@ -165,6 +173,10 @@ pub struct Answer {
     pub column: u32,
     /// The first base row that is read; 0 outside.
     pub row: u32,
+    /// Where detail was sent, 0 to 15: bit `q` is set exactly when one of the blocks of
+    /// quadrant `q` reads a base quadrant whose bit is set, of an intra macroblock too;
+    /// 0 outside. The written record says the same in word 77.
+    pub detail: u8,
 }
 
 /// Macroblocks by the kind of their answers.
@@ -305,11 +317,16 @@ impl numbers::Macroblock {
             3 => Class::Center,
             other => excluded("class", other),
         };
+        let detail = match self.detail {
+            detail @ 0..=15 => detail as u8,
+            other => excluded("detail", other),
+        };
         Ok(Answer {
             kind,
             class,
             column: self.column,
             row: self.row,
+            detail,
         })
     }
 }

@@ -52,6 +52,8 @@ pub struct Macroblock {
     pub column: u32,
     /// First base row; 0 outside.
     pub row: u32,
+    /// Word 77 of the written record; 0 outside.
+    pub detail: u32,
 }
 
 /// Answer of the picture call; `refusal` 0 means answered.

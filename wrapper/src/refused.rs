@@ -30,7 +30,8 @@ pub const POSITION: u32 = 7;
 /// 3. references -1 to 31;
 /// 4. all references -1 in type 0, at least one used in each quadrant of another;
 /// 5. vector words -8192 to 8191, and 0 where the reference is -1;
-/// 6. the same references and vectors all over a partition or sub-partition.
+/// 6. the same references and vectors all over a partition or sub-partition;
+/// 7. detail 0 to 15.
 pub const RECORD: u32 = 8;
 
 /// A text that breaks the grammar: the place is the first byte offset at which

@@ -32,8 +32,9 @@ fn is(given: Result<(), Refusal>, number: u32, said: &str) {
 #[test]
 fn of_records() {
     let base = intra();
-    let mut malformed = base;
+    let (mut malformed, mut detailed) = (base, base);
     malformed[5] = 0;
+    detailed[77] = 16;
     let at = |geometry, base: &[i16], column, out| {
         macroblock(geometry, base, column, 0, &mut vec![0; out]).map(|_| ())
     };
@@ -48,6 +49,7 @@ fn of_records() {
         (GEOMETRY, &base, 0, WORDS + 1, refused::OUTPUT_LENGTH, "output length is not what the call writes"),
         (GEOMETRY, &base, 3, WORDS, refused::POSITION, "column or row outside the picture"),
         (GEOMETRY, &malformed, 0, WORDS, refused::RECORD, "malformed record, place 0, rule 4"),
+        (GEOMETRY, &detailed, 0, WORDS, refused::RECORD, "malformed record, place 0, rule 7"),
     ];
     for (geometry, base, column, out, number, said) in wrong {
         is(at(geometry, base, column, out), number, said);
@@ -73,12 +75,12 @@ fn of_texts() {
         "text has too many bytes or record lines",
     );
     let mut lines = b"(base 16 16)\n(scaled 32 32)\n(at 0 0)\n(full 48 32)\n".to_vec();
-    lines.extend_from_slice(&b"(intra)\n".repeat(TEXT_RECORDS));
+    lines.extend_from_slice(&b"(intra 0)\n".repeat(TEXT_RECORDS));
     assert_eq!(
         text(&lines, &mut vec![0; TEXT_WORDS]),
         Ok((GEOMETRY, TEXT_RECORDS as u32))
     );
-    lines.extend_from_slice(b"(intra)\n");
+    lines.extend_from_slice(b"(intra 0)\n");
     is(
         read(&lines),
         refused::LIMIT,
@@ -90,7 +92,7 @@ fn of_texts() {
 #[test]
 fn of_logs() {
     let head = "(base 16 32)\n(scaled 16 32)\n(at 0 0)\n(full 16 16)\n";
-    let made = log(format!("{head}(intra)\n(intra)\n").as_bytes());
+    let made = log(format!("{head}(intra 15)\n(intra 0)\n").as_bytes());
     assert_eq!(made.bytes, b"(mb 0 0 0 0)\n(sync 1 0 1 0)\n");
     assert_eq!(made.refusal, None);
     for (text, line, number, place, rule) in [
@@ -110,11 +112,25 @@ fn of_logs() {
             0,
         ),
         (
-            format!("{head}(intra)\n(whole (0 32) (0 0 0 0))\n"),
+            format!("{head}(intra 0)\n(whole (0 32) (0 0 0 0) 16)\n"),
             "(refused 8 1)\n",
             refused::RECORD,
             1,
             3,
+        ),
+        (
+            format!("{head}(intra -1)\n(whole (0 32) (0 0 0 0) 0)\n"),
+            "(refused 8 0)\n",
+            refused::RECORD,
+            0,
+            7,
+        ),
+        (
+            format!("{head}(intra)\n"),
+            "(refused 9 56)\n",
+            refused::GRAMMAR,
+            56,
+            0,
         ),
     ] {
         let refused = log(text.as_bytes());

@@ -14,11 +14,11 @@ fn picture(text: &[u8], column: i32, row: i32) -> Result<(Counts, [i16; WORDS]),
     let (geometry, lines) = spiewomir::text(text, &mut base)?;
     base.truncate(lines as usize * WORDS);
 
-    // 77 words for each macroblock, none for sizes that the call refuses.
+    // 78 words for each macroblock, none for sizes that the call refuses.
     let mut out = vec![0; spiewomir::picture_words(geometry.full_width, geometry.full_height)];
     let counts = spiewomir::picture(geometry, &base, &mut out)?;
 
-    // One record: the words that the picture has from 77 * (row * columns + column)
+    // One record: the words that the picture has from 78 * (row * columns + column)
     // on, columns being full_width / 16. The call judges column and row.
     let mut record = [0; WORDS];
     spiewomir::macroblock(geometry, &base, column, row, &mut record)?;
