@@ -32,7 +32,7 @@ use mir.Syntax.{w16}
 use mir.Val.{SFits}
 use Rattle.gather.specs.Reads.{Readable, ReadableAt, Rising, beside, cornersBy, gatheredBy, motionBy, motionRead, setAmong}
 use Rattle.gather.proofs.Sets.{set-corners}
-use Rattle.macroblock.specs.Made.{answerBy, answerFor, inheritedInside, motionsInside, originBy, resolvedInside, setInside, sortBy, sortInside, writtenBy, writtenInside}
+use Rattle.macroblock.specs.Made.{answerBy, answerFor, basisBy, detailInside, inheritedInside, motionsInside, resolvedInside, setInside, sortBy, sortInside, writtenBy, writtenInside}
 use Rattle.macroblock.proofs.Motions.{Kept, read-kept}
 use Rattle.macroblock.proofs.Single.{all-or-none}
 
@@ -78,7 +78,7 @@ module _ (f : Fixed) (across down : List ℕ) (base : List ℤ) where
   Gives s words = (s ≡ sortInside f across down base) × (words ≡ writtenInside f across down base)
 
   module _ {set : ℕ} (is : set ≡ setInside f across down base) where
-    pub made-intra : mostlyIntra set ≡ true → {words : List ℤ} → words ≡ withoutMotion 0 → Gives Intra words
+    pub made-intra : mostlyIntra set ≡ true → {words : List ℤ} → words ≡ withoutMotion 0 (pos (detailInside f across down base)) → Gives Intra words
     unfolding sortInside writtenInside
     made-intra t w = let m = ap mostlyIntra (sym is) ∙ t in (sym (yes _ _ m), w ∙ sym (yes _ _ m))
 
@@ -87,11 +87,11 @@ module _ (f : Fixed) (across down : List ℕ) (base : List ℤ) where
     made-inherited t w = let m = ap mostlyIntra (sym is) ∙ t in (sym (no _ _ m), w ∙ sym (no _ _ m))
 
     pub inherited-written : {m : List (List Motion)} → m ≡ resolved set (gatheredBy (f .width) across down base)
-        → laidOut (dividedBy (chosen (allScaled (f .scales) m)) (motionAt (allScaled (f .scales) m))) ≡ inheritedInside f across down base
+        → laidOut (dividedBy (chosen (allScaled (f .scales) m)) (motionAt (allScaled (f .scales) m)) (pos (detailInside f across down base))) ≡ inheritedInside f across down base
     unfolding inheritedInside motionsInside resolvedInside
     inherited-written e =
         let p = e ∙ ap (λ (s : ℕ). resolved s (gatheredBy (f .width) across down base)) is in
-        λ i. laidOut (dividedBy (chosen (allScaled (f .scales) (p i))) (motionAt (allScaled (f .scales) (p i))))
+        λ i. laidOut (dividedBy (chosen (allScaled (f .scales) (p i))) (motionAt (allScaled (f .scales) (p i))) (pos (detailInside f across down base)))
 
   -- the set by the corners
   module _ (a : Rising across) (d : Rising down) {c : Corners} (corners : c ≡ cornersBy (f .width) across down base) where
@@ -142,7 +142,7 @@ module _ (f : Fixed) (h v : AxisRead) (base : List ℤ) where
   unfolding sortBy writtenBy
   placed-in e p q = (p ∙ sym (yes _ _ e), q ∙ sym (yes _ _ e))
 
-  pub placed-out : (h .inside && v .inside) ≡ false → {words : List ℤ} → words ≡ withoutMotion 5 → GivesAny Outside words
+  pub placed-out : (h .inside && v .inside) ≡ false → {words : List ℤ} → words ≡ withoutMotion 5 (pos 0) → GivesAny Outside words
   unfolding sortBy writtenBy
   placed-out e q = (sym (no _ _ e), q ∙ sym (no _ _ e))
 
@@ -159,12 +159,12 @@ told true false a b c e = refl
 told false u a b c e = absurd (true≢false (sym e))
 
 module _ (f : Fixed) (h v : AxisRead) (base : List ℤ) where
-  pub answered : {s : Sort} → s ≡ sortBy f h v base → answerFor s (originBy h v) (motionsInside f (h .reads) (v .reads) base) ≡ answerBy f h v base
+  pub answered : {s : Sort} → s ≡ sortBy f h v base → answerFor s (basisBy f h v base) (motionsInside f (h .reads) (v .reads) base) ≡ answerBy f h v base
   unfolding answerBy
-  answered e = ap (λ (s : Sort). answerFor s (originBy h v) (motionsInside f (h .reads) (v .reads) base)) e
+  answered e = ap (λ (s : Sort). answerFor s (basisBy f h v base) (motionsInside f (h .reads) (v .reads) base)) e
 
   pub split-is : Inherited ≡ sortBy f h v base → {words : List ℤ} → words ≡ writtenBy f h v base → splitSaid words ≡ chosen (motionsInside f (h .reads) (v .reads) base)
   unfolding inherits sortBy writtenBy sortInside writtenInside inheritedInside
   split-is e w =
       let M = motionsInside f (h .reads) (v .reads) base in
-      ap splitSaid (w ∙ told (h .inside && v .inside) (mostlyIntra (setInside f (h .reads) (v .reads) base)) _ _ _ (ap inherits (sym e))) ∙ split-said (chosen M) (motionAt M)
+      ap splitSaid (w ∙ told (h .inside && v .inside) (mostlyIntra (setInside f (h .reads) (v .reads) base)) _ _ _ (ap inherits (sym e))) ∙ split-said (chosen M) (motionAt M) (pos (detailInside f (h .reads) (v .reads) base))

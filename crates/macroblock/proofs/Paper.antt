@@ -3,11 +3,11 @@ use Prim.Native.Nat.{ℕ}
 use mathlib.Core.Path.{_≡_, refl, sym, ap, _∙_}
 use mathlib.Core.Bool.{Bool, true, false, and-false, _&&_}
 use mathlib.Core.List.{List, []}
-use lib.IntN.{ℤ}
+use lib.IntN.{ℤ, pos}
 use Rattle.definitions.specs.declared.Axes.{Axes}
 use Rattle.definitions.specs.declared.Answer.the-variants.{Inherited, Intra, Outside}
 use Rattle.definitions.specs.declared.Motion.{Motion}
-use Rattle.definitions.specs.declared.Origin.{Origin}
+use Rattle.definitions.specs.declared.Basis.{Basis}
 use Rattle.macroblock.specs.declared.AxisRead.{AxisRead}
 use Rattle.macroblock.specs.declared.Fixed.{Fixed}
 use Rattle.common.specs.declared.counts.Sort.{Sort}
@@ -17,26 +17,32 @@ use Rattle.definitions.specs.Geometry.{insideAxis, inside, sampleOf}
 use Rattle.definitions.specs.BlockMap.{stepOf, addressRead, blockRead}
 use Rattle.definitions.specs.Inheriting.{chosen, gathered, inheritedMotions, intraSet, mostlyIntra, motionAt}
 use Rattle.definitions.specs.Record.{laidOut}
-use Rattle.definitions.specs.Answer.{Made, answerOf, dividedBy, madeOf, originAt, withoutMotion, writtenFor}
+use Rattle.definitions.specs.Detail.{detailAt, quadrantDetail}
+use Rattle.definitions.specs.Answer.{Made, answerOf, basisAt, dividedBy, madeOf, originAt, withoutMotion, writtenFor}
 use Rattle.common.specs.Sorts.{sortOf}
+use Rattle.definitions.specs.Accepted.{AcceptedAxes}
+use Rattle.definitions.proofs.Accepted.{across-inside, down-inside}
 use Rattle.definitions.proofs.Choices.{yes, no, and-intro}
+use Rattle.details.specs.Bits.{detailBy}
+use Rattle.macroblock.proofs.Reading.{first-column}
 use Rattle.definitions.proofs.Answers.{made-outside}
 use Rattle.motion.proofs.ByScales.{all-by-scales}
 use Rattle.gather.specs.Reads.{motionRead, setBy, gatheredBy}
-use Rattle.macroblock.specs.Made.{answerBy, answerFor, fixedOf, inheritedInside, madeBy, motionsInside, nowhere, originBy, readIn, readOf, resolvedInside, setInside, sortBy, sortInside, writtenBy, writtenInside}
+use Rattle.macroblock.specs.Made.{answerBy, answerFor, basisBy, fixedOf, inheritedInside, madeBy, motionsInside, nowhere, readIn, readOf, resolvedInside, setInside, sortBy, sortInside, writtenBy, writtenInside}
 
 -- an answer and its record, where it is intra (u) or inherits
-inside-answer : (u : Bool) (o : Origin) (m : List (List Motion)) → pick u (Intra o) (Inherited o (chosen m)) ≡ answerFor (pick u SortIntra SortInherited) o m
+inside-answer : (u : Bool) (o : Basis) (m : List (List Motion)) → pick u (Intra o) (Inherited o (chosen m)) ≡ answerFor (pick u SortIntra SortInherited) o m
 unfolding pick
 inside-answer true o m = refl
 inside-answer false o m = refl
 
-inside-written : (u : Bool) (o : Origin) (m : List (List Motion)) → writtenFor (pick u (Intra o) (Inherited o (chosen m))) m ≡ pick u (withoutMotion 0) (laidOut (dividedBy (chosen m) (motionAt m)))
+inside-written : (u : Bool) (o : Basis) (m : List (List Motion))
+    → writtenFor (pick u (Intra o) (Inherited o (chosen m))) m ≡ pick u (withoutMotion 0 (pos (o .detail))) (laidOut (dividedBy (chosen m) (motionAt m) (pos (o .detail))))
 unfolding pick writtenFor
 inside-written true o m = refl
 inside-written false o m = refl
 
-module _ (g : Axes) (column row : ℕ) (base : List ℤ) where
+module _ (g : Axes) (accepted : AcceptedAxes g) (column row : ℕ) (base : List ℤ) where
   abbrev hor : AxisRead
   hor = readIn (stepOf (g .horizontal) (sampleOf column))
 
@@ -53,9 +59,20 @@ module _ (g : Axes) (column row : ℕ) (base : List ℤ) where
   unfolding inheritedMotions intraSet gathered addressRead blockRead motionsInside resolvedInside setBy gatheredBy motionRead
   motions-same = sym (all-by-scales g refl (resolvedInside (fixedOf g) (hor .reads) (ver .reads) base))
 
-  answer-same : inside g column row ≡ true → answerOf g base column row ≡ pick (mostlyIntra set) (Intra (originBy hor ver)) (Inherited (originBy hor ver) (chosen made))
-  unfolding answerOf originAt intraSet addressRead setBy
-  answer-same e = yes _ _ e ∙ ap (λ (m : List (List Motion)). pick (mostlyIntra set) (Intra (originBy hor ver)) (Inherited (originBy hor ver) (chosen m))) motions-same
+  abbrev basis : Basis
+  basis = basisBy (fixedOf g) hor ver base
+
+  basis-same : inside g column row ≡ true → basisAt g base column row ≡ basis
+  unfolding basisAt originAt detailAt quadrantDetail detailBy addressRead blockRead stepOf
+  basis-same e =
+      let x = first-column _ _ _ (across-inside g column row accepted e) in
+      let y = first-column _ _ _ (down-inside g column row accepted e) in
+      λ i. record { origin = record { class = basis .origin .class; column = sym x i; row = sym y i }; detail = basis .detail }
+
+  answer-same : inside g column row ≡ true → answerOf g base column row ≡ pick (mostlyIntra set) (Intra basis) (Inherited basis (chosen made))
+  unfolding answerOf intraSet addressRead setBy
+  answer-same e =
+      yes _ _ e ∙ (λ i. pick (mostlyIntra set) (Intra (basis-same e i)) (Inherited (basis-same e i) (chosen (motions-same i))))
 
   pub made-by : inside g column row ≡ true → madeOf g base column row ≡ madeBy (fixedOf g) hor ver base
   unfolding madeOf madeBy answerBy writtenBy sortBy sortInside writtenInside inheritedInside
@@ -63,13 +80,13 @@ module _ (g : Axes) (column row : ℕ) (base : List ℤ) where
       let p = answer-same e in
       let q = motions-same in
       let sort = yes {t = hor .inside && ver .inside} (pick (mostlyIntra set) SortIntra SortInherited) SortOutside refl in
-      let written = yes {t = hor .inside && ver .inside} (pick (mostlyIntra set) (withoutMotion 0) (laidOut (dividedBy (chosen made) (motionAt made)))) (withoutMotion 5) refl in
+      let written = yes {t = hor .inside && ver .inside} (pick (mostlyIntra set) (withoutMotion 0 (pos (basis .detail))) (laidOut (dividedBy (chosen made) (motionAt made) (pos (basis .detail))))) (withoutMotion 5 (pos 0)) refl in
       (λ i. record { answer = p i; written = writtenFor (p i) (q i) })
-      ∙ ((λ i. record { answer = inside-answer (mostlyIntra set) (originBy hor ver) made i; written = inside-written (mostlyIntra set) (originBy hor ver) made i })
-      ∙ (λ i. record { answer = answerFor (sym sort i) (originBy hor ver) made; written = sym written i }))
+      ∙ ((λ i. record { answer = inside-answer (mostlyIntra set) basis made i; written = inside-written (mostlyIntra set) basis made i })
+      ∙ (λ i. record { answer = answerFor (sym sort i) basis made; written = sym written i }))
 
 -- in or out of the window
-module _ (g : Axes) (column row : ℕ) (base : List ℤ) where
+module _ (g : Axes) (accepted : AcceptedAxes g) (column row : ℕ) (base : List ℤ) where
   abbrev across : AxisRead
   across = readOf (g .horizontal) column
 
@@ -83,15 +100,15 @@ module _ (g : Axes) (column row : ℕ) (base : List ℤ) where
   unfolding madeBy answerBy sortBy writtenBy writtenFor
   out-made h v e =
       let sort = no (sortInside (fixedOf g) (h .reads) (v .reads) base) SortOutside e in
-      let written = no (writtenInside (fixedOf g) (h .reads) (v .reads) base) (withoutMotion 5) e in
-      λ i. record { answer = answerFor (sym sort i) (originBy h v) (motionsInside (fixedOf g) (h .reads) (v .reads) base); written = sym written i }
+      let written = no (writtenInside (fixedOf g) (h .reads) (v .reads) base) (withoutMotion 5 (pos 0)) e in
+      λ i. record { answer = answerFor (sym sort i) (basisBy (fixedOf g) h v base) (motionsInside (fixedOf g) (h .reads) (v .reads) base); written = sym written i }
 
   by-window : (a b : Bool) → insideAxis (g .horizontal) (sampleOf column) ≡ a → insideAxis (g .vertical) (sampleOf row) ≡ b → madeOf g base column row ≡ madeBy (fixedOf g) across down base
   unfolding readOf
   by-window true true p q =
-      let x : across ≡ hor g column row base = yes _ _ p in
-      let y : down ≡ ver g column row base = yes _ _ q in
-      made-by g column row base (and-intro p q) ∙ sym (λ i. madeBy (fixedOf g) (x i) (y i) base)
+      let x : across ≡ hor g accepted column row base = yes _ _ p in
+      let y : down ≡ ver g accepted column row base = yes _ _ q in
+      made-by g accepted column row base (and-intro p q) ∙ sym (λ i. madeBy (fixedOf g) (x i) (y i) base)
   by-window true false p q =
       let y : down ≡ nowhere = no _ _ q in
       made-outside g base column row (rw (p, q)) ∙ (out-made across nowhere (and-false (across .inside)) ∙ sym (λ i. madeBy (fixedOf g) across (y i) base))
@@ -103,11 +120,11 @@ module _ (g : Axes) (column row : ℕ) (base : List ℤ) where
   placed-by = by-window (insideAxis (g .horizontal) (sampleOf column)) (insideAxis (g .vertical) (sampleOf row)) refl refl
 
 -- the sort is that of the answer
-answer-sort : (s : Sort) (o : Origin) (m : List (List Motion)) → s ≡ sortOf (answerFor s o m)
+answer-sort : (s : Sort) (o : Basis) (m : List (List Motion)) → s ≡ sortOf (answerFor s o m)
 answer-sort SortInherited o m = refl
 answer-sort SortIntra o m = refl
 answer-sort SortOutside o m = refl
 
 pub sort-is : (f : Fixed) (h v : AxisRead) (base : List ℤ) → sortBy f h v base ≡ sortOf (madeBy f h v base .answer)
 unfolding madeBy answerBy
-sort-is f h v base = answer-sort (sortBy f h v base) (originBy h v) (motionsInside f (h .reads) (v .reads) base)
+sort-is f h v base = answer-sort (sortBy f h v base) (basisBy f h v base) (motionsInside f (h .reads) (v .reads) base)

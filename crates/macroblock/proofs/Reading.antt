@@ -12,12 +12,13 @@ use Rattle.definitions.specs.Basics.{four, pick}
 use Rattle.definitions.specs.Why.{Under, centreOf, middleOf, widthOf}
 use Rattle.gather.specs.Reads.{Rising}
 use Rattle.definitions.proofs.Under.{formula, under}
-use Rattle.definitions.specs.Geometry.{baseSize, scaledSize, insideAxis, sampleOf, cOf}
-use Rattle.definitions.specs.BlockMap.{stepOf, coordinateOf}
+use mathlib.Core.List.{List·Memᴰ, List·Memᴰ·head}
+use Rattle.definitions.specs.Geometry.{baseSize, scaledSize, insideAxis, sampleOf, cOf, columnsRead, fOf, twoOf}
+use Rattle.definitions.specs.BlockMap.{columnOf, stepOf, coordinateOf}
 use Rattle.definitions.specs.Accepted.{AcceptedAxis, Inside}
 use Rattle.definitions.proofs.Accepted.{inside-axis}
-use Rattle.definitions.proofs.Choices.{yes, no, four-at}
-use Rattle.definitions.proofs.Map.{f-below, coordinate-below, read-column}
+use Rattle.definitions.proofs.Choices.{each, yes, no, four-at}
+use Rattle.definitions.proofs.Map.{coordinate-below, named-read, read-column}
 use Rattle.macroblock.specs.Made.{Small, readIn, nowhere, readOf}
 
 -- ---- the coordinates that are read rise, and reach one macroblock far at the most
@@ -44,6 +45,20 @@ module _ (b s c : ℕ) (at-c : Inside b s c) where
         near = ⊎-elim (λ p. ⊎-elim (λ q. omega (arith, p, q)) (λ q. omega (arith, p, q .1)) l) (λ p. ⊎-elim (λ q. omega (arith, p .1, q)) (λ q. omega (arith, p .1, q .1)) l) f;
       }
 
+  -- the first lies in the first column (row), since that is read
+  least : (i : ℕ) → i < 4 → coordinateOf b s c 0 ≤ coordinateOf b s c i
+  least = let r = coordinates-rise in each (λ i. coordinateOf b s c 0 ≤ coordinateOf b s c i) (omega arith) (omega (arith, r)) (omega (arith, r)) (omega (arith, r))
+
+  pub first-column : columnOf (coordinateOf b s c 0) ≡ fOf b s c
+  unfolding columnsRead pick
+  first-column =
+      let n = named-read b s c at-c (first-named (fOf b s c) (twoOf b s c)) in
+      ⊎-elim (λ e. e) (λ e. omega (arith, e .1, n .2, least (n .0) (n .1))) (read-column b s c at-c 0 (omega arith))
+    where
+      first-named : (f : ℕ) (t : Bool) → List·Memᴰ f (columnsRead f t)
+      first-named f true = List·Memᴰ·head refl
+      first-named f false = List·Memᴰ·head refl
+
 module _ (a : Axis) (x : ℕ) where
   pub read-inside : {step : AxisStep} {r : AxisRead} → insideAxis a (sampleOf x) ≡ true → step ≡ stepOf a (sampleOf x) → r ≡ readIn step → r ≡ readOf a x
   unfolding readOf
@@ -68,7 +83,7 @@ module _ (a : Axis) (x : ℕ) where
   small accepted at-c = record {
     reads = λ i h. subst (λ (n : ℕ). n < 65536) (sym (four-at (coordinateOf (baseSize a) (scaledSize a) (cOf a (sampleOf x))) 0 i h))
         (omega (arith, accepted .sized .base-high, coordinate-below (baseSize a) (scaledSize a) (cOf a (sampleOf x)) at-c i h));
-    first = omega (arith, accepted .sized .base-high, f-below (baseSize a) (scaledSize a) (cOf a (sampleOf x)) at-c);
+    rising = coordinates-rise (baseSize a) (scaledSize a) (cOf a (sampleOf x)) at-c;
   }
 
   pub step-small : {step : AxisStep} → AcceptedAxis a → insideAxis a (sampleOf x) ≡ true → step ≡ stepOf a (sampleOf x) → Small step

@@ -26,7 +26,7 @@ use Rattle.definitions.proofs.Shapes.{samePairs, shapeOf, quadrantShape, shapes
 use Rattle.definitions.proofs.Steps.{settled-merged}
 use Rattle.gather.specs.Reads.{ReadableAt, Rising, blockAt, recordRead, motionRead, readBy, motionBy, setBy, gatheredBy}
 use Rattle.macroblock.specs.declared.Fixed.{Fixed}
-use Rattle.macroblock.specs.Made.{Ready, inheritedInside, motionsInside, onePart, resolvedInside}
+use Rattle.macroblock.specs.Made.{Ready, detailInside, inheritedInside, motionsInside, onePart, resolvedInside}
 use Rattle.motion.specs.Scales.{allScaled, motionScaled}
 use Rattle.macroblock.proofs.Motions.{merged-only, read-empty}
 
@@ -180,13 +180,13 @@ module _ (f : Fixed) (across down : List ℕ) (base : List ℤ) (ready : Ready f
       whole-split : S16x16 ≡ chosen (motionsInside f across down base)
       whole-split = sym (ap chosen whole-motions ∙ (chosen-is (four (λ q. four (λ k. motionScaled (f .scales) n))) ∙ uniform (motionScaled (f .scales) n)))
 
-      one-laid : (m : Motion) → laidOut (allOne 1 m) ≡ laidOut (dividedBy S16x16 (motionAt (four (λ q. four (λ k. m)))))
+      one-laid : (m : Motion) (d : ℤ) → laidOut (allOne 1 m d) ≡ laidOut (dividedBy S16x16 (motionAt (four (λ q. four (λ k. m)))) d)
       unfolding laidOut upTo
-      one-laid m = refl
+      one-laid m d = refl
 
-      pub whole-written : {m : Motion} → m ≡ motionScaled (f .scales) n → laidOut (allOne 1 m) ≡ inheritedInside f across down base
+      pub whole-written : {m : Motion} → m ≡ motionScaled (f .scales) n → laidOut (allOne 1 m (pos (detailInside f across down base))) ≡ inheritedInside f across down base
       unfolding inheritedInside
       whole-written {m} e =
           let p = whole-split in
           let q = ap (λ (m : Motion). four (λ j. four (λ k. m))) e ∙ sym whole-motions in
-          one-laid m ∙ (λ i. laidOut (dividedBy (p i) (motionAt (q i))))
+          one-laid m (pos (detailInside f across down base)) ∙ (λ i. laidOut (dividedBy (p i) (motionAt (q i)) (pos (detailInside f across down base))))
