@@ -147,10 +147,11 @@ pub half-at : (k : ℕ) → k < 8 → getD (upTo 8 inHalf) k 0 ≡ inHalf k
 half-at = listed 8 inHalf
 
 -- a set of columns as rows
-pub rows-at : (c : ℕ) → c < 64 → (getD (upTo 64 asRows) c 0 ≡ asRows c) × (getD (upTo 64 asRows) c 0 < 2048)
-rows-at c h =
-    let e = listed 64 asRows c h in
-    (e, omega (arith, e))
+pub rows-at : (c : ℕ) → c < 64 → getD (upTo 64 asRows) c 0 ≡ asRows c
+rows-at = listed 64 asRows
+
+pub rows-below : (c : ℕ) → c < 64 → getD (upTo 64 asRows) c 0 < 2048
+rows-below c h = omega (arith, rows-at c h)
 
 -- ---- One bit of a number, as it is computed; and the four where each quadrant reads the one in its own place
 odd-bit : (m : ℕ) → m < 2 → bit (eqb m 1) ≡ m
