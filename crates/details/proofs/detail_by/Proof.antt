@@ -1,13 +1,12 @@
 -- `details::detail_by` meets its contract. Assumes nothing.
-use Prim.Native.Nat.{ℕ, _+_, _*_, _<_}
-use mathlib.Core.Path.{_≡_, ap, _∙_}
+use Prim.Native.Nat.{ℕ, _+_, _*_}
+use mathlib.Core.Path.{ap, _∙_}
 use native.Mathlib.Omega.{arith}
 use lib.ListN.{getD}
 use Rattle.definitions.specs.Basics.{upTo}
-use Rattle.details.specs.Bits.{asRows, masked}
+use Rattle.details.specs.Bits.{masked}
 use Rattle.details.proofs.Masks.{rows-at, rows-below}
-use mir.Syntax.{w32}
-use borrow.Author.Needs.{fits-under, needs}
+use borrow.Author.Needs.{needs}
 use Rattle.details.proofs.detail_by.Statement.{statement}
 use Rattle.details.proofs.detail_by.Tie as tie
 
