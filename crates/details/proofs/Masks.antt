@@ -1,19 +1,21 @@
--- The bits of a number that a mask leaves, and the masks that are made of a set of columns and a set of rows. Plain numbers only. Assumes nothing.
-use Prim.Native.Nat.{ℕ, zero, suc, _+_, _-_, _*_, _/_, _%_, _^_, _≤_, _<_, min, max}
-use mathlib.Core.Path.{_≡_, refl, sym, ap, ap₂, subst, _∙_}
+-- Masks: the bits of a number that a mask leaves, the masks that a set of columns and a set of rows make, and the tables of sets. Of numbers alone. Assumes nothing.
+use Prim.Native.Nat.{ℕ, zero, suc, _+_, _-_, _*_, _/_, _%_, _^_, _<_, min, max}
+use mathlib.Core.Path.{_≡_, refl, sym, ap, ap₂, _∙_}
 use mathlib.Core.Bool.{Bool, true, false, _&&_, _||_, not}
 use mathlib.Core.List.{List, [], _∷_}
-use native.Mathlib.Nat.{div-div-eq-div-mul}
+use mathlib.Core.Logic.{⊎-elim}
+use native.Mathlib.Nat.{div-div-eq-div-mul, eq-or-lt-of-le, le-of-suc-le-suc, not-suc-le-zero}
 use native.Mathlib.Omega.{arith}
 use lib.Arith.{bin-ind}
 use lib.Bits.{bitAnd, bitOr, and-step, or-step, and-shr, or-shr, and-high, and-mask, or-add-and, and-le-l, and-le-r}
 use lib.Dec.{eqb, ltb}
-use lib.ListN.{getD}
+use lib.ListN.{getD, List·getD-append}
 use lib.Pow.{pow-add, pow-pos}
+use lib.Seq.{getD-append-seam}
 use borrow.Author.Tests.{eqb-true, eq-eqb, ltb-true, ne-eqb}
 use Rattle.definitions.specs.Basics.{allBelow, bitSet, pick, upTo}
 use Rattle.definitions.specs.Inheriting.{someOf}
-use Rattle.definitions.proofs.Choices.{and-intro, below-true, both-true, both-ways, each}
+use Rattle.definitions.proofs.Choices.{and-intro, below-true, both-true, both-ways, each, upTo-length}
 use Rattle.gather.proofs.Sets.{bit}
 use Rattle.details.specs.Bits.{Own, asRows, fourMasked, masked}
 
@@ -61,7 +63,7 @@ hit-or n a b =
     ap (λ (x : ℕ). not (eqb x 0)) (and-or n a b)
     ∙ (ap not (none-or (bitAnd n a) (bitAnd n b)) ∙ not-and (eqb (bitAnd n a) 0) (eqb (bitAnd n b) 0))
 
--- a mask of one bit
+-- of a mask of one bit, that bit
 and-one : (n k : ℕ) → bitAnd n (2 ^ k) ≡ (n / 2 ^ k % 2) * 2 ^ k
 and-one n k =
     let e : 2 ^ k ≡ 2 ^ (1 + k) - 2 ^ k = omega (arith, pow-add 2 1 k) in
@@ -75,12 +77,12 @@ odd-hit (suc (suc m)) w l h = absurd (omega arith)
 hit-one : (n k : ℕ) → hit n (2 ^ k) ≡ bitSet n k
 hit-one n k = ap (λ (x : ℕ). not (eqb x 0)) (and-one n k) ∙ odd-hit (n / 2 ^ k % 2) (2 ^ k) (omega arith) (pow-pos k)
 
+-- of a mask of four bits, one of them
 masked-hit : (t : Bool) → pick t 0 1 ≡ bit (not t)
 unfolding pick
 masked-hit true = refl
 masked-hit false = refl
 
--- a mask of four bits
 pub masked-four : (n a b c d : ℕ) → masked n (bitOr (2 ^ a) (bitOr (2 ^ b) (bitOr (2 ^ c) (2 ^ d)))) ≡ bit (someOf (bitSet n a ∷ bitSet n b ∷ bitSet n c ∷ bitSet n d ∷ []))
 unfolding someOf
 masked-four n a b c d =
@@ -90,7 +92,8 @@ masked-four n a b c d =
     ∙ ap₂ _||_ (hit-one n a)
     (hit-or n (2 ^ b) (bitOr (2 ^ c) (2 ^ d)) ∙ ap₂ _||_ (hit-one n b) (hit-or n (2 ^ c) (2 ^ d) ∙ ap₂ _||_ (hit-one n c) (hit-one n d))))
 
--- ---- The mask of two columns and two rows has the bit of each column and row. Columns and rows are given by their macroblock of two and their half of it.
+-- ---- Two columns times two rows: the bit of each column and row
+-- where the bits stand of half i of the four that two macroblocks have along an axis
 abbrev pub place : ℕ → ℕ
 place i = 4 * (i / 2) + i % 2
 
@@ -113,6 +116,7 @@ unfolding product-test
 mask-is i j k l hi hj hk hl =
     eqb-true _ _ (below-true 4 _ (below-true 4 _ (below-true 4 _ (below-true 4 _ all-products i hi) j hj) k hk) l hl)
 
+-- two columns are a set of six
 pair-test : ℕ → ℕ → Bool
 pair-test i j = ltb (pair (place i) (place j)) 64
 
@@ -124,34 +128,30 @@ pub pair-below : (i j : ℕ) → i < 4 → j < 4 → pair (place i) (place j) < 
 unfolding pair-test
 pair-below i j hi hj = ltb-true _ _ (below-true 4 _ (below-true 4 _ all-pairs i hi) j hj)
 
--- ---- Tables: what block k from the first macroblock on adds to a set of columns, and a set of columns as rows
+-- ---- Tables. A list made by an index holds at each place what is made there. The code's two tables are such lists, which the check of a function that reads one computes.
+listed : (n : ℕ) (f : ℕ → ℕ) (k : ℕ) → k < n → getD (upTo n f) k 0 ≡ f k
+unfolding upTo
+listed zero f k h = absurd (not-suc-le-zero h)
+listed (suc n) f k h =
+    let long = upTo-length n f in
+    ⊎-elim
+    (λ e. ap (λ (i : ℕ). getD (upTo (suc n) f) i 0) (e ∙ sym long) ∙ (getD-append-seam (upTo n f) (f n) [] 0 ∙ ap f (sym e)))
+    (λ l. List·getD-append (upTo n f) (f n ∷ []) 0 k (omega (arith, l, long)) ∙ listed n f k l)
+    (eq-or-lt-of-le (le-of-suc-le-suc h))
+
+-- what block k from the first macroblock on adds to a set of columns
 abbrev pub inHalf : ℕ → ℕ
 inHalf k = 2 ^ (4 * (k / 4) + k % 4 / 2)
 
-half-test : ℕ → Bool
-half-test k = eqb (getD (upTo 8 inHalf) k 0) (inHalf k)
-
-all-halves : allBelow 8 half-test ≡ true
-unfolding allBelow half-test upTo
-all-halves = refl
-
 pub half-at : (k : ℕ) → k < 8 → getD (upTo 8 inHalf) k 0 ≡ inHalf k
-unfolding half-test
-half-at k h = eqb-true _ _ (below-true 8 half-test all-halves k h)
+half-at = listed 8 inHalf
 
-rows-test : ℕ → Bool
-rows-test c = eqb (getD (upTo 64 asRows) c 0) (asRows c) && ltb (asRows c) 2048
+-- a set of columns as rows
+pub rows-at : (c : ℕ) → c < 64 → getD (upTo 64 asRows) c 0 ≡ asRows c
+rows-at = listed 64 asRows
 
-all-rows : allBelow 64 rows-test ≡ true
-unfolding allBelow rows-test upTo
-all-rows = refl
-
-pub rows-at : (c : ℕ) → c < 64 → (getD (upTo 64 asRows) c 0 ≡ asRows c) × (getD (upTo 64 asRows) c 0 < 2048)
-unfolding rows-test
-rows-at c h =
-    let b = both-true (eqb (getD (upTo 64 asRows) c 0) (asRows c)) (ltb (asRows c) 2048) (below-true 64 rows-test all-rows c h) in
-    let e = eqb-true (getD (upTo 64 asRows) c 0) (asRows c) (b .0) in
-    (e, subst (λ (n : ℕ). n < 2048) (sym e) (ltb-true (asRows c) 2048 (b .1)))
+pub rows-below : (c : ℕ) → c < 64 → getD (upTo 64 asRows) c 0 < 2048
+rows-below c h = omega (arith, rows-at c h)
 
 -- ---- One bit of a number, as it is computed; and the four where each quadrant reads the one in its own place
 odd-bit : (m : ℕ) → m < 2 → bit (eqb m 1) ≡ m
@@ -192,7 +192,11 @@ low-bit x y h =
     same e q = ap (λ (m : ℕ). eqb m 1) q
 
 high-bit : (x y : ℕ) → x < 16 → (e : ℕ) → bitSet (x + 16 * y) (4 + e) ≡ bitSet y e
-high-bit x y h e = ap (λ (m : ℕ). eqb (m % 2) 1) (ap (λ (m : ℕ). (x + 16 * y) / m) (pow-add 2 4 e) ∙ (sym (div-div-eq-div-mul (x + 16 * y) 16 (2 ^ e)) ∙ ap (λ (m : ℕ). m / 2 ^ e) (let q : (x + 16 * y) / 16 ≡ y = omega arith in q)))
+high-bit x y h e =
+    let n : ℕ = x + 16 * y in
+    let q : n / 16 ≡ y = omega arith in
+    ap (λ (m : ℕ). eqb (m % 2) 1)
+    (ap (λ (m : ℕ). n / m) (pow-add 2 4 e) ∙ (sym (div-div-eq-div-mul n 16 (2 ^ e)) ∙ ap (λ (m : ℕ). m / 2 ^ e) q))
 
 abbrev pub joined : ℕ → ℕ → ℕ → ℕ → ℕ
 joined a b c d = a + 16 * b + 256 * c + 4096 * d

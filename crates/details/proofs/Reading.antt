@@ -1,7 +1,7 @@
 -- The detail of a macroblock by the bits of the macroblocks that its corner blocks read (specs/Bits). Assumes nothing.
-use Prim.Native.Nat.{ℕ, zero, suc, _+_, _-_, _*_, _/_, _%_, _^_, _≤_, _<_}
+use Prim.Native.Nat.{ℕ, _+_, _-_, _*_, _/_, _%_, _^_, _≤_, _<_}
 use mathlib.Core.Path.{_≡_, refl, sym, ap, subst, _∙_}
-use mathlib.Core.Bool.{Bool, true, false, _&&_, _||_}
+use mathlib.Core.Bool.{Bool, true, false}
 use mathlib.Core.List.{List, [], _∷_}
 use mathlib.Core.Logic.{⊎-elim}
 use native.Mathlib.Nat.{eq-or-lt-of-le}
@@ -18,19 +18,19 @@ use Rattle.definitions.proofs.Choices.{each, four-same}
 use Rattle.definitions.proofs.Formed.{rules-of}
 use Rattle.definitions.proofs.Sameness.{set-same}
 use Rattle.records.proofs.Words.{four-bits}
-use Rattle.gather.specs.Reads.{Readable, ReadableAt, Rising, blockAt, recordRead}
+use Rattle.gather.specs.Reads.{Readable, Rising, blockAt, recordRead}
 use Rattle.gather.proofs.Sets.{bit, bits-set}
-use Rattle.details.specs.Bits.{InOne, Own, asRows, detailBy, detailRead, detailsBy, fourMasked, halvesOf, masked, pairOf, placeOf, quadrantReads, wordRead}
+use Rattle.details.specs.Bits.{InOne, asRows, detailBy, detailRead, detailsBy, fourMasked, halvesOf, masked, pairOf, placeOf, quadrantReads, wordRead}
 use Rattle.details.proofs.Masks.{bit-first, bit-fourth, bit-second, bit-third, half-at, inHalf, mask-is, masked-four, one-bit, pair, pair-below, place}
 
 -- ---- Along an axis
--- what lies between the first coordinate and the last
+-- each coordinate lies between the first and the last
 between : (x : List ℕ) → Rising x → (i : ℕ) → i < 4 → (getD x 0 0 ≤ getD x i 0) × (getD x i 0 ≤ getD x 3 0)
 between x r =
     each (λ i. (getD x 0 0 ≤ getD x i 0) × (getD x i 0 ≤ getD x 3 0))
     (omega (arith, r), omega (arith, r)) (omega (arith, r), omega (arith, r)) (omega (arith, r), omega (arith, r)) (omega (arith, r), omega (arith, r))
 
--- the place of a block's bits, by its macroblock of two and its half of it as one number below 4
+-- which half of the four that two macroblocks have a block lies in, and where its bits stand
 abbrev half : ℕ → ℕ → ℕ
 half first x = 2 * (columnOf x - columnOf first) + blockIn x / 2
 
@@ -40,7 +40,7 @@ half-below x r i h = omega (arith, r, between x r i h)
 half-place : (first x : ℕ) → place (half first x) ≡ placeOf first x
 half-place first x = omega arith
 
--- what holds of a block whose macroblock is the first one's holds of each, if it holds of those in the next one, which is the last block's
+-- a block lies in the macroblock of the first block, or else in that of the last one, which is the next
 by-side : (P : Type 0) (x : List ℕ) → Rising x → (i : ℕ) → i < 4
     → (columnOf (getD x 0 0) ≡ columnOf (getD x i 0) → P)
     → (columnOf (getD x 3 0) ≡ columnOf (getD x i 0) → columnOf (getD x i 0) ≡ columnOf (getD x 0 0) + 1 → P)
@@ -50,7 +50,7 @@ by-side P x r i h near far =
     (λ l. far (omega (arith, r, between x r i h, l)) (omega (arith, r, between x r i h, l)))
     (eq-or-lt-of-le (let q : columnOf (getD x 0 0) ≤ columnOf (getD x i 0) = omega (arith, between x r i h) in q))
 
--- the sets of the halves, as a table of eight gives them; they are sets of six
+-- the sets of an axis as a table of eight gives them, and that they are sets of six
 half-of : (x : List ℕ) → Rising x → (i : ℕ) → i < 4 → getD (upTo 8 inHalf) (getD x i 0 - getD x 0 0 / 4 * 4) 0 ≡ 2 ^ placeOf (getD x 0 0) (getD x i 0)
 half-of x r i h =
     let k : ℕ = getD x i 0 - getD x 0 0 / 4 * 4 in
@@ -101,7 +101,7 @@ module _ (width : ℕ) (across down : List ℕ) (base : List ℤ) (a : Rising ac
   abbrev reads : ℕ → ℕ → Bool
   reads i j = detailRead width base (x i) (y j)
 
-  -- those of a quadrant, from its first block on
+  -- those of a quadrant whose first block is at i and k
   abbrev square : ℕ → ℕ → List Bool
   square i k = reads i k ∷ reads (i + 1) k ∷ reads i (k + 1) ∷ reads (i + 1) (k + 1) ∷ []
 
@@ -134,7 +134,7 @@ module _ (width : ℕ) (across down : List ℕ) (base : List ℤ) (a : Rising ac
         let h = quadrant 2 2 (omega arith) (omega arith) in
         (λ t. e t + 2 * f t + 4 * g t + 8 * h t) ∙ bits-set (quadrantReads width across down base)
 
-  -- ---- the bits of a macroblock; its quadrant's in which a block lies
+  -- ---- The bits of the macroblock in a column and a row; which of them is the one of the quadrant that a block reads
   abbrev word : ℕ → ℕ → ℕ
   word column row = natAbs (detailOf (recordAt base (row * width + column)))
 
@@ -146,7 +146,7 @@ module _ (width : ℕ) (across down : List ℕ) (base : List ℤ) (a : Rising ac
       let e : part i j ≡ quadrantOf (blockAt (x i) (y j)) = omega arith in
       λ t. bitSet (word (p t) (q t)) (e t)
 
-  -- where all lie in one macroblock
+  -- ---- Where one macroblock is read, its bits are enough
   pub detail-one : InOne 4 across → InOne 4 down
       → fourMasked (wordRead width base (x 0) (y 0)) (halvesOf across) (halvesOf down) ≡ detailBy width across down base
   detail-one o u = by-sets (wordRead width base (x 0) (y 0)) (λ i j hi hj.
@@ -155,7 +155,7 @@ module _ (width : ℕ) (across down : List ℕ) (base : List ℤ) (a : Rising ac
       let e : placeOf (x 0) (x i) + 2 * placeOf (y 0) (y j) ≡ part i j = omega (arith, p, q) in
       ap (bitSet (word (columnOf (x 0)) (columnOf (y 0)))) e ∙ read-of i j p q)
 
-  -- where they lie in one quadrant of it
+  -- ---- Where one quadrant of one is read, its bit is all four
   module _ (o : InOne 2 across) (u : InOne 2 down) where
     same-read : (i j : ℕ) → i < 4 → j < 4 → reads i j ≡ reads 0 0
     same-read i j hi hj =
@@ -181,7 +181,7 @@ module _ (width : ℕ) (across down : List ℕ) (base : List ℤ) (a : Rising ac
         (each (λ q. quadrantReads width across down base q ≡ reads 0 0)
         (same-square 0 0 (omega arith) (omega arith)) (same-square 2 0 (omega arith) (omega arith)) (same-square 0 2 (omega arith) (omega arith)) (same-square 2 2 (omega arith) (omega arith))))))
 
-  -- in all of them
+  -- ---- And those of the corners' macroblocks are enough everywhere
   module _ (readable : Readable width across down base) where
     small : (i : ℕ) → i < 16 → wordRead width base (x (i % 4)) (y (i / 4)) < 16
     unfolding rule7

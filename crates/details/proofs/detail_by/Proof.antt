@@ -1,13 +1,12 @@
 -- `details::detail_by` meets its contract. Assumes nothing.
-use Prim.Native.Nat.{ℕ, _+_, _*_, _<_}
-use mathlib.Core.Path.{_≡_, ap, _∙_}
+use Prim.Native.Nat.{ℕ, _+_, _*_}
+use mathlib.Core.Path.{ap, _∙_}
 use native.Mathlib.Omega.{arith}
 use lib.ListN.{getD}
 use Rattle.definitions.specs.Basics.{upTo}
-use Rattle.details.specs.Bits.{asRows, masked}
-use Rattle.details.proofs.Masks.{rows-at}
-use mir.Syntax.{w32}
-use borrow.Author.Needs.{fits-under, needs}
+use Rattle.details.specs.Bits.{masked}
+use Rattle.details.proofs.Masks.{rows-at, rows-below}
+use borrow.Author.Needs.{needs}
 use Rattle.details.proofs.detail_by.Statement.{statement}
 use Rattle.details.proofs.detail_by.Tie as tie
 
@@ -37,7 +36,7 @@ array-read-upper-2 c = search needs
 
 cast-upper-2 : tie.Need-cast-upper-2
 unfolding upTo
-cast-upper-2 c = fits-under w32 _ 2048 (rows-at (getD (c .args .t3) 0 0) (c .pre .2) .1) tt
+cast-upper-2 c = search (needs, rows-below)
 
 array-read-lower : tie.Need-array-read-lower
 array-read-lower c = search needs
@@ -53,23 +52,23 @@ array-read-lower-2 c = search needs
 
 cast-lower-2 : tie.Need-cast-lower-2
 unfolding upTo
-cast-lower-2 c = fits-under w32 _ 2048 (rows-at (getD (c .args .t3) 1 0) (c .pre .3) .1) tt
+cast-lower-2 c = search (needs, rows-below)
 
 any-requires : tie.Need-any-requires
 unfolding upTo
-any-requires c κs = let s = c in (s .pre .0, rows-at (getD (s .args .t3) 0 0) (s .pre .2) .1)
+any-requires c κs = search (needs, rows-below)
 
 any-requires-2 : tie.Need-any-requires-2
 unfolding upTo
-any-requires-2 c κs = let s = c .before in (s .pre .1, rows-at (getD (s .args .t3) 0 0) (s .pre .2) .1)
+any-requires-2 c κs = search (needs, rows-below)
 
 any-requires-3 : tie.Need-any-requires-3
 unfolding upTo
-any-requires-3 c κs = let s = c .before .before in (s .pre .0, rows-at (getD (s .args .t3) 1 0) (s .pre .3) .1)
+any-requires-3 c κs = search (needs, rows-below)
 
 any-requires-4 : tie.Need-any-requires-4
 unfolding upTo
-any-requires-4 c κs = let s = c .before .before .before in (s .pre .1, rows-at (getD (s .args .t3) 1 0) (s .pre .3) .1)
+any-requires-4 c κs = search (needs, rows-below)
 
 mul-result : tie.Need-mul-result
 mul-result c = search needs
@@ -99,8 +98,8 @@ returns c =
     let bits = s .args .bits in
     let left = getD (s .args .t2) 0 0 in
     let right = getD (s .args .t2) 1 0 in
-    let upper = rows-at (getD (s .args .t3) 0 0) (s .pre .2) .0 in
-    let lower = rows-at (getD (s .args .t3) 1 0) (s .pre .3) .0 in
+    let upper = rows-at (getD (s .args .t3) 0 0) (s .pre .2) in
+    let lower = rows-at (getD (s .args .t3) 1 0) (s .pre .3) in
     let p = c .before .before .before .any .ensures in
     let q = c .before .before .any2 .ensures in
     let r = c .before .any3 .ensures in

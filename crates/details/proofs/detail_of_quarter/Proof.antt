@@ -1,11 +1,10 @@
 -- `details::detail_of_quarter` meets its contract. Assumes nothing.
-use Prim.Native.Nat.{ℕ, _+_, _*_, _/_, _%_, _^_, _<_}
+use Prim.Native.Nat.{ℕ, _+_, _*_, _/_, _%_, _^_, _≤_}
 use mathlib.Core.Path.{ap, _∙_}
 use native.Mathlib.Omega.{arith}
 use lib.Bits.{bitAnd, and-le-r}
 use lib.ListN.{getD}
-use mir.Syntax.{w8, w32}
-use borrow.Author.Needs.{fits-under, needs}
+use borrow.Author.Needs.{needs}
 use Rattle.details.proofs.Reading.{detail-quarter}
 use Rattle.details.proofs.detail_of_quarter.Statement.{statement}
 use Rattle.details.proofs.detail_of_quarter.Tie as tie
@@ -31,23 +30,23 @@ cast-result c = search needs
 shr-result : tie.Need-shr-result
 shr-result c = search needs
 
--- how far the bits are shifted, and that the answer has four
+-- how far the bits are shifted, and that one is left
 abbrev by : tie.After-reads-detail → ℕ
 by c = 2 * (getD (c .before .args .t4) 0 0 % 4 / 2) + getD (c .before .args .t3) 0 0 % 4 / 2
 
-below : (c : tie.After-reads-detail) → 15 * bitAnd (c .reads-detail .result / 2 ^ by c) 1 < 16
-below c = omega (arith, and-le-r (c .reads-detail .result / 2 ^ by c) 1)
+one : (c : tie.After-reads-detail) → bitAnd (c .reads-detail .result / 2 ^ by c) 1 ≤ 1
+one c = and-le-r (c .reads-detail .result / 2 ^ by c) 1
 
 mul-result-2 : tie.Need-mul-result-2
-mul-result-2 c = fits-under w32 _ 16 (below c) tt
+mul-result-2 c = omega (arith, one c)
 
 cast-result-2 : tie.Need-cast-result-2
-cast-result-2 c = fits-under w8 _ 16 (below c) tt
+cast-result-2 c = omega (arith, one c)
 
 returns : tie.Need-returns
 returns c =
     let p = c .before .pre in
-    (ap (λ (n : ℕ). 15 * bitAnd (n / 2 ^ by c) 1) (c .reads-detail .ensures .0) ∙ detail-quarter _ _ _ _ (p .2) (p .3) (p .4) (p .5), below c)
+    (ap (λ (n : ℕ). 15 * bitAnd (n / 2 ^ by c) 1) (c .reads-detail .ensures .0) ∙ detail-quarter _ _ _ _ (p .2) (p .3) (p .4) (p .5), omega (arith, one c))
 
 pub detail-of-quarter-spec : {M : Type 1} → statement M
 detail-of-quarter-spec =
