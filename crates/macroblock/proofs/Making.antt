@@ -4,7 +4,7 @@ use mathlib.Core.Path.{_≡_, refl, sym, ap, subst, _∙_}
 use mathlib.Core.Bool.{Bool, true, false, true≢false, _&&_, _||_}
 use mathlib.Core.List.{List, []}
 use native.Mathlib.Omega.{arith}
-use lib.IntN.{ℤ, pos}
+use lib.IntN.{ℤ, pos, natAbs}
 use lib.ListN.{getD}
 use Rattle.definitions.specs.declared.Motion.{Motion}
 use Rattle.motion.specs.declared.BlockMotion.{BlockMotion}
@@ -15,21 +15,25 @@ use Rattle.common.specs.declared.counts.Sort.{Sort}
 use Rattle.common.specs.declared.counts.Sort.the-variants.{Inherited, Intra, Outside}
 use Rattle.definitions.specs.Basics.{between, four, minus, pick}
 use Rattle.definitions.specs.Blocks.{rasterOf}
-use Rattle.definitions.specs.Record.{laidOut, narrow, splitSaid}
+use Rattle.definitions.specs.Record.{allOne, detailOf, laidOut, narrow, rule7, splitSaid}
 use Rattle.definitions.specs.Inheriting.{at, chosen, mostlyIntra, motionAt, resolved, zeroMotion}
-use Rattle.definitions.specs.Answer.{dividedBy, withoutMotion}
-use Rattle.definitions.proofs.Choices.{both-false, four-at, no, pick-cases, yes}
+use Rattle.definitions.specs.Answer.{dividedBy, unusedMotion, withoutMotion}
+use Rattle.definitions.proofs.Choices.{and-intro, both-false, four-at, no, pick-cases, yes}
 use Rattle.definitions.proofs.Promises.{split-said}
-use Rattle.definitions.proofs.Records.{raster-below}
+use Rattle.definitions.proofs.Records.{laid-detail, raster-below}
 use Rattle.definitions.proofs.Sameness.{set-same}
+use Rattle.definitions.proofs.Sets.{set-below}
+use Rattle.details.specs.Bits.{detailBy, quadrantReads}
+use borrow.Author.Tests.{le-leb}
 use Rattle.definitions.proofs.Steps.{Both, resolved-keeps, resolved-settled}
 use Rattle.motion.specs.ByValue.{AllWritable, InWords, Writable, motionIn, motionsIn, quadrantsIn, zeroBlock}
 use Rattle.motion.specs.declared.Scale.{Scale}
 use Rattle.motion.specs.declared.Scales.{Scales}
 use Rattle.motion.specs.Scales.{AcceptedScale, AcceptedScales, allScaled, motionScaled, scaledWith}
 use Rattle.writing.proofs.Rounded.{fitting, reference-fits}
-use mir.Syntax.{w16}
-use mir.Val.{SFits}
+use mir.Facts.{toZ-pos}
+use mir.Syntax.{w8, w16}
+use mir.Val.{Fits, SFits, toZ}
 use Rattle.gather.specs.Reads.{Readable, ReadableAt, Rising, beside, cornersBy, gatheredBy, motionBy, motionRead, setAmong}
 use Rattle.gather.proofs.Sets.{set-corners}
 use Rattle.macroblock.specs.Made.{answerBy, answerFor, basisBy, detailInside, inheritedInside, motionsInside, resolvedInside, setInside, sortBy, sortInside, writtenBy, writtenInside}
@@ -67,6 +71,15 @@ module _ (width : ℕ) (across down : List ℕ) (base : List ℤ) (readable : Re
           ap (λ (n : Motion). n .list1 .reference) (sym (block k hk) ∙ same k) ∙ (settled .one1 k hk ∙ ap (λ (n : Motion). n .list1 .reference) (sym (same 0) ∙ block 0 (omega arith))),
         );
       }
+
+-- ---- the detail
+detail-low : (width : ℕ) (across down : List ℕ) (base : List ℤ) → detailBy width across down base < 16
+unfolding detailBy
+detail-low width across down base = set-below 4 (quadrantReads width across down base)
+
+-- as a word
+pub detail-word : (n d : ℕ) → Fits w8 n → n ≡ d → toZ w16 n ≡ pos d
+detail-word n d fits e = toZ-pos w16 {n = n} (omega (arith, fits .fits)) ∙ ap pos e
 
 -- ---- inside
 none-beside : {t u : Bool} (x : List ℕ) (i : ℕ) → t ≡ false → u ≡ false → beside x i t u ≡ false
@@ -146,7 +159,40 @@ module _ (f : Fixed) (h v : AxisRead) (base : List ℤ) where
   unfolding sortBy writtenBy
   placed-out e q = (sym (no _ _ e), q ∙ sym (no _ _ e))
 
--- ---- the answer, and where it inherits the split that its record says
+-- ---- the answer, its detail, and where it inherits the split that its record says
+abbrev pub placed : Sort → Bool
+placed Inherited = true
+placed Intra = true
+placed Outside = false
+
+module _ (f : Fixed) (h v : AxisRead) (base : List ℤ) where
+  sort-inside : {s : Sort} → s ≡ sortBy f h v base → placed s ≡ true → (h .inside && v .inside) ≡ true
+  unfolding sortBy
+  sort-inside {s} e p = by (h .inside && v .inside) refl
+    where
+      by : (t : Bool) → (h .inside && v .inside) ≡ t → t ≡ true
+      by true q = refl
+      by false q = absurd (true≢false (sym p ∙ ap placed (e ∙ no _ _ q)))
+
+  written-detail : (h .inside && v .inside) ≡ true → {words : List ℤ} → words ≡ writtenBy f h v base → detailOf words ≡ pos (detailInside f (h .reads) (v .reads) base)
+  unfolding writtenBy writtenInside inheritedInside
+  written-detail e w =
+      let D = pos (detailInside f (h .reads) (v .reads) base) in
+      let m = motionsInside f (h .reads) (v .reads) base in
+      ap detailOf (w ∙ yes _ _ e)
+      ∙ pick-cases (λ (l : List ℤ). detailOf l ≡ D) (mostlyIntra (setInside f (h .reads) (v .reads) base)) (withoutMotion 0 D) (laidOut (dividedBy (chosen m) (motionAt m) D))
+      (λ t. laid-detail (allOne 0 unusedMotion D)) (λ t. laid-detail (dividedBy (chosen m) (motionAt m) D))
+
+  -- the record of an answer that is not outside says its detail
+  pub says-detail : {s : Sort} → s ≡ sortBy f h v base → placed s ≡ true → {words : List ℤ} → words ≡ writtenBy f h v base
+      → (rule7 words ≡ true) × (natAbs (detailOf words) ≡ detailInside f (h .reads) (v .reads) base)
+  unfolding rule7
+  says-detail e p w =
+      let d = written-detail (sort-inside e p) w in
+      let D = detailInside f (h .reads) (v .reads) base in
+      let low = detail-low (f .width) (h .reads) (v .reads) base in
+      (ap (between (pos 0) (pos 15)) d ∙ and-intro (le-leb 0 D (omega arith)) (le-leb D 15 (omega arith)), ap natAbs d)
+
 inherits : Sort → Bool
 inherits Inherited = true
 inherits Intra = false

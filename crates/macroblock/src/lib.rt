@@ -350,13 +350,16 @@ fn origin_of(h: AxisRead, v: AxisRead) -> Origin
 {
     Origin {
         class: class_of(h.two, v.two),
-        column: (h.reads[0] / 4) as u32,
-        row: (v.reads[0] / 4) as u32,
+        column: h.reads[0] as u32 / 4,
+        row: v.reads[0] as u32 / 4,
     }
 }
 
 // With the detail that a written record says.
-fn basis_of(h: AxisRead, v: AxisRead, out: &[i16]) -> Basis {
+fn basis_of(h: AxisRead, v: AxisRead, out: &[i16]) -> Basis
+    requires { ⌜ (length (now out) ≡ recordWords) × (rule7 (now out) ≡ true) ⌝ }
+    ensures { λ r. ⌜ r ≡ record { origin = originBy h v; detail = natAbs (detailOf (now (out .entry))) } ⌝ }
+{
     Basis {
         origin: origin_of(h, v),
         detail: out[DETAIL] as u8,

@@ -49,8 +49,8 @@ fn check_read(g: Axes, base: &[i16], h: AxisRead, v: AxisRead) -> Verdict
     requires { ⌜ (baseSize (g .horizontal) ≤ 4096) × (v .first < 65536) × InBase (now base) (addressesOf g (originBy h v)) ⌝ }
     ensures { λ r. ⌜ r ≡ verdictOf (recordTests narrow (now (base .entry)) (addressesOf g (originBy h v))) ⌝ }
 {
-    let column = (h.reads[0] / 4) as u32;
-    let row = (v.reads[0] / 4) as u32;
+    let column = h.reads[0] as u32 / 4;
+    let row = v.reads[0] as u32 / 4;
     let columns = h.two;
     if v.two {
         return match check_row(g, base, column, columns, row) {

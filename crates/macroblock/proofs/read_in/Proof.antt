@@ -31,14 +31,15 @@ element-copy-out-t17 c = search needs
 cast-t18 : tie.Need-cast-t18
 cast-t18 c = record { fits = c .before .before .before .before .pre .reads 3 (omega arith) }
 
-cast-t21 : tie.Need-cast-t21
-cast-t21 c = search needs
+halves-of-requires : tie.Need-halves-of-requires
+halves-of-requires c κs = search needs
 
 returns : tie.Need-returns
 returns c =
-    let s = c .before .before .before .before .args .t1 in
+    let s = c .before .before .before .before .before .before .args .t1 in
     let e = sym (four-is (s .reads) 0 (search needs)) in
-    λ i. record { reads = e i; first = s .first; two = s .two; inside = true }
+    let h = c .halves-of .ensures in
+    λ i. record { reads = e i; halves = h i; two = s .two; inside = true }
 
 pub read-in-spec : {M : Type 1} → statement M
 read-in-spec =
@@ -52,5 +53,5 @@ read-in-spec =
     cast-t14
     element-copy-out-t17
     cast-t18
-    cast-t21
+    halves-of-requires
     returns)
