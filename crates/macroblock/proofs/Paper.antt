@@ -8,6 +8,7 @@ use Rattle.definitions.specs.declared.Axes.{Axes}
 use Rattle.definitions.specs.declared.Answer.the-variants.{Inherited, Intra, Outside}
 use Rattle.definitions.specs.declared.Motion.{Motion}
 use Rattle.definitions.specs.declared.Basis.{Basis}
+use Rattle.definitions.specs.declared.Origin.{Origin}
 use Rattle.macroblock.specs.declared.AxisRead.{AxisRead}
 use Rattle.macroblock.specs.declared.Fixed.{Fixed}
 use Rattle.common.specs.declared.counts.Sort.{Sort}
@@ -28,7 +29,7 @@ use Rattle.macroblock.proofs.Reading.{first-column}
 use Rattle.definitions.proofs.Answers.{made-outside}
 use Rattle.motion.proofs.ByScales.{all-by-scales}
 use Rattle.gather.specs.Reads.{motionRead, setBy, gatheredBy}
-use Rattle.macroblock.specs.Made.{answerBy, answerFor, basisBy, fixedOf, inheritedInside, madeBy, motionsInside, nowhere, readIn, readOf, resolvedInside, setInside, sortBy, sortInside, writtenBy, writtenInside}
+use Rattle.macroblock.specs.Made.{answerBy, answerFor, basisBy, fixedOf, inheritedInside, madeBy, motionsInside, nowhere, originBy, readIn, readOf, resolvedInside, setInside, sortBy, sortInside, writtenBy, writtenInside}
 
 -- an answer and its record, where it is intra (u) or inherits
 inside-answer : (u : Bool) (o : Basis) (m : List (List Motion)) → pick u (Intra o) (Inherited o (chosen m)) ≡ answerFor (pick u SortIntra SortInherited) o m
@@ -62,12 +63,19 @@ module _ (g : Axes) (accepted : AcceptedAxes g) (column row : ℕ) (base : List 
   abbrev basis : Basis
   basis = basisBy (fixedOf g) hor ver base
 
-  basis-same : inside g column row ≡ true → basisAt g base column row ≡ basis
-  unfolding basisAt originAt detailAt quadrantDetail detailBy addressRead blockRead stepOf
-  basis-same e =
+  pub origin-same : inside g column row ≡ true → originAt g column row ≡ originBy hor ver
+  unfolding originAt stepOf
+  origin-same e =
       let x = first-column _ _ _ (across-inside g column row accepted e) in
       let y = first-column _ _ _ (down-inside g column row accepted e) in
-      λ i. record { origin = record { class = basis .origin .class; column = sym x i; row = sym y i }; detail = basis .detail }
+      λ i. record { class = originBy hor ver .class; column = sym x i; row = sym y i }
+
+  basis-same : inside g column row ≡ true → basisAt g base column row ≡ basis
+  unfolding basisAt detailAt quadrantDetail detailBy addressRead blockRead
+  basis-same e = ap (λ (o : Origin). the-basis o) (origin-same e)
+    where
+      the-basis : Origin → Basis
+      the-basis o = record { origin = o; detail = basis .detail }
 
   answer-same : inside g column row ≡ true → answerOf g base column row ≡ pick (mostlyIntra set) (Intra basis) (Inherited basis (chosen made))
   unfolding answerOf intraSet addressRead setBy

@@ -25,7 +25,7 @@ module _ (g : Axes) (column row : ℕ) (base : List ℤ) (f : BaseFormed narrow 
       known .made-ready t (λ a m. f .formed a (omega (arith, known .named-below t a (subst (List·Memᴰ a) (known .named t) m) .0, f .right .base-length)))
 
   pub made-of : madeBy (fixedOf g) h v base ≡ madeOf g base column row
-  made-of = (λ i. madeBy (fixedOf g) (p i) (q i) base) ∙ sym (placed-by g column row base)
+  made-of = (λ i. madeBy (fixedOf g) (p i) (q i) base) ∙ sym (placed-by g (f .right .axes) column row base)
 
   -- the macroblock at an address
   module _ (address : ℕ) (c : column < macroblocks (fullSize (g .horizontal))) (is : row * macroblocks (fullSize (g .horizontal)) + column ≡ address) where

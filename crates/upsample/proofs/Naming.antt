@@ -5,7 +5,7 @@ use mathlib.Core.Bool.{Bool, true, false}
 use mathlib.Core.List.{List, [], _∷_, _++_, map, append-nil, List·Memᴰ, List·Memᴰ·head, List·Memᴰ·tail, Memᴰ·append-left, Memᴰ·append-right}
 use native.Mathlib.Omega.{arith}
 use lib.IntN.{ℤ}
-use lib.ListN.{length}
+use lib.ListN.{length, getD}
 use Rattle.definitions.specs.declared.Axes.{Axes}
 use Rattle.macroblock.specs.declared.AxisRead.{AxisRead}
 use Rattle.definitions.specs.declared.Refusal.{Refusal}
@@ -13,6 +13,7 @@ use Rattle.definitions.specs.declared.Verdict.{Verdict}
 use Rattle.definitions.specs.declared.Verdict.the-variants.{Accepted, Refused}
 use Rattle.definitions.specs.Basics.{forEach}
 use Rattle.definitions.specs.Geometry.{columnsRead}
+use Rattle.definitions.specs.BlockMap.{columnOf}
 use Rattle.definitions.specs.Record.{recordWords, narrow}
 use Rattle.definitions.specs.Answer.{addressesOf}
 use Rattle.definitions.specs.Refusals.{Test, verdictOf, recordTest, recordTests}
@@ -62,26 +63,30 @@ unfolding recordTests
 tests-join base [] ys = refl
 tests-join base (x ∷ xs) ys = ap (λ (l : List Test). recordTest narrow base x ∷ l) (tests-join base xs ys)
 
+-- the first column (row) of an axis: that of its first coordinate
+abbrev pub firstOf : AxisRead → ℕ
+firstOf r = columnOf (getD (r .reads) 0 0)
+
 module _ (g : Axes) (h v : AxisRead) where
   abbrev rowOf : ℕ → List ℕ
-  rowOf row = rowAddresses g (h .first) (h .two) row
+  rowOf row = rowAddresses g (firstOf h) (h .two) row
 
-  by-rows : addressesOf g (originBy h v) ≡ forEach (columnsRead (v .first) (v .two)) rowOf
+  by-rows : addressesOf g (originBy h v) ≡ forEach (columnsRead (firstOf v) (v .two)) rowOf
   unfolding addressesOf
   by-rows =
       let c = class-columns (h .two) (v .two) in
       let r = class-rows (h .two) (v .two) in
-      λ i. forEach (columnsRead (v .first) (r i)) (λ row. map (λ column. baseAddress g column row) (columnsRead (h .first) (c i)))
+      λ i. forEach (columnsRead (firstOf v) (r i)) (λ row. map (λ column. baseAddress g column row) (columnsRead (firstOf h) (c i)))
 
-  pub named-one : v .two ≡ false → addressesOf g (originBy h v) ≡ rowOf (v .first)
+  pub named-one : v .two ≡ false → addressesOf g (originBy h v) ≡ rowOf (firstOf v)
   unfolding columnsRead
-  named-one e = by-rows ∙ (ap (λ (l : List ℕ). forEach l rowOf) (no ((v .first) ∷ (v .first + 1) ∷ []) ((v .first) ∷ []) e) ∙ append-nil (rowOf (v .first)))
+  named-one e = by-rows ∙ (ap (λ (l : List ℕ). forEach l rowOf) (no (firstOf v ∷ (firstOf v + 1) ∷ []) (firstOf v ∷ []) e) ∙ append-nil (rowOf (firstOf v)))
 
-  pub named-two : v .two ≡ true → addressesOf g (originBy h v) ≡ rowOf (v .first) ++ rowOf (v .first + 1)
+  pub named-two : v .two ≡ true → addressesOf g (originBy h v) ≡ rowOf (firstOf v) ++ rowOf (firstOf v + 1)
   unfolding columnsRead
   named-two e =
-      by-rows ∙ (ap (λ (l : List ℕ). forEach l rowOf) (yes ((v .first) ∷ (v .first + 1) ∷ []) ((v .first) ∷ []) e)
-      ∙ ap (λ (l : List ℕ). rowOf (v .first) ++ l) (append-nil (rowOf (v .first + 1))))
+      by-rows ∙ (ap (λ (l : List ℕ). forEach l rowOf) (yes (firstOf v ∷ (firstOf v + 1) ∷ []) (firstOf v ∷ []) e)
+      ∙ ap (λ (l : List ℕ). rowOf (firstOf v) ++ l) (append-nil (rowOf (firstOf v + 1))))
 
   module _ (base : List ℤ) where
     abbrev verdictAt : ℕ → Verdict
@@ -90,23 +95,23 @@ module _ (g : Axes) (h v : AxisRead) where
     abbrev verdict : Verdict
     verdict = verdictOf (recordTests narrow base (addressesOf g (originBy h v)))
 
-    pub one-row : v .two ≡ false → verdictAt (v .first) ≡ verdict
+    pub one-row : v .two ≡ false → verdictAt (firstOf v) ≡ verdict
     one-row e = ap (λ (l : List ℕ). verdictOf (recordTests narrow base l)) (sym (named-one e))
 
-    split-rows : v .two ≡ true → verdict ≡ verdictOf (recordTests narrow base (rowOf (v .first)) ++ recordTests narrow base (rowOf (v .first + 1)))
-    split-rows e = ap (λ (l : List ℕ). verdictOf (recordTests narrow base l)) (named-two e) ∙ ap verdictOf (tests-join base (rowOf (v .first)) (rowOf (v .first + 1)))
+    split-rows : v .two ≡ true → verdict ≡ verdictOf (recordTests narrow base (rowOf (firstOf v)) ++ recordTests narrow base (rowOf (firstOf v + 1)))
+    split-rows e = ap (λ (l : List ℕ). verdictOf (recordTests narrow base l)) (named-two e) ∙ ap verdictOf (tests-join base (rowOf (firstOf v)) (rowOf (firstOf v + 1)))
 
-    pub second-row : v .two ≡ true → verdictAt (v .first) ≡ Accepted → verdictAt (v .first + 1) ≡ verdict
-    second-row e p = sym (split-rows e ∙ then-verdict (recordTests narrow base (rowOf (v .first))) _ p)
+    pub second-row : v .two ≡ true → verdictAt (firstOf v) ≡ Accepted → verdictAt (firstOf v + 1) ≡ verdict
+    second-row e p = sym (split-rows e ∙ then-verdict (recordTests narrow base (rowOf (firstOf v))) _ p)
 
-    pub first-row : v .two ≡ true → (r : Refusal) → verdictAt (v .first) ≡ Refused r → Refused r ≡ verdict
-    first-row e r p = sym (split-rows e ∙ refused-first (recordTests narrow base (rowOf (v .first))) _ r p)
+    pub first-row : v .two ≡ true → (r : Refusal) → verdictAt (firstOf v) ≡ Refused r → Refused r ≡ verdict
+    first-row e r p = sym (split-rows e ∙ refused-first (recordTests narrow base (rowOf (firstOf v))) _ r p)
 
-    pub one-below : v .two ≡ false → InBase base (addressesOf g (originBy h v)) → InBase base (rowOf (v .first))
+    pub one-below : v .two ≡ false → InBase base (addressesOf g (originBy h v)) → InBase base (rowOf (firstOf v))
     one-below e n = subst (InBase base) (named-one e) n
 
-    pub first-below : v .two ≡ true → InBase base (addressesOf g (originBy h v)) → InBase base (rowOf (v .first))
-    first-below e n a m = n a (subst (List·Memᴰ a) (sym (named-two e)) (Memᴰ·append-left (rowOf (v .first + 1)) m))
+    pub first-below : v .two ≡ true → InBase base (addressesOf g (originBy h v)) → InBase base (rowOf (firstOf v))
+    first-below e n a m = n a (subst (List·Memᴰ a) (sym (named-two e)) (Memᴰ·append-left (rowOf (firstOf v + 1)) m))
 
-    pub second-below : v .two ≡ true → InBase base (addressesOf g (originBy h v)) → InBase base (rowOf (v .first + 1))
-    second-below e n a m = n a (subst (List·Memᴰ a) (sym (named-two e)) (Memᴰ·append-right (rowOf (v .first)) m))
+    pub second-below : v .two ≡ true → InBase base (addressesOf g (originBy h v)) → InBase base (rowOf (firstOf v + 1))
+    second-below e n a m = n a (subst (List·Memᴰ a) (sym (named-two e)) (Memᴰ·append-right (rowOf (firstOf v)) m))

@@ -5,7 +5,7 @@ use lib.IntN.{ℤ, pos, natAbs}
 use lib.ListN.{length}
 use lib.Signed.{pos-natAbs}
 use Rattle.definitions.specs.declared.Numbers.{Numbers}
-use Rattle.definitions.specs.declared.Origin.{Origin}
+use Rattle.definitions.specs.declared.Basis.{Basis}
 use Rattle.definitions.specs.declared.Split.{Split}
 use Rattle.definitions.specs.declared.Answer.{Answer}
 use Rattle.definitions.specs.declared.Answer.the-variants.{Inherited}
@@ -58,7 +58,7 @@ outside-answered base l r out promised = promised (cases .others-case base l)
 
 -- Nor can it be met by answering intra or outside everywhere: at the whole case's first macroblock each answer that keeps it is inherited.
 pub whole-inherited : (answer : Answer) (out : List ℤ) → SinglyPromised wholeCase wholeRecord (pos 0) (pos 0) (blank 1) (Answered answer) out
-    → (o : Origin) × (s : Split) × (answer ≡ Inherited o s)
+    → (b : Basis) × (s : Split) × (answer ≡ Inherited b s)
 whole-inherited answer out promised =
     let there = demand3 narrow .singly wholeCase 0 0 (blank 1) wholeRecord _ _ (cases .inherited .singly) in
     promised .inherited .1 (there .inherited .0 (_, _, refl))

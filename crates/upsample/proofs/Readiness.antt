@@ -1,16 +1,17 @@
 -- A macroblock inside an accepted geometry: the records that it names lie in the base, and where those are well formed it can be made. Assumes nothing.
 use Prim.Native.Nat.{ℕ, _+_, _*_, _≤_, _<_}
-use mathlib.Core.Path.{_≡_, refl, sym, subst, _∙_}
+use mathlib.Core.Path.{_≡_, refl, sym, ap, subst, _∙_}
 use mathlib.Core.Bool.{true, false, _&&_}
 use mathlib.Core.List.{List, [], List·Memᴰ}
 use native.Mathlib.Nat.{mul-le-mul-right}
 use native.Mathlib.Omega.{arith}
 use lib.IntN.{ℤ}
-use lib.ListN.{length}
+use lib.ListN.{length, getD}
 use Rattle.definitions.specs.declared.Axes.{Axes}
+use Rattle.definitions.specs.declared.Origin.{Origin}
 use Rattle.definitions.specs.Accepted.{Inside}
 use Rattle.definitions.specs.Geometry.{baseSize, scaledSize, cOf, insideAxis, inside, sampleOf}
-use Rattle.definitions.specs.BlockMap.{stepOf, addressRead}
+use Rattle.definitions.specs.BlockMap.{columnOf, stepOf, addressRead}
 use Rattle.definitions.specs.Record.{recordWords, recordAt, wellFormed, narrow}
 use Rattle.definitions.specs.Answer.{originAt, addressesOf}
 use Rattle.definitions.specs.Refusals.{addressesRead}
@@ -18,10 +19,10 @@ use Rattle.definitions.specs.Raster.{baseCount}
 use Rattle.definitions.proofs.Choices.{yes, no, both-true}
 use Rattle.definitions.proofs.Accepted.{across-inside, down-inside}
 use Rattle.definitions.proofs.Addresses.{address-named, address-below}
-use Rattle.definitions.proofs.Map.{f-below}
 use Rattle.macroblock.specs.declared.AxisRead.{AxisRead}
-use Rattle.macroblock.specs.Made.{fixedOf, originBy, readIn, readOf, Ready}
-use Rattle.macroblock.proofs.Reading.{read-says, step-rises}
+use Rattle.macroblock.specs.Made.{fixedOf, originBy, readIn, readOf, MakeableInside, Ready}
+use Rattle.macroblock.proofs.Paper.{origin-same}
+use Rattle.macroblock.proofs.Reading.{read-says, step-rises, step-small}
 use Rattle.motion.proofs.ByScales.{accepted}
 use Rattle.common.specs.Bases.{BaseRight}
 use Rattle.upsample.specs.Staged.{InBase}
@@ -48,11 +49,10 @@ module _ (g : Axes) (base : List ℤ) (right : BaseRight g base) (column row : �
     named-in : InBase base (addressesOf g (originAt g column row))
     named-in a m = in-base a (address-below g column row across-in down-in m)
 
-    first-low : ver .first < 65536
-    unfolding stepOf
+    first-low : columnOf (getD (ver .reads) 0 0) < 65536
     first-low =
-        let b = right .axes .vertical .sized .base-high in
-        omega (arith, f-below (baseSize (g .vertical)) (scaledSize (g .vertical)) (cOf (g .vertical) (sampleOf row)) down-in)
+        let within = both-true (insideAxis (g .horizontal) (sampleOf column)) (insideAxis (g .vertical) (sampleOf row)) e in
+        omega (arith, step-small (g .vertical) row (right .axes .vertical) (within .1) refl .reads 0 (omega arith))
 
     ready : ((a : ℕ) → List·Memᴰ a (addressesOf g (originAt g column row)) → wellFormed narrow (recordAt base a) ≡ true) → Ready (fixedOf g) (hor .reads) (ver .reads) base
     unfolding addressRead
@@ -70,14 +70,14 @@ module _ (g : Axes) (base : List ℤ) (right : BaseRight g base) (column row : �
   -- what is known of the axes' readings at a macroblock
   pub record Known (h v : AxisRead) : Type 0 where
     pub within : (h .inside && v .inside) ≡ true → inside g column row ≡ true
-    pub first-row : (h .inside && v .inside) ≡ true → v .first < 65536
+    pub first-row : (h .inside && v .inside) ≡ true → columnOf (getD (v .reads) 0 0) < 65536
     pub named-below : (h .inside && v .inside) ≡ true → InBase base (addressesOf g (originBy h v))
     pub named : (h .inside && v .inside) ≡ true → addressesRead g column row ≡ addressesOf g (originBy h v)
     pub unnamed : (h .inside && v .inside) ≡ false → addressesRead g column row ≡ []
-    pub made-ready : (h .inside && v .inside) ≡ true → ((a : ℕ) → List·Memᴰ a (addressesRead g column row) → wellFormed narrow (recordAt base a) ≡ true) → Ready (fixedOf g) (h .reads) (v .reads) base
+    pub made-ready : (h .inside && v .inside) ≡ true → ((a : ℕ) → List·Memᴰ a (addressesRead g column row) → wellFormed narrow (recordAt base a) ≡ true) → MakeableInside (fixedOf g) h v base
 
   known : Known (readOf (g .horizontal) column) (readOf (g .vertical) row)
-  unfolding readOf addressesRead originAt
+  unfolding readOf addressesRead
   known =
       let across = readOf (g .horizontal) column in
       let down = readOf (g .vertical) row in
@@ -88,11 +88,15 @@ module _ (g : Axes) (base : List ℤ) (right : BaseRight g base) (column row : �
       λ P e p. subst (λ (s : AxisRead). P s down) (sym (x e)) (subst (P hor) (sym (y e)) p) in
       record {
         within = λ t. sym says ∙ t;
-        first-row = λ t. to (λ h v. v .first < 65536) (sym says ∙ t) (first-low (sym says ∙ t));
-        named-below = λ t. to (λ h v. InBase base (addressesOf g (originBy h v))) (sym says ∙ t) (named-in (sym says ∙ t));
-        named = λ t. let e = sym says ∙ t in yes _ _ e ∙ (λ i. addressesOf g (originBy (sym (x e) i) (sym (y e) i)));
+        first-row = λ t. to (λ h v. columnOf (getD (v .reads) 0 0) < 65536) (sym says ∙ t) (first-low (sym says ∙ t));
+        named-below = λ t.
+            let e = sym says ∙ t in
+            to (λ h v. InBase base (addressesOf g (originBy h v))) e (subst (λ (o : Origin). InBase base (addressesOf g o)) (origin-same g (right .axes) column row base e) (named-in e));
+        named = λ t.
+            let e = sym says ∙ t in
+            yes _ _ e ∙ (ap (addressesOf g) (origin-same g (right .axes) column row base e) ∙ (λ i. addressesOf g (originBy (sym (x e) i) (sym (y e) i))));
         unnamed = λ t. no _ _ (sym says ∙ t);
-        made-ready = λ t f. let e = sym says ∙ t in to (λ h v. Ready (fixedOf g) (h .reads) (v .reads) base) e (ready e (λ a m. f a (subst (List·Memᴰ a) (sym (yes _ _ e)) m)));
+        made-ready = λ t f. let e = sym says ∙ t in to (λ h v. MakeableInside (fixedOf g) h v base) e (record { ready = ready e (λ a m. f a (subst (List·Memᴰ a) (sym (yes _ _ e)) m)); columns = refl; rows = refl });
       }
 
   pub known-of : (h v : AxisRead) → h ≡ readOf (g .horizontal) column → v ≡ readOf (g .vertical) row → Known h v

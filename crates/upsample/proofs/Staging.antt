@@ -11,6 +11,7 @@ use Rattle.definitions.specs.declared.Numbers.{Numbers}
 use Rattle.definitions.specs.declared.Answer.{Answer}
 use Rattle.definitions.specs.declared.Refusal.{Refusal}
 use Rattle.definitions.specs.declared.Verdict.{Verdict}
+use Rattle.definitions.specs.Accepted.{AcceptedAxes}
 use Rattle.definitions.specs.declared.Verdict.the-variants.{Accepted, Refused}
 use Rattle.definitions.specs.declared.MacroblockReply.{MacroblockReply}
 use Rattle.definitions.specs.declared.MacroblockReply.the-variants.{Answered, Refused as Declined}
@@ -54,11 +55,11 @@ module _ (g : Axes) (base : List ℤ) (column row : ℕ) (words : List ℤ) wher
   unfolding sizedCall
   sized-refused r e = handed _ _ _ (ap (λ (v : Verdict). byVerdict v Declined words answers) e)
 
-  pub sized-answered : verdict ≡ Accepted → (h v : AxisRead) → h ≡ readOf (g .horizontal) column → v ≡ readOf (g .vertical) row → (answer : Answer) (written : List ℤ)
+  pub sized-answered : AcceptedAxes g → verdict ≡ Accepted → (h v : AxisRead) → h ≡ readOf (g .horizontal) column → v ≡ readOf (g .vertical) row → (answer : Answer) (written : List ℤ)
       → answer ≡ answerBy (fixedOf g) h v base → written ≡ writtenBy (fixedOf g) h v base → Handed (Answered answer) written (sizedCall g base column row words)
   unfolding sizedCall madeBy
-  sized-answered e h v p q answer written a w =
-      let m : madeBy (fixedOf g) h v base ≡ made = (λ i. madeBy (fixedOf g) (p i) (q i) base) ∙ sym (placed-by g column row base) in
+  sized-answered accepted e h v p q answer written a w =
+      let m : madeBy (fixedOf g) h v base ≡ made = (λ i. madeBy (fixedOf g) (p i) (q i) base) ∙ sym (placed-by g accepted column row base) in
       let x : answer ≡ made .answer = a ∙ ap (λ (k : Made). k .answer) m in
       let y : written ≡ made .written = w ∙ ap (λ (k : Made). k .written) m in
       handed _ _ _ (ap (λ (u : Verdict). byVerdict u Declined words answers) e ∙ (λ i. record { reply = Answered (sym x i); words = sym y i }))

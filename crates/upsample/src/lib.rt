@@ -3,6 +3,7 @@ ghost use Prim.Native.Nat.{_<_, _≤_};
 ghost use Rattle.common.specs.Bases.{BaseRight};
 ghost use Rattle.definitions.specs.Accepted.{AcceptedAxes};
 ghost use Rattle.definitions.specs.Answer.{addressesOf};
+ghost use Rattle.definitions.specs.BlockMap.{columnOf};
 ghost use Rattle.definitions.specs.Calls.{macroblockCall};
 ghost use Rattle.definitions.specs.Geometry.{baseSize};
 ghost use Rattle.definitions.specs.Record.{recordWords, narrow};
@@ -10,7 +11,7 @@ ghost use Rattle.definitions.specs.Refusals.{recordTests, verdictOf};
 ghost use Rattle.macroblock.specs.Made.{originBy};
 ghost use Rattle.upsample.specs.Promised.{SinglyPromised};
 ghost use Rattle.upsample.specs.Staged.{InBase, axesCall, sizedCall, rowAddresses};
-ghost use lib.ListN.{length};
+ghost use lib.ListN.{getD, length};
 ghost use mathlib.Core.Path.{_≡_};
 use common::raster::address_of;
 use common::raster::base_width;
@@ -46,7 +47,7 @@ fn check_row(g: Axes, base: &[i16], first: u32, two: bool, row: u32) -> Verdict
 
 // The records that a macroblock reads: one row of them, or two.
 fn check_read(g: Axes, base: &[i16], h: AxisRead, v: AxisRead) -> Verdict
-    requires { ⌜ (baseSize (g .horizontal) ≤ 4096) × (v .first < 65536) × InBase (now base) (addressesOf g (originBy h v)) ⌝ }
+    requires { ⌜ (baseSize (g .horizontal) ≤ 4096) × (columnOf (getD (v .reads) 0 0) < 65536) × InBase (now base) (addressesOf g (originBy h v)) ⌝ }
     ensures { λ r. ⌜ r ≡ verdictOf (recordTests narrow (now (base .entry)) (addressesOf g (originBy h v))) ⌝ }
 {
     let column = h.reads[0] as u32 / 4;

@@ -9,7 +9,7 @@ use Prim.Native.Nat.{ℕ}
 use mathlib.Core.List.{List}
 use mathlib.Core.Path.{_≡_, sym, ap, subst, _∙_}
 use Rattle.macroblock.specs.declared.Fixed.{Fixed}
-use Rattle.macroblock.specs.Made.{Ready, answerBy, writtenBy}
+use Rattle.macroblock.specs.Made.{MakeableInside, answerBy, writtenBy}
 use borrow.Author.Needs.{needs}
 use Rattle.upsample.proofs.sized_macroblock.Statement.{statement}
 use Rattle.upsample.proofs.sized_macroblock.Tie as tie
@@ -52,7 +52,7 @@ answer-requires c κs =
     let r = c .before .before .before .before .before .before .before in
     let k = known r in
     let e = checked-is (c .before .before .before) ∙ c .before .enum-told .given .1 in
-    (λ t. subst (λ (f : Fixed). Ready f (r .before .axis-read .result .reads) (r .axis-read2 .result .reads) (s .args .base .now)) (sym (a .fixed-of .ensures)) (k .made-ready t (all-formed narrow (s .args .base .now) (addressesRead (s .args .g) (s .args .column) (s .args .row)) e)), s .pre .1)
+    (λ t. subst (λ (f : Fixed). MakeableInside f (r .before .axis-read .result) (r .axis-read2 .result) (s .args .base .now)) (sym (a .fixed-of .ensures)) (k .made-ready t (all-formed narrow (s .args .base .now) (addressesRead (s .args .g) (s .args .column) (s .args .row)) e)), s .pre .1)
 
 enum-known-r : tie.Need-enum-known-r
 enum-known-r c = search needs
@@ -65,7 +65,7 @@ returns c =
     let a = c .before .before .before .before .before .before .before .before .before in
     let s = a .before .before .before in
     let e = checked-is (c .before .before .before .before .before) ∙ c .before .before .before .enum-told .given .1 in
-    sized-answered (s .args .g) (s .args .base .now) (s .args .column) (s .args .row) (s .args .out .now) e (a .before .axis-read .result) (a .axis-read2 .result) (a .before .axis-read .ensures) (a .axis-read2 .ensures) _ _ (c .before .answer .ensures .0 ∙ ap (λ (f : Fixed). answerBy f (a .before .axis-read .result) (a .axis-read2 .result) (s .args .base .now)) (a .before .before .fixed-of .ensures)) (c .before .answer .ensures .1 ∙ ap (λ (f : Fixed). writtenBy f (a .before .axis-read .result) (a .axis-read2 .result) (s .args .base .now)) (a .before .before .fixed-of .ensures))
+    sized-answered (s .args .g) (s .args .base .now) (s .args .column) (s .args .row) (s .args .out .now) (s .pre .0 .axes) e (a .before .axis-read .result) (a .axis-read2 .result) (a .before .axis-read .ensures) (a .axis-read2 .ensures) _ _ (c .before .answer .ensures .0 ∙ ap (λ (f : Fixed). answerBy f (a .before .axis-read .result) (a .axis-read2 .result) (s .args .base .now)) (a .before .before .fixed-of .ensures)) (c .before .answer .ensures .1 ∙ ap (λ (f : Fixed). writtenBy f (a .before .axis-read .result) (a .axis-read2 .result) (s .args .base .now)) (a .before .before .fixed-of .ensures))
 
 returns-2 : tie.Need-returns-2
 returns-2 c =
@@ -83,7 +83,7 @@ returns-3 c =
     let a = c .before .before .before .before .before .before in
     let s = a .before .before .before in
     let e = ap (λ (l : List ℕ). verdictOf (recordTests narrow (s .args .base .now) l)) (known a .unnamed (c .before .before .before .if1 .left)) in
-    sized-answered (s .args .g) (s .args .base .now) (s .args .column) (s .args .row) (s .args .out .now) (none-read (s .args .base .now) e) (a .before .axis-read .result) (a .axis-read2 .result) (a .before .axis-read .ensures) (a .axis-read2 .ensures) _ _ (c .before .answer2 .ensures .0 ∙ ap (λ (f : Fixed). answerBy f (a .before .axis-read .result) (a .axis-read2 .result) (s .args .base .now)) (a .before .before .fixed-of .ensures)) (c .before .answer2 .ensures .1 ∙ ap (λ (f : Fixed). writtenBy f (a .before .axis-read .result) (a .axis-read2 .result) (s .args .base .now)) (a .before .before .fixed-of .ensures))
+    sized-answered (s .args .g) (s .args .base .now) (s .args .column) (s .args .row) (s .args .out .now) (s .pre .0 .axes) (none-read (s .args .base .now) e) (a .before .axis-read .result) (a .axis-read2 .result) (a .before .axis-read .ensures) (a .axis-read2 .ensures) _ _ (c .before .answer2 .ensures .0 ∙ ap (λ (f : Fixed). answerBy f (a .before .axis-read .result) (a .axis-read2 .result) (s .args .base .now)) (a .before .before .fixed-of .ensures)) (c .before .answer2 .ensures .1 ∙ ap (λ (f : Fixed). writtenBy f (a .before .axis-read .result) (a .axis-read2 .result) (s .args .base .now)) (a .before .before .fixed-of .ensures))
 
 pub sized-macroblock-spec : {M : Type 1} → statement M
 sized-macroblock-spec =
