@@ -15,7 +15,7 @@ use Rattle.definitions.specs.Answer.{Made, madeOf}
 use Rattle.definitions.specs.Record.{narrow}
 use Rattle.definitions.proofs.Choices.{no}
 use Rattle.common.specs.Bases.{BaseFormed}
-use Rattle.macroblock.specs.Made.{Makeable, answerBy, answerFor, fixedOf, madeBy, motionsInside, originBy, readOf, sortBy, sortInside}
+use Rattle.macroblock.specs.Made.{Makeable, answerBy, answerFor, fixedOf, madeBy, motionsInside, basisBy, readOf, sortBy, sortInside}
 use Rattle.upsample.proofs.Addresses.{makeable, made-of}
 use borrow.Author.Needs.{needs}
 use Rattle.log_picture.proofs.answer_at.Statement.{statement}
@@ -36,7 +36,7 @@ answer-requires c κs =
     let s = r .before .before .before in (
       subst (λ (f : Fixed). Makeable f (r .before .before .axis-read .result) (r .axis-read2 .result) (s .args .base .now)) (sym (s .pre .3))
           (makeable (s .args .g) (s .args .column) (s .args .row) (s .args .base .now) (s .pre .0) _ _ (r .before .before .axis-read .ensures) (r .axis-read2 .ensures)),
-      length-replicate 77 (pos 0),
+      length-replicate 78 (pos 0),
     )
 
 -- what is made by what is fixed
@@ -57,7 +57,7 @@ returns c =
 outside : (f : Fixed) (h v : AxisRead) (base : List ℤ) → (h .inside && v .inside) ≡ false → Outside ≡ answerBy f h v base
 unfolding answerBy sortBy
 outside f h v base out =
-    ap (λ (s : Sort). answerFor s (originBy h v) (motionsInside f (h .reads) (v .reads) base)) (sym (no (sortInside f (h .reads) (v .reads) base) SortOutside out))
+    ap (λ (s : Sort). answerFor s (basisBy f h v base) (motionsInside f (h .reads) (v .reads) base)) (sym (no (sortInside f (h .reads) (v .reads) base) SortOutside out))
 
 returns-2 : tie.Need-returns-2
 returns-2 c =

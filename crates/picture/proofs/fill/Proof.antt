@@ -133,7 +133,7 @@ loop-again c =
     let sort = p .ensures .0 ∙ (sort-is _ h v (s .args .base .now) ∙ ap (λ (k : Made). sortOf (k .answer)) m) in (
       omega (arith, c .before .before .before .before .before .before .before .before .loop-test),
       c .before .before .out .given .1 ∙ l .loop .inv .1,
-      part-back (λ k. f k .written) recordWords (made-length (s .args .g) (s .args .base .now)) (s .args .out .now) (l .loop .out) (p .last .1 .1 .1 .1 .0) n (77 * n + 77 - 77 * n) (omega arith) (l .loop .inv .2) (p .ensures .1 ∙ ap (λ (k : Made). k .written) m),
+      part-back (λ k. f k .written) recordWords (made-length (s .args .g) (s .args .base .now)) (s .args .out .now) (l .loop .out) (p .last .1 .1 .1 .1 .0) n (78 * n + 78 - 78 * n) (omega arith) (l .loop .inv .2) (p .ensures .1 ∙ ap (λ (k : Made). k .written) m),
       counts-next f n (l .loop .counts) (c .before .count-sort .result) (f n .answer) (l .loop .inv .3) refl (c .before .count-sort .ensures (f n .answer) sort),
       c .next .ensures .0 ∙ ap (λ (k : ℕ). k + 1) (l .loop .inv .4),
       c .next .ensures .1 .0,
