@@ -10,7 +10,7 @@ use Rattle.log.proofs.text_lines.Tie as tie
 
 -- the words of the record lines
 words-of : (c : tie.After-t) → ReadWords (c .before .before .before .before .before .before .before .args .text .now) (c .t .given .0 .0 .numbers) (c .t .given .0 .0 .lines) (c .before .before .before .read-text .last .1 .0)
-words-of c = words-read (length-replicate 7623 (pos 0)) (c .before .before .before .read-text .ensures .0) (c .t .given .1)
+words-of c = words-read (length-replicate 7722 (pos 0)) (c .before .before .before .read-text .ensures .0) (c .t .given .1)
 
 slice-aggregate-read-text : tie.Need-slice-aggregate-read-text
 slice-aggregate-read-text c = search needs
@@ -48,7 +48,7 @@ returns c =
     record { reading = _; reads = w .reads; given = rw (w .finding) (c .before .before .read-lines .ensures) }
 
 returns-2 : tie.Need-returns-2
-returns-2 c = record { reading = _; reads = refused-read (length-replicate 7623 (pos 0)) (c .before .before .before .before .read-text .ensures .0) (c .before .r .given .1); given = kept }
+returns-2 c = record { reading = _; reads = refused-read (length-replicate 7722 (pos 0)) (c .before .before .before .before .read-text .ensures .0) (c .before .r .given .1); given = kept }
 
 pub text-lines-spec : {M : Type 1} → statement M
 text-lines-spec =
