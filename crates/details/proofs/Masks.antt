@@ -128,6 +128,23 @@ pub pair-below : (i j : ℕ) → i < 4 → j < 4 → pair (place i) (place j) < 
 unfolding pair-test
 pair-below i j hi hj = ltb-true _ _ (below-true 4 _ (below-true 4 _ all-pairs i hi) j hj)
 
+-- of one macroblock a pair is below 4, and as rows it is
+pub pair-in : (i j : ℕ) → i < 2 → j < 2 → pair (place i) (place j) < 4
+pair-in zero zero hi hj = omega arith
+pair-in zero (suc zero) hi hj = omega arith
+pair-in zero (suc (suc j)) hi hj = absurd (omega arith)
+pair-in (suc zero) zero hi hj = omega arith
+pair-in (suc zero) (suc zero) hi hj = omega arith
+pair-in (suc zero) (suc (suc j)) hi hj = absurd (omega arith)
+pair-in (suc (suc i)) j hi hj = absurd (omega arith)
+
+pub rows-in : (c : ℕ) → c < 4 → c + c / 2 * 2 ≡ asRows c
+rows-in zero h = refl
+rows-in (suc zero) h = refl
+rows-in (suc (suc zero)) h = refl
+rows-in (suc (suc (suc zero))) h = refl
+rows-in (suc (suc (suc (suc c)))) h = absurd (omega arith)
+
 -- ---- Tables. A list made by an index holds at each place what is made there. The code's two tables are such lists, which the check of a function that reads one computes.
 listed : (n : ℕ) (f : ℕ → ℕ) (k : ℕ) → k < n → getD (upTo n f) k 0 ≡ f k
 unfolding upTo

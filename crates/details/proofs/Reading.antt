@@ -21,7 +21,7 @@ use Rattle.records.proofs.Words.{four-bits}
 use Rattle.gather.specs.Reads.{Readable, Rising, blockAt, recordRead}
 use Rattle.gather.proofs.Sets.{bit, bits-set}
 use Rattle.details.specs.Bits.{InOne, asRows, detailBy, detailRead, detailsBy, fourMasked, halvesOf, masked, pairOf, placeOf, quadrantReads, wordRead}
-use Rattle.details.proofs.Masks.{bit-first, bit-fourth, bit-second, bit-third, half-at, inHalf, mask-is, masked-four, one-bit, pair, pair-below, place}
+use Rattle.details.proofs.Masks.{bit-first, bit-fourth, bit-second, bit-third, half-at, inHalf, mask-is, masked-four, one-bit, pair, pair-below, pair-in, place}
 
 -- ---- Along an axis
 -- each coordinate lies between the first and the last
@@ -77,6 +77,16 @@ halves-below x r =
     let set : (i : ℕ) → i + 1 < 4 → pairOf (getD x 0 0) (getD x i 0) (getD x (i + 1) 0) < 64 =
     λ i h. subst (λ (n : ℕ). n < 64) (λ t. pair (half-place (getD x 0 0) (getD x i 0) t) (half-place (getD x 0 0) (getD x (i + 1) 0) t))
     (pair-below _ _ (half-below x r i (omega arith)) (half-below x r (i + 1) h)) in
+    (set 0 (omega arith), set 2 (omega arith))
+
+-- below 4 where all lie in one macroblock
+pub halves-in : (x : List ℕ) → Rising x → InOne 4 x → (getD (halvesOf x) 0 0 < 4) × (getD (halvesOf x) 1 0 < 4)
+unfolding halvesOf
+halves-in x r one =
+    let set : (i : ℕ) → i + 1 < 4 → pairOf (getD x 0 0) (getD x i 0) (getD x (i + 1) 0) < 4 =
+    λ i h. subst (λ (n : ℕ). n < 4) (λ t. pair (half-place (getD x 0 0) (getD x i 0) t) (half-place (getD x 0 0) (getD x (i + 1) 0) t))
+    (pair-in (half (getD x 0 0) (getD x i 0)) (half (getD x 0 0) (getD x (i + 1) 0))
+    (omega (arith, between x r i (omega arith), one)) (omega (arith, between x r (i + 1) h, one))) in
     (set 0 (omega arith), set 2 (omega arith))
 
 -- ---- Four bits that are all the same

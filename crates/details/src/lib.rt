@@ -167,6 +167,24 @@ fn is_own(h: [u8; 2]) -> bool
     (h[0] == 1) & (h[1] == 2)
 }
 
+// The same of sets of two bits, as they are where one macroblock is read: as rows bit 1 is at 2, without a table.
+fn detail_in(bits: u32, h: [u8; 2], v: [u8; 2]) -> u8
+    requires { ⌜ (getD h 0 0 < 4) × (getD h 1 0 < 4) × (getD v 0 0 < 4) × (getD v 1 0 < 4) ⌝ }
+    ensures { λ r. ⌜ (r ≡ fourMasked bits h v) × (r < 16) ⌝ }
+{
+    let left = h[0] as u32;
+    let right = h[1] as u32;
+    let above = v[0] as u32;
+    let below = v[1] as u32;
+    let upper = above + above / 2 * 2;
+    let lower = below + below / 2 * 2;
+    let a = any(bits, left, upper);
+    let b = any(bits, right, upper);
+    let c = any(bits, left, lower);
+    let d = any(bits, right, lower);
+    (a + 2 * b + 4 * c + 8 * d) as u8
+}
+
 // Where one is read, its bits are all that matter (`detail-one`), and where each quadrant reads the one in its own place, they are the answer (`detail-own`).
 pub fn detail_of_one(
     base: &[i16],
@@ -183,7 +201,7 @@ pub fn detail_of_one(
     if is_own(h) & is_own(v) {
         return bits as u8;
     }
-    detail_by(bits, h, v)
+    detail_in(bits, h, v)
 }
 
 // Where one quadrant of one is read, all four bits are its bit (`detail-quarter`).

@@ -5,7 +5,7 @@ use Rattle.definitions.proofs.Choices.{both-true}
 use borrow.Author.Needs.{needs}
 use Rattle.details.specs.Bits.{fourMasked}
 use Rattle.details.proofs.Masks.{detail-own}
-use Rattle.details.proofs.Reading.{detail-one, halves-below}
+use Rattle.details.proofs.Reading.{detail-one, halves-in}
 use Rattle.details.proofs.detail_of_one.Statement.{statement}
 use Rattle.details.proofs.detail_of_one.Tie as tie
 
@@ -38,17 +38,17 @@ returns c =
       n .1,
     )
 
-detail-by-requires : tie.Need-detail-by-requires
-detail-by-requires c κs =
+detail-in-requires : tie.Need-detail-in-requires
+detail-in-requires c κs =
     let p = c .before .before .before .before .pre in
-    let h = halves-below _ (p .2) in
-    let v = halves-below _ (p .3) in
+    let h = halves-in _ (p .2) (p .4) in
+    let v = halves-in _ (p .3) (p .5) in
     rw (p .6, p .7) (h .0, h .1, v .0, v .1)
 
 returns-2 : tie.Need-returns-2
 returns-2 c =
     let p = c .before .before .before .before .before .pre in
-    let e = c .detail-by .ensures in
+    let e = c .detail-in .ensures in
     let n = c .before .before .before .before .reads-detail .ensures in
     (e .0 ∙ ((λ t. fourMasked (n .0 t) (p .6 t) (p .7 t)) ∙ detail-one _ _ _ _ (p .2) (p .3) (p .4) (p .5)), e .1)
 
@@ -63,5 +63,5 @@ detail-of-one-spec =
     is-own-requires-2
     cast-result
     returns
-    detail-by-requires
+    detail-in-requires
     returns-2)
