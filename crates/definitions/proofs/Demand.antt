@@ -130,7 +130,7 @@ pub within-low : (size : ℕ) (x : ℤ) → withinAxis size x ≡ true → natAb
 within-low size (pos k) e = ltb-true k (macroblocks size) (both-true (leb 0 k) (ltb k (macroblocks size)) e .1)
 within-low size (negsuc k) e = absurd (let z : _≡_ {A = ℕ} 0 1 = cc in omega arith)
 
--- a macroblock of the picture, and 77 words lent for it
+-- a macroblock of the picture, and 78 words lent for it
 pub record AskedAt (n : Numbers) (column row : ℤ) (words : List ℤ) : Type 0 where
   pub column-within : withinAxis (fullSize (axesOf n .horizontal)) column ≡ true
   pub row-within : withinAxis (fullSize (axesOf n .vertical)) row ≡ true

@@ -29,7 +29,7 @@ originAt g column row =
     let v = stepOf (g .vertical) (sampleOf row) in
     record { class = classOf (h .two) (v .two); column = h .first; row = v .first }
 
--- what it says besides: that, and its detail
+-- what an answer inside says besides its split: what it names, and its detail (document 02, E7)
 unfoldable pub basisAt : Axes → List ℤ → ℕ → ℕ → Basis
 basisAt g base column row = record { origin = originAt g column row; detail = detailAt g base column row }
 
@@ -42,7 +42,7 @@ answerOf g base column row =
     (Inherited (basisAt g base column row) (chosen (inheritedMotions g base column row))))
     Outside
 
--- Document 01's values for each case of the answer: its type; class, first base column and row (0 outside, class Corner); and its detail, 0 outside
+-- The papers' values for each case of the answer: its type; class, first base column and row (0 outside, class Corner); and its detail, 0 outside
 abbrev pub answerType : Answer → ℕ
 answerType Outside = 5
 answerType (Intra b) = 0

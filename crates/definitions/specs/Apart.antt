@@ -14,7 +14,7 @@ use Rattle.definitions.specs.Demand3.{SinglyGives, PictureGives}
 abbrev pub SameButDetail : List ℤ → List ℤ → Type 0
 SameButDetail base other = (a : ℕ) → take 77 (recordAt other a) ≡ take 77 (recordAt base a)
 
--- an answer is another one with its own bits, and so is its record
+-- answer′ is answer but for its bits, and its record the same but for word 77
 pub record ButBits (answer : Answer) (written : List ℤ) (answer′ : Answer) (written′ : List ℤ) : Type 0 where
   pub answers : answer′ ≡ withBits (answerDetail answer′) answer
   pub words : take 77 written′ ≡ take 77 written

@@ -69,7 +69,7 @@ pub record Demand3 (g : Axes) (column row : ℕ) (base : List ℤ) (answer : Ans
   pub says-split : (b : Basis) (s : Split) → answer ≡ Inherited b s → take 5 written ≡ pos (typeNumber s) ∷ map pos (subTypes s)
   -- (And read as a base record, it says that split.)
   pub split-said : (b : Basis) (s : Split) → answer ≡ Inherited b s → splitSaid written ≡ s
-  -- (Document 02, E7.) The answer's detail bits are those that the base quadrants read have, outside 0, and the written record's word 77 says them.
+  -- (Document 02, E7.) A quadrant's bit is set exactly when one of its blocks reads a base quadrant whose bit is set; outside all are 0. Word 77 of the written record says them.
   pub detail : answerDetail answer ≡ detailByPaper g base column row
   pub says-detail : detailOf written ≡ pos (answerDetail answer)
 

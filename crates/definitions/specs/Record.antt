@@ -50,7 +50,7 @@ vectorYOf r b l = wordOf r (13 + 4 * b + 2 * l + 1)
 abbrev pub detailOf : List ℤ → ℤ
 detailOf r = wordOf r 77
 
--- Bit q of the four low bits says that the base has luma coefficients in quadrant q.
+-- Bit q of the four low bits says that the base has luma coefficients in quadrant q (of a word that keeps rule 7: no other is read).
 abbrev pub hasDetail : List ℤ → ℕ → Bool
 hasDetail r q = bitSet (natAbs (detailOf r)) q
 

@@ -117,10 +117,11 @@ withAcross b s o e = by (axisWith b s o e) plain
 abbrev withDown : ℤ → ℤ → ℤ → ℤ → Numbers
 withDown b s o e = by plain (axisWith b s o e)
 
--- ---- Records by their words: type, sub-types, references, vector words, detail; without detail
+-- ---- Records by their words: type, sub-types, references, vector words, detail
 abbrev detailed : ℤ → List ℤ → List ℤ → List ℤ → ℤ → List ℤ
 detailed type sub references vectors detail = type ∷ (sub ++ (references ++ (vectors ++ (detail ∷ []))))
 
+-- the same without detail
 abbrev words : ℤ → List ℤ → List ℤ → List ℤ → List ℤ
 words type sub references vectors = detailed type sub references vectors (pos 0)
 
@@ -332,7 +333,7 @@ unstarred =
     (withDetail 8 noMotion ++ (withDetail 11 (firstList 0 1 2) ++ (firstList 0 1 2 ++ withDetail 1 (firstList 0 1 2))))
     (pos 1) (pos 1) 78
     (record { reply = Answered (Inherited (record { origin = record { class = Center; column = 0; row = 0 }; detail = 9 }) S16x16); words = withDetail 9 (firstList 0 1 2) })
-    -- In the first quadrant four blocks read base 0, 1, 2 and 3, one each: base 1's bit is enough. The others read base 1's, 2's and 3's quadrants.
+    -- In the first quadrant four blocks read base 0, 1, 2 and 3, one each: base 1's bit is enough. Quadrant 1 reads base 1's quadrant 2 too; quadrant 2 reads base 2, and base 3's quadrants 0 and 2, none set; quadrant 3 reads base 3's quadrant 3.
     ∷ call centre (firstList 0 1 2 ++ (withDetail 4 (firstList 0 1 2) ++ (firstList 0 1 2 ++ withDetail 8 (firstList 0 1 2)))) (pos 1) (pos 1) 78
     (record { reply = Answered (Inherited (record { origin = record { class = Center; column = 0; row = 0 }; detail = 11 }) S16x16); words = withDetail 11 (firstList 0 1 2) })
     -- An intra answer has its bits, each in its place; outside there is none.

@@ -107,7 +107,7 @@ fn read_in(s: AxisStep) -> AxisRead
     }
 }
 
-// An axis outside: 65,535 is no column. (The answer outside holds none; why not 0: docs/DECISIONS.md.)
+// An axis outside: 65,535 is no coordinate. (The answer outside holds none; why not 0: docs/DECISIONS.md.)
 pub fn read_nowhere() -> AxisRead
     ensures { λ r. ⌜ r ≡ nowhere ⌝ }
 {

@@ -16,7 +16,7 @@ use Rattle.definitions.specs.Calls.{macroblockCall, AsSingly}
 use Rattle.definitions.specs.Demand3.{Demand3Picture, PictureCase}
 
 -- one of its macroblocks: the one-macroblock call answers on the same base, and with that answer the record at its address is as demanded
--- (alone: 77 words lent to that call, whatever they hold)
+-- (alone: 78 words lent to that call, whatever they hold)
 pub record InPicture (n : Numbers) (base words out : List ℤ) (column row : ℕ) (alone : List ℤ) : Type 0 where
   pub answer : Answer
   pub answered : macroblockCall narrow n base (pos column) (pos row) alone .reply ≡ Answered answer

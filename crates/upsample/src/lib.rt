@@ -111,7 +111,7 @@ fn accepted_macroblock(
     MacroblockReply::Refused(refused(refusals::POSITION))
 }
 
-// The one-macroblock call: geometry, base, column, row, and 77 words to write.
+// The one-macroblock call: geometry, base, column, row, and 78 words to write.
 pub fn upsample_macroblock(
     n: Numbers,
     base: &[i16],
