@@ -21,8 +21,8 @@ more SortOutside c = record { inherited = c .inherited; intra = c .intra; outsid
 
 by-sort : (c : Counts) (a : Answer) → more (sortOf a) c ≡ counted a c
 by-sort c Outside = refl
-by-sort c (Intra o) = refl
-by-sort c (Inherited o s) = refl
+by-sort c (Intra b) = refl
+by-sort c (Inherited b s) = refl
 
 pub one-more : (c : Counts) {s : Sort} (a : Answer) → s ≡ sortOf a → more s c ≡ counted a c
 one-more c a e = ap (λ (s : Sort). more s c) e ∙ by-sort c a

@@ -6,5 +6,5 @@ use Rattle.common.specs.declared.counts.Sort.the-variants.{Inherited as 
 
 abbrev pub sortOf : Answer → Sort
 sortOf Outside = SortOutside
-sortOf (Intra o) = SortIntra
-sortOf (Inherited o s) = SortInherited
+sortOf (Intra b) = SortIntra
+sortOf (Inherited b s) = SortInherited

@@ -1,5 +1,5 @@
 -- With other detail bits in the base, an answer and its record have other bits at most. Assumes nothing.
-use Prim.Native.Nat.{ℕ, _+_, _*_, _<_}
+use Prim.Native.Nat.{ℕ, zero, suc, _+_, _*_, _<_}
 use mathlib.Core.Path.{_≡_, refl, sym, ap, subst, _∙_}
 use mathlib.Core.List.{List}
 use native.Mathlib.Omega.{arith}
@@ -10,6 +10,7 @@ use Rattle.definitions.specs.declared.Axes.{Axes}
 use Rattle.definitions.specs.declared.Motion.{Motion}
 use Rattle.definitions.specs.declared.Answer.{Answer}
 use Rattle.definitions.specs.declared.Answer.the-variants.{Outside, Intra, Inherited}
+use Rattle.definitions.specs.declared.Counts.{Counts}
 use Rattle.definitions.specs.Basics.{eqZ, upTo}
 use Rattle.definitions.specs.Geometry.{axesOf}
 use Rattle.definitions.specs.BlockMap.{addressRead, blockRead}
@@ -18,9 +19,12 @@ use Rattle.definitions.specs.Record.{recordAt, wordOf, referenceOf, vect
 use Rattle.definitions.specs.Inheriting.{inheritedMotions}
 use Rattle.definitions.specs.Detail.{detailAt}
 use Rattle.definitions.specs.Answer.{answerDetail, withBits, answerOf, writtenFor, Made, madeOf}
+use Rattle.definitions.specs.Calls.{counted, countsOf, madeAt}
+use Rattle.definitions.specs.Raster.{fullCount, columnAt, rowAt}
 use Rattle.definitions.specs.Apart.{SameButDetail, ButBits, DetailApart}
 use Rattle.definitions.proofs.Sameness.{but-bits}
-use Rattle.definitions.proofs.Demand.{singly-made, picture-made}
+use Rattle.definitions.proofs.Counting.{counts-more}
+use Rattle.definitions.proofs.Demand.{singly-made, picture-made, counted-accepted, counted-made}
 
 -- ---- A record's first 77 words say whether it is intra, and its motions
 module _ (r s : List ℤ) (e : take 77 r ≡ take 77 s) where
@@ -78,6 +82,23 @@ module _ (g : Axes) (column row : ℕ) (base other : List ℤ) (same : SameButDe
         words = ap (λ (m : Made). take 77 (m .written)) p ∙ same-words d a (inheritedMotions g base column row);
       }
 
+-- ---- Counts: other bits make no other sort
+same-sort : (d : ℕ) (a : Answer) (c : Counts) → counted (withBits d a) c ≡ counted a c
+same-sort d Outside c = refl
+same-sort d (Intra b) c = refl
+same-sort d (Inherited b s) c = refl
+
+made-at : (g : Axes) (base other : List ℤ) → SameButDetail base other → (k : ℕ) → ButBits (madeAt g base k .answer) (madeAt g base k .written) (madeAt g other k .answer) (madeAt g other k .written)
+unfolding madeAt
+made-at g base other same k = made-apart g (columnAt g k) (rowAt g k) base other same
+
+same-counts : (n : ℕ) (f f′ : ℕ → Made) → ((k : ℕ) → ButBits (f k .answer) (f k .written) (f′ k .answer) (f′ k .written)) → countsOf (upTo n f′) ≡ countsOf (upTo n f)
+unfolding upTo
+same-counts zero f f′ h = refl
+same-counts (suc n) f f′ h =
+    counts-more n f′
+    ∙ ((λ i. counted (h n .answers i) (same-counts n f f′ h i)) ∙ (same-sort (answerDetail (f′ n .answer)) (f n .answer) (countsOf (upTo n f)) ∙ sym (counts-more n f)))
+
 -- ---- Both calls
 carried : {a b a′ b′ : Answer} {w v w′ v′ : List ℤ} → ButBits a w a′ w′ → a ≡ b → w ≡ v → a′ ≡ b′ → w′ ≡ v′ → ButBits b v b′ v′
 carried p e f e′ f′ = subst (λ (x : Answer × List ℤ × Answer × List ℤ). ButBits (x .0) (x .1) (x .2) (x .3)) (λ i. (e i, f i, e′ i, f′ i)) p
@@ -92,4 +113,9 @@ detail-apart limit = record {
       let p = picture-made limit n column row words alone base answer written e in
       let q = picture-made limit n column row words alone other answer′ written′ f in
       carried (made-apart (axesOf n) column row base other same) (p .0) (p .1) (q .0) (q .1);
+  counts = λ n words base other c c′ same e f.
+      let g = axesOf n in
+      let p : c ≡ countsOf (upTo (fullCount g) (madeAt g base)) = cc (sym e ∙ counted-made limit n words base (counted-accepted limit n words base c e)) in
+      let q : c′ ≡ countsOf (upTo (fullCount g) (madeAt g other)) = cc (sym f ∙ counted-made limit n words other (counted-accepted limit n words other c′ f)) in
+      q ∙ (same-counts (fullCount g) (madeAt g base) (madeAt g other) (made-at g base other same) ∙ sym p);
 }

@@ -18,12 +18,12 @@ use Rattle.definitions.specs.declared.Answer.{Answer}
 use Rattle.definitions.specs.declared.Answer.the-variants.{Outside, Intra, Inherited}
 use Rattle.definitions.specs.declared.MacroblockReply.{MacroblockReply}
 use Rattle.definitions.specs.declared.PictureReply.the-variants.{Counted}
-use Rattle.definitions.specs.Basics.{pick, allBelow, allOf, upTo}
+use Rattle.definitions.specs.Basics.{pick, allBelow, allOf, upTo, setOf, someOf}
 use Rattle.definitions.specs.Geometry.{axesOf, fullSize, macroblocks, insideAxis, mOf, nOf, fOf, twoOf, columnsRead}
 use Rattle.definitions.specs.BlockMap.{digitsOf, coordinateOf, stepOf, addressRead, blockRead}
 use Rattle.definitions.specs.Splits.{sameMotion, samePrediction, alike, oneEach, fewestIn}
 use Rattle.definitions.specs.Record.{recordWords, recordAt, wellFormed, motionOf, splitSaid, rule1, rule2, rule3, rule4, rule5, rule6, rule7, firstBroken, narrow, laidOut}
-use Rattle.definitions.specs.Inheriting.{setOf, intraSet, gathered, source, clearOf, filled, lower, lowest, having, mergedList, merged, someOf, liveOf, copiedFrom, copied, resolved, scaledPrediction, scaledMotion, inheritedMotions}
+use Rattle.definitions.specs.Inheriting.{intraSet, gathered, source, clearOf, filled, lower, lowest, having, mergedList, merged, liveOf, copiedFrom, copied, resolved, scaledPrediction, scaledMotion, inheritedMotions}
 use Rattle.definitions.specs.Detail.{quadrantDetail, detailAt}
 use Rattle.definitions.specs.Answer.{originAt, basisAt, answerOf, addressesOf, writtenFor, madeOf}
 use Rattle.definitions.specs.Refusals.{geometryTests, geometryVerdict, recordTests, addressesRead}

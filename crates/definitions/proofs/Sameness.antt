@@ -7,12 +7,12 @@ use native.Mathlib.Omega.{arith}
 use lib.IntN.{ℤ}
 use Rattle.definitions.specs.declared.Axes.{Axes}
 use Rattle.definitions.specs.declared.Answer.the-variants.{Outside, Intra, Inherited}
-use Rattle.definitions.specs.Basics.{pick, four}
+use Rattle.definitions.specs.Basics.{pick, four, setOf, someOf}
 use Rattle.definitions.specs.Geometry.{inside}
 use Rattle.definitions.specs.BlockMap.{addressRead, blockRead}
 use Rattle.definitions.specs.Blocks.{quadrantOf}
 use Rattle.definitions.specs.Record.{recordAt, isIntra, motionOf, hasDetail}
-use Rattle.definitions.specs.Inheriting.{setOf, intraSet, mostlyIntra, someOf, gathered, resolved, at, scaledMotion, inheritedMotions, chosen}
+use Rattle.definitions.specs.Inheriting.{intraSet, mostlyIntra, gathered, resolved, at, scaledMotion, inheritedMotions, chosen}
 use Rattle.definitions.specs.Detail.{readsDetail, quadrantDetail, detailAt}
 use Rattle.definitions.specs.Answer.{originAt, basisAt, withBits, answerOf, writtenFor, madeOf}
 use Rattle.definitions.proofs.Choices.{each, four-same}

@@ -11,8 +11,8 @@ use lib.Dec.{eqb}
 use lib.IntN.{ℤ}
 use lib.Pow.{pow-pos, pow-add, high}
 use Rattle.definitions.specs.declared.Axes.{Axes}
-use Rattle.definitions.specs.Basics.{pick, howMany}
-use Rattle.definitions.specs.Inheriting.{readsIntra, blocksReadingIntra, setOf, marked, intraSet}
+use Rattle.definitions.specs.Basics.{pick, howMany, setOf}
+use Rattle.definitions.specs.Inheriting.{readsIntra, blocksReadingIntra, marked, intraSet}
 
 -- one block more
 more : (n : ℕ) (f : ℕ → Bool) → setOf (suc n) f ≡ pick (f n) 1 0 * 2 ^ n + setOf n f

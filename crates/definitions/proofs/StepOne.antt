@@ -13,9 +13,9 @@ use lib.Signed.{_≤ℤ_}
 use borrow.Author.Tests.{eqb-true}
 use Rattle.definitions.specs.declared.Prediction.{Prediction}
 use Rattle.definitions.specs.declared.Motion.{Motion}
-use Rattle.definitions.specs.Basics.{pick, eqZ, allBelow, four}
+use Rattle.definitions.specs.Basics.{pick, eqZ, allBelow, four, someOf}
 use Rattle.definitions.specs.Record.{used}
-use Rattle.definitions.specs.Inheriting.{zeroPrediction, zeroMotion, source, filled, referenceAt, lowest, having, withReference, unused, mergedList, merged, someOf}
+use Rattle.definitions.specs.Inheriting.{zeroPrediction, zeroMotion, source, filled, referenceAt, lowest, having, withReference, unused, mergedList, merged}
 use Rattle.definitions.specs.Answer.{unusedMotion}
 use Rattle.definitions.proofs.Choices.{yes, no, implies, implied, both-true, below-true, below-intro, eqZ-true, each, four-at, four-same}
 use Rattle.definitions.proofs.Steps.{source-below, having-some, lowest-under, vector-had, not-used}

@@ -14,9 +14,9 @@ use lib.Signed.{ltZ, _≤ℤ_, leZ-yes, ≤ℤ-refl, ltZ-no}
 use borrow.Author.Tests.{eqb-true, ltb-true, not-true, not-false}
 use Rattle.definitions.specs.declared.Prediction.{Prediction}
 use Rattle.definitions.specs.declared.Motion.{Motion}
-use Rattle.definitions.specs.Basics.{minus, eqZ, four}
+use Rattle.definitions.specs.Basics.{minus, eqZ, four, someOf}
 use Rattle.definitions.specs.Record.{used}
-use Rattle.definitions.specs.Inheriting.{marked, zeroPrediction, zeroMotion, at, source, clearOf, filled, lower, referenceAt, lowest, having, withReference, unused, mergedList, merged, someOf, liveOf, copiedFrom, copied, resolved}
+use Rattle.definitions.specs.Inheriting.{marked, zeroPrediction, zeroMotion, at, source, clearOf, filled, lower, referenceAt, lowest, having, withReference, unused, mergedList, merged, liveOf, copiedFrom, copied, resolved}
 use Rattle.definitions.specs.Blocks.{rasterOf, horizontalNeighbour, verticalNeighbour, diagonalNeighbour}
 use Rattle.definitions.proofs.Choices.{yes, no, pick-cases, either-true, or-left, or-right, both-false, eqZ-true, eqZ-refl, each, four-at, four-same}
 

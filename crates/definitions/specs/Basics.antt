@@ -1,9 +1,10 @@
 -- Tests on numbers, and lists made by an index: the words that the other files are written in.
 use Prim.Native.Nat.{ℕ, zero, suc, _+_, _/_, _%_, _^_}
-use mathlib.Core.Bool.{Bool, true, false, _&&_}
+use mathlib.Core.Bool.{Bool, true, false, _&&_, _||_}
 use mathlib.Core.List.{List, [], _∷_, _++_}
 use lib.Dec.{eqb}
 use lib.IntN.{ℤ, pos, negsuc, negℤ}
+use lib.ListN.{getD}
 use lib.Signed.{leZ, shrZ}
 
 -- the first of two where the test holds, else the second
@@ -39,6 +40,11 @@ signed (negsuc z) n = minus n
 abbrev pub bitSet : ℕ → ℕ → Bool
 bitSet n i = eqb (n / 2 ^ i % 2) 1
 
+-- the number with those of the bits 0..n−1 set at which the test holds
+unfoldable pub setOf : ℕ → (ℕ → Bool) → ℕ
+setOf zero f = 0
+setOf (suc n) f = setOf n f + pick (f n) (2 ^ n) 0
+
 -- the test holds at each of 0..n−1
 unfoldable pub allBelow : ℕ → (ℕ → Bool) → Bool
 allBelow zero f = true
@@ -67,3 +73,7 @@ forEach (x ∷ xs) f = f x ++ forEach xs f
 -- four in raster order: 0 1 above 2 3
 abbrev pub four : {A : Type 0} → (ℕ → A) → List A
 four f = f 0 ∷ f 1 ∷ f 2 ∷ f 3 ∷ []
+
+-- one of four holds
+unfoldable pub someOf : List Bool → Bool
+someOf b = getD b 0 false || (getD b 1 false || (getD b 2 false || getD b 3 false))

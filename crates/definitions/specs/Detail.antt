@@ -4,11 +4,10 @@ use mathlib.Core.Bool.{Bool}
 use mathlib.Core.List.{List}
 use lib.IntN.{ℤ}
 use Rattle.definitions.specs.declared.Axes.{Axes}
-use Rattle.definitions.specs.Basics.{four}
+use Rattle.definitions.specs.Basics.{four, setOf, someOf}
 use Rattle.definitions.specs.BlockMap.{addressRead, blockRead}
 use Rattle.definitions.specs.Record.{recordAt, hasDetail}
 use Rattle.definitions.specs.Blocks.{quadrantOf, rasterOf}
-use Rattle.definitions.specs.Inheriting.{setOf, someOf}
 
 -- block i reads a base quadrant whose bit is set: the quadrant that holds the block read, in the record read
 abbrev pub readsDetail : Axes → List ℤ → ℕ → ℕ → ℕ → Bool

@@ -14,12 +14,12 @@ use Rattle.definitions.specs.declared.Numbers.{Numbers}
 use Rattle.definitions.specs.declared.Prediction.{Prediction}
 use Rattle.definitions.specs.declared.MacroblockReply.{MacroblockReply}
 use Rattle.definitions.specs.declared.MacroblockReply.the-variants.{Answered, Refused}
-use Rattle.definitions.specs.Basics.{pick, minus, eqZ, allBelow, allOf, upTo, four}
+use Rattle.definitions.specs.Basics.{pick, minus, eqZ, allBelow, allOf, upTo, four, setOf, someOf}
 use Rattle.definitions.specs.Geometry.{axesOf, axisOf, insideAxis, cOf, mOf, nOf, fOf, twoOf, baseSize, scaledSize}
 use Rattle.definitions.specs.BlockMap.{digitsOf, coordinateOf, stepOf, addressRead, blockRead}
 use Rattle.definitions.specs.Splits.{sameMotion, samePrediction, alike, oneEach, fewestIn}
 use Rattle.definitions.specs.Record.{recordWords, recordAt, motionOf, splitSaid, rule1, rule2, rule3, rule4, rule5, rule6, rule7, firstBroken, narrow, laidOut, allOne}
-use Rattle.definitions.specs.Inheriting.{setOf, intraSet, gathered, source, clearOf, filled, lower, lowest, having, unused, zeroPrediction, zeroMotion, mergedList, merged, someOf, liveOf, copiedFrom, copied, resolved, scaledWord, scaledPrediction, scaledMotion, inheritedMotions}
+use Rattle.definitions.specs.Inheriting.{intraSet, gathered, source, clearOf, filled, lower, lowest, having, unused, zeroPrediction, zeroMotion, mergedList, merged, liveOf, copiedFrom, copied, resolved, scaledWord, scaledPrediction, scaledMotion, inheritedMotions}
 use Rattle.definitions.specs.Detail.{quadrantDetail, detailAt}
 use Rattle.definitions.specs.Answer.{originAt, basisAt, answerOf, answerType, addressesOf, withoutMotion, writtenFor, madeOf}
 use Rattle.definitions.specs.Refusals.{geometryTests, recordTests, addressesRead}
@@ -138,13 +138,18 @@ wholeCase = record { horizontal = wholeAxis 48; vertical = wholeAxis 32 }
 abbrev pub wholeEntries : List Entry
 wholeEntries = record { kind = whole; fields = pos 0 ∷ minus 1 ∷ pos 4 ∷ minus 8 ∷ pos 0 ∷ pos 0 ∷ pos 0 ∷ [] } ∷ []
 
-abbrev pub wholeText : List ℕ
-wholeText =
+-- its first four lines, and then t
+abbrev wholeWith : List ℕ → List ℕ
+wholeWith t =
     (40 ∷ 98 ∷ 97 ∷ 115 ∷ 101 ∷ 32 ∷ 49 ∷ 54 ∷ 32 ∷ 49 ∷ 54 ∷ 41 ∷ 10 ∷ [])
     ++ ((40 ∷ 115 ∷ 99 ∷ 97 ∷ 108 ∷ 101 ∷ 100 ∷ 32 ∷ 51 ∷ 50 ∷ 32 ∷ 51 ∷ 50 ∷ 41 ∷ 10 ∷ [])
     ++ ((40 ∷ 97 ∷ 116 ∷ 32 ∷ 48 ∷ 32 ∷ 48 ∷ 41 ∷ 10 ∷ [])
     ++ ((40 ∷ 102 ∷ 117 ∷ 108 ∷ 108 ∷ 32 ∷ 52 ∷ 56 ∷ 32 ∷ 51 ∷ 50 ∷ 41 ∷ 10 ∷ [])
-    ++ (40 ∷ 119 ∷ 104 ∷ 111 ∷ 108 ∷ 101 ∷ 32 ∷ 40 ∷ 48 ∷ 32 ∷ 45 ∷ 49 ∷ 41 ∷ 32 ∷ 40 ∷ 52 ∷ 32 ∷ 45 ∷ 56 ∷ 32 ∷ 48 ∷ 32 ∷ 48 ∷ 41 ∷ 32 ∷ 48 ∷ 41 ∷ 10 ∷ []))))
+    ++ t)))
+
+abbrev pub wholeText : List ℕ
+wholeText =
+    wholeWith (40 ∷ 119 ∷ 104 ∷ 111 ∷ 108 ∷ 101 ∷ 32 ∷ 40 ∷ 48 ∷ 32 ∷ 45 ∷ 49 ∷ 41 ∷ 32 ∷ 40 ∷ 52 ∷ 32 ∷ 45 ∷ 56 ∷ 32 ∷ 48 ∷ 32 ∷ 48 ∷ 41 ∷ 32 ∷ 48 ∷ 41 ∷ 10 ∷ [])
 
 -- the same with (note) before, between and after its lines
 abbrev pub notedText : List ℕ
@@ -206,6 +211,10 @@ brokenTexts =
     ∷ brokenRow (inNote (40 ∷ 41 ∷ 41 ∷ [])) 7  -- (note ())
     ∷ brokenRow (inNote (40 ∷ 40 ∷ 40 ∷ 40 ∷ 40 ∷ 40 ∷ 40 ∷ 97 ∷ [])) 14  -- (note (((((((a, which goes on
     ∷ brokenRow (inNote (40 ∷ 40 ∷ 40 ∷ 40 ∷ 40 ∷ 40 ∷ 40 ∷ 40 ∷ [])) 13  -- (note ((((((((
+    -- behind the first four lines of the Whole case, E7's last number: document 01's (whole (0 -1) (4 -8 0 0)), which has none
+    ∷ brokenRow (wholeWith (40 ∷ 119 ∷ 104 ∷ 111 ∷ 108 ∷ 101 ∷ 32 ∷ 40 ∷ 48 ∷ 32 ∷ 45 ∷ 49 ∷ 41 ∷ 32 ∷ 40 ∷ 52 ∷ 32 ∷ 45 ∷ 56 ∷ 32 ∷ 48 ∷ 32 ∷ 48 ∷ 41 ∷ 41 ∷ 10 ∷ [])) 74
+    ∷ brokenRow (wholeWith (40 ∷ 105 ∷ 110 ∷ 116 ∷ 114 ∷ 97 ∷ 41 ∷ 10 ∷ [])) 56  -- (intra)
+    ∷ brokenRow (wholeWith (40 ∷ 105 ∷ 110 ∷ 116 ∷ 114 ∷ 97 ∷ 32 ∷ 48 ∷ 32 ∷ 48 ∷ 41 ∷ [])) 58  -- (intra 0 0)
     ∷ []
 
 abbrev pub PlacesRight : List Broken → Type 0

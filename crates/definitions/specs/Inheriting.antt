@@ -1,6 +1,6 @@
 -- "Inheriting" of document 01, steps 1 to 5.
-use Prim.Native.Nat.{ℕ, zero, suc, _+_, _*_, _/_, _^_}
-use mathlib.Core.Bool.{Bool, false, not, _||_}
+use Prim.Native.Nat.{ℕ, _+_, _*_, _/_}
+use mathlib.Core.Bool.{Bool, false, not}
 use mathlib.Core.List.{List, []}
 use lib.Count.{ones}
 use lib.Dec.{eqb, leb}
@@ -11,7 +11,7 @@ use Rattle.definitions.specs.declared.Axes.{Axes}
 use Rattle.definitions.specs.declared.Prediction.{Prediction}
 use Rattle.definitions.specs.declared.Motion.{Motion}
 use Rattle.definitions.specs.declared.Split.{Split}
-use Rattle.definitions.specs.Basics.{pick, minus, eqZ, bitSet, down, howMany, four}
+use Rattle.definitions.specs.Basics.{pick, minus, eqZ, bitSet, setOf, down, howMany, someOf, four}
 use Rattle.definitions.specs.Geometry.{baseSize, scaledSize}
 use Rattle.definitions.specs.BlockMap.{addressRead, blockRead}
 use Rattle.definitions.specs.Record.{recordAt, isIntra, motionOf, used}
@@ -27,10 +27,6 @@ unfoldable pub blocksReadingIntra : Axes → List ℤ → ℕ → ℕ → ℕ
 blocksReadingIntra g base column row = howMany 16 (readsIntra g base column row)
 
 -- A sixteen-bit set marks the blocks that read intra macroblocks: bit i stands for block i.
-unfoldable pub setOf : ℕ → (ℕ → Bool) → ℕ
-setOf zero f = 0
-setOf (suc n) f = setOf n f + pick (f n) (2 ^ n) 0
-
 abbrev pub marked : ℕ → ℕ → Bool
 marked set i = bitSet set i
 
@@ -107,10 +103,7 @@ merged m =
     })
 
 -- Step 3. A quadrant all intra copies its horizontal neighbour quadrant, block for block; if that was all intra too, the vertical one.
--- some block of a quadrant is not intra; the quadrants of which that holds
-unfoldable pub someOf : List Bool → Bool
-someOf b = getD b 0 false || (getD b 1 false || (getD b 2 false || getD b 3 false))
-
+-- the quadrants of which some block is not intra
 unfoldable pub liveOf : ℕ → List Bool
 liveOf set = four (λ q. someOf (clearOf set q))
 

@@ -31,13 +31,13 @@ use Rattle.definitions.specs.declared.LogReply.{LogReply}
 use Rattle.definitions.specs.declared.LogReply.the-variants.{Written, Refused as NotWritten}
 use Rattle.definitions.specs.declared.MacroblockReply.{MacroblockReply}
 use Rattle.definitions.specs.declared.MacroblockReply.the-variants.{Answered, Refused as Declined}
-use Rattle.definitions.specs.Basics.{pick, minus, allBelow, allOf, upTo, forEach}
+use Rattle.definitions.specs.Basics.{pick, minus, allBelow, allOf, upTo, forEach, setOf, someOf}
 use Rattle.definitions.specs.Raster.{baseAddress}
 use Rattle.definitions.specs.Geometry.{axisOf, insideAxis, mOf, nOf, fOf, twoOf, columnsRead}
 use Rattle.definitions.specs.BlockMap.{digitsOf, coordinateOf, stepOf, addressRead, blockRead}
 use Rattle.definitions.specs.Splits.{sameMotion, samePrediction, alike, oneEach, fewestIn}
 use Rattle.definitions.specs.Record.{recordAt, motionOf, splitSaid, rule1, rule2, rule3, rule4, rule5, rule6, rule7, firstBroken, narrow, laidOut}
-use Rattle.definitions.specs.Inheriting.{setOf, intraSet, gathered, source, clearOf, filled, lower, lowest, having, mergedList, merged, someOf, liveOf, copiedFrom, copied, resolved, scaledPrediction, scaledMotion, inheritedMotions}
+use Rattle.definitions.specs.Inheriting.{intraSet, gathered, source, clearOf, filled, lower, lowest, having, mergedList, merged, liveOf, copiedFrom, copied, resolved, scaledPrediction, scaledMotion, inheritedMotions}
 use Rattle.definitions.specs.Detail.{quadrantDetail, detailAt}
 use Rattle.definitions.specs.Answer.{originAt, basisAt, answerOf, columnsNamed, rowsNamed, addressesNamed, addressesOf, writtenFor, madeOf}
 use Rattle.definitions.specs.Refusals.{refusal, geometryTests, geometryVerdict, recordTests, addressesRead}
@@ -475,8 +475,8 @@ unstarred-hold = refl
 pub addresses-named : (g : Axes) (a : Answer) → addressesNamed g a ≡ forEach (rowsNamed a) (λ row. map (λ column. baseAddress g column row) (columnsNamed a))
 unfolding addressesOf
 addresses-named g Outside = refl
-addresses-named g (Intra o) = refl
-addresses-named g (Inherited o s) = refl
+addresses-named g (Intra b) = refl
+addresses-named g (Inherited b s) = refl
 
 -- ---- Texts
 -- n + 1 zeros separated by one space, a closing bracket, and then t

@@ -13,11 +13,10 @@ use lib.ListN.{getD, List·getD-append}
 use lib.Pow.{pow-add, pow-pos}
 use lib.Seq.{getD-append-seam}
 use borrow.Author.Tests.{eqb-true, eq-eqb, ltb-true, ne-eqb}
-use Rattle.definitions.specs.Basics.{allBelow, bitSet, pick, upTo}
-use Rattle.definitions.specs.Inheriting.{someOf}
+use Rattle.definitions.specs.Basics.{allBelow, bitSet, pick, upTo, someOf}
 use Rattle.definitions.proofs.Choices.{and-intro, below-true, both-true, both-ways, each, upTo-length}
 use Rattle.gather.proofs.Sets.{bit}
-use Rattle.details.specs.Bits.{Own, asRows, fourMasked, masked}
+use Rattle.details.specs.Bits.{asRows, fourMasked, isOwn, masked}
 
 -- ---- What a mask of several bits leaves is what each of its bits leaves
 or-odd : (a b : ℕ) → bitOr a b % 2 ≡ max (a % 2) (b % 2)
@@ -187,7 +186,7 @@ all-own : allBelow 16 own-test ≡ true
 unfolding allBelow own-test pick
 all-own = refl
 
-pub detail-own : (n : ℕ) → n < 16 → (h v : List ℕ) → Own h ≡ true → Own v ≡ true → n ≡ fourMasked n h v
+pub detail-own : (n : ℕ) → n < 16 → (h v : List ℕ) → isOwn h ≡ true → isOwn v ≡ true → n ≡ fourMasked n h v
 unfolding own-test
 detail-own n l h v p q =
     let b = both-true _ _ p in

@@ -9,10 +9,9 @@ use native.Mathlib.Omega.{arith}
 use lib.Bits.{bitAnd, bitOr}
 use lib.IntN.{ℤ, natAbs}
 use lib.ListN.{getD}
-use Rattle.definitions.specs.Basics.{bitSet, pick, upTo}
+use Rattle.definitions.specs.Basics.{bitSet, pick, upTo, setOf, someOf}
 use Rattle.definitions.specs.BlockMap.{blockIn, columnOf}
 use Rattle.definitions.specs.Blocks.{quadrantOf}
-use Rattle.definitions.specs.Inheriting.{setOf, someOf}
 use Rattle.definitions.specs.Record.{detailOf, narrow, recordAt, rule7}
 use Rattle.definitions.proofs.Choices.{each, four-same}
 use Rattle.definitions.proofs.Formed.{rules-of}

@@ -7,10 +7,9 @@ use lib.Bits.{bitAnd, bitOr}
 use lib.Dec.{eqb}
 use lib.IntN.{ℤ, natAbs}
 use lib.ListN.{getD}
-use Rattle.definitions.specs.Basics.{four, pick}
+use Rattle.definitions.specs.Basics.{four, pick, setOf, someOf}
 use Rattle.definitions.specs.Blocks.{quadrantOf, rasterOf}
 use Rattle.definitions.specs.BlockMap.{blockIn, columnOf}
-use Rattle.definitions.specs.Inheriting.{setOf, someOf}
 use Rattle.definitions.specs.Record.{detailOf, hasDetail}
 use Rattle.gather.specs.Reads.{blockAt, recordRead}
 
@@ -38,7 +37,8 @@ detailsBy width across down base =
 abbrev pub InOne : ℕ → List ℕ → Type 0
 InOne d x = getD x 3 0 / d ≡ getD x 0 0 / d
 
--- ---- Sets of bits. Where the bit stands of the quadrant that is read at coordinate x, of which the first block reads `first`: what the column adds, and half of what the row adds
+-- ---- Sets of bits. In the sixteen bits of the corners' words, quadrant c, r of the macroblock C columns and R rows after the first has the place 4C + c + 8R + 2r. What the
+-- coordinate x of a block adds to that place, on the axis whose first block reads `first`: across 4C + c, and down twice that.
 abbrev pub placeOf : ℕ → ℕ → ℕ
 placeOf first x = 4 * (columnOf x - columnOf first) + blockIn x / 2
 
@@ -62,5 +62,6 @@ fourMasked bits h v =
     masked bits (getD h 0 0 * asRows (getD v 0 0)) + 2 * masked bits (getD h 1 0 * asRows (getD v 0 0))
     + 4 * masked bits (getD h 0 0 * asRows (getD v 1 0)) + 8 * masked bits (getD h 1 0 * asRows (getD v 1 0))
 
-abbrev pub Own : List ℕ → Bool
-Own h = eqb (getD h 0 0) 1 && eqb (getD h 1 0) 2
+-- the first two blocks read the first half of one macroblock, and the last two the other
+abbrev pub isOwn : List ℕ → Bool
+isOwn h = eqb (getD h 0 0) 1 && eqb (getD h 1 0) 2

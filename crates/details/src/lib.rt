@@ -1,7 +1,7 @@
 // The detail of a macroblock (document 02, E7): which of its quadrants read base quadrants that have detail. By the block map alone, before any filling.
 ghost use Prim.Native.Nat.{_*_, _+_, _/_, _<_, _≤_};
 ghost use Rattle.definitions.specs.Record.{detailOf};
-ghost use Rattle.details.specs.Bits.{InOne, Own, detailBy, detailsBy, fourMasked, halvesOf, masked};
+ghost use Rattle.details.specs.Bits.{InOne, detailBy, detailsBy, fourMasked, halvesOf, isOwn, masked};
 ghost use Rattle.gather.specs.Reads.{Readable, ReadableAt, Rising, recordRead};
 ghost use lib.IntN.{natAbs};
 ghost use lib.ListN.{getD};
@@ -162,7 +162,7 @@ pub fn detail_of_more(
 
 // The first two blocks lie in the first half of a macroblock, the last two in the second.
 fn is_own(h: [u8; 2]) -> bool
-    ensures { λ r. ⌜ r ≡ Own h ⌝ }
+    ensures { λ r. ⌜ r ≡ isOwn h ⌝ }
 {
     (h[0] == 1) & (h[1] == 2)
 }

@@ -8,9 +8,8 @@ use lib.Dec.{eqb}
 use lib.IntN.{ℤ}
 use lib.ListN.{getD}
 use borrow.Author.Tests.{eq-eqb, eqb-true, eqb-false}
-use Rattle.definitions.specs.Basics.{pick}
+use Rattle.definitions.specs.Basics.{pick, setOf}
 use Rattle.definitions.specs.BlockMap.{columnOf}
-use Rattle.definitions.specs.Inheriting.{setOf}
 use Rattle.definitions.specs.Record.{isIntra, recordAt}
 use Rattle.definitions.proofs.Choices.{each, no, yes}
 use Rattle.definitions.proofs.Sameness.{set-same}

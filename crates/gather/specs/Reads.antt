@@ -10,10 +10,9 @@ use Rattle.definitions.specs.declared.Motion.{Motion}
 use Rattle.motion.specs.declared.BlockMotion.{BlockMotion}
 use Rattle.gather.specs.declared.Corners.{Corners}
 use Rattle.gather.specs.declared.Spot.{Spot}
-use Rattle.definitions.specs.Basics.{four, pick}
+use Rattle.definitions.specs.Basics.{four, pick, setOf}
 use Rattle.definitions.specs.BlockMap.{columnOf, blockIn}
 use Rattle.definitions.specs.Record.{recordWords, recordAt, isIntra, motionOf, wellFormed, narrow}
-use Rattle.definitions.specs.Inheriting.{setOf}
 use Rattle.definitions.specs.Blocks.{rasterOf}
 
 -- the record that a block with coordinates x and y reads, which of its blocks, and the motion

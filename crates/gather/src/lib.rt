@@ -1,8 +1,7 @@
 // Reading by the block map: the motions that the blocks of a macroblock read, and which of the macroblocks that are read are intra.
 ghost use Prim.Native.Nat.{ℕ, _<_, _≤_};
-ghost use Rattle.definitions.specs.Basics.{eqZ, pick};
+ghost use Rattle.definitions.specs.Basics.{eqZ, pick, setOf};
 ghost use Rattle.definitions.specs.Blocks.{quadrantOf};
-ghost use Rattle.definitions.specs.Inheriting.{setOf};
 ghost use Rattle.definitions.specs.Record.{isIntra, subTypeOf, typeOf};
 ghost use Rattle.gather.specs.Reads.{PlaceIn, PlacesIn, Readable, ReadableAt, acrossOf, addressAt, beside, blockAt, blockFrom, cornersBy, downOf, motionRead, quadrantFrom, recordRead, setAmong};
 ghost use Rattle.motion.specs.ByValue.{motionIn};

@@ -1,6 +1,7 @@
 // The intra set: its count, which of its blocks lie in a quadrant, and step 3 of "Inheriting", on four quadrants of four motions.
 ghost use Prim.Native.Nat.{_<_};
-ghost use Rattle.definitions.specs.Inheriting.{clearOf, copied, copiedFrom, liveOf, marked, mostlyIntra, someOf};
+ghost use Rattle.definitions.specs.Basics.{someOf};
+ghost use Rattle.definitions.specs.Inheriting.{clearOf, copied, copiedFrom, liveOf, marked, mostlyIntra};
 ghost use Rattle.motion.specs.ByValue.{quadrantsIn};
 ghost use mathlib.Core.Path.{_≡_};
 use motion::BlockMotion;

@@ -12,9 +12,9 @@ use Rattle.definitions.specs.declared.Prediction.{Prediction}
 use Rattle.definitions.specs.declared.Motion.{Motion}
 use Rattle.motion.specs.declared.BlockMotion.{BlockMotion}
 use Rattle.gather.specs.declared.Spot.{Spot}
-use Rattle.definitions.specs.Basics.{allBelow, minus, between, eqZ, four, pick}
+use Rattle.definitions.specs.Basics.{allBelow, minus, between, eqZ, four, pick, someOf}
 use Rattle.definitions.specs.Blocks.{quadrantOf}
-use Rattle.definitions.specs.Inheriting.{clearOf, copied, copiedFrom, filled, liveOf, marked, merged, resolved, someOf, source, zeroMotion}
+use Rattle.definitions.specs.Inheriting.{clearOf, copied, copiedFrom, filled, liveOf, marked, merged, resolved, source, zeroMotion}
 use Rattle.definitions.specs.Record.{isIntra, narrow, used, motionOf, recordAt, referenceOf, rule3, vectorWord}
 use Rattle.definitions.proofs.Choices.{below-true, both-true, eqZ-true, each, four-at, four-same}
 use Rattle.definitions.proofs.Formed.{Vectors, rules-of, vectors-of}

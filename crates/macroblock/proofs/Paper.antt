@@ -32,16 +32,16 @@ use Rattle.gather.specs.Reads.{motionRead, setBy, gatheredBy}
 use Rattle.macroblock.specs.Made.{answerBy, answerFor, basisBy, fixedOf, inheritedInside, madeBy, motionsInside, nowhere, originBy, readIn, readOf, resolvedInside, setInside, sortBy, sortInside, writtenBy, writtenInside}
 
 -- an answer and its record, where it is intra (u) or inherits
-inside-answer : (u : Bool) (o : Basis) (m : List (List Motion)) → pick u (Intra o) (Inherited o (chosen m)) ≡ answerFor (pick u SortIntra SortInherited) o m
+inside-answer : (u : Bool) (b : Basis) (m : List (List Motion)) → pick u (Intra b) (Inherited b (chosen m)) ≡ answerFor (pick u SortIntra SortInherited) b m
 unfolding pick
-inside-answer true o m = refl
-inside-answer false o m = refl
+inside-answer true b m = refl
+inside-answer false b m = refl
 
-inside-written : (u : Bool) (o : Basis) (m : List (List Motion))
-    → writtenFor (pick u (Intra o) (Inherited o (chosen m))) m ≡ pick u (withoutMotion 0 (pos (o .detail))) (laidOut (dividedBy (chosen m) (motionAt m) (pos (o .detail))))
+inside-written : (u : Bool) (b : Basis) (m : List (List Motion))
+    → writtenFor (pick u (Intra b) (Inherited b (chosen m))) m ≡ pick u (withoutMotion 0 (pos (b .detail))) (laidOut (dividedBy (chosen m) (motionAt m) (pos (b .detail))))
 unfolding pick writtenFor
-inside-written true o m = refl
-inside-written false o m = refl
+inside-written true b m = refl
+inside-written false b m = refl
 
 module _ (g : Axes) (accepted : AcceptedAxes g) (column row : ℕ) (base : List ℤ) where
   abbrev hor : AxisRead
@@ -128,10 +128,10 @@ module _ (g : Axes) (accepted : AcceptedAxes g) (column row : ℕ) (base : List 
   placed-by = by-window (insideAxis (g .horizontal) (sampleOf column)) (insideAxis (g .vertical) (sampleOf row)) refl refl
 
 -- the sort is that of the answer
-answer-sort : (s : Sort) (o : Basis) (m : List (List Motion)) → s ≡ sortOf (answerFor s o m)
-answer-sort SortInherited o m = refl
-answer-sort SortIntra o m = refl
-answer-sort SortOutside o m = refl
+answer-sort : (s : Sort) (b : Basis) (m : List (List Motion)) → s ≡ sortOf (answerFor s b m)
+answer-sort SortInherited b m = refl
+answer-sort SortIntra b m = refl
+answer-sort SortOutside b m = refl
 
 pub sort-is : (f : Fixed) (h v : AxisRead) (base : List ℤ) → sortBy f h v base ≡ sortOf (madeBy f h v base .answer)
 unfolding madeBy answerBy

@@ -12,9 +12,9 @@ use lib.Count.{ones, onesIn, ones-step}
 use borrow.Author.Tests.{eqb-true, le-leb}
 use Rattle.definitions.specs.declared.Motion.{Motion}
 use Rattle.definitions.specs.declared.Split.the-variants.{S16x16}
-use Rattle.definitions.specs.Basics.{pick, eqZ, four, upTo}
+use Rattle.definitions.specs.Basics.{pick, eqZ, four, upTo, setOf}
 use Rattle.definitions.specs.Record.{allOne, recordAt, isIntra, typeOf, subTypeOf, motionOf, laidOut}
-use Rattle.definitions.specs.Inheriting.{zeroMotion, setOf, mostlyIntra, merged, resolved, motionAt, chosen}
+use Rattle.definitions.specs.Inheriting.{zeroMotion, mostlyIntra, merged, resolved, motionAt, chosen}
 use Rattle.definitions.specs.Answer.{dividedBy}
 use Rattle.definitions.specs.Blocks.{quadrantOf}
 use Rattle.definitions.proofs.Choices.{both-true, either-true, each, four-same, yes, no}

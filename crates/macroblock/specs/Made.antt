@@ -45,7 +45,7 @@ unfoldable pub readOf : Axis → ℕ → AxisRead
 readOf a x = pick (insideAxis a (sampleOf x)) (readIn (stepOf a (sampleOf x))) nowhere
 
 -- the coordinates of a step have sixteen bits, and rise
-pub record Small (s : AxisStep) : Type 0 where
+pub record SmallRising (s : AxisStep) : Type 0 where
   pub reads : (i : ℕ) → i < 4 → getD (s .reads) i 0 < 65536
   pub rising : Rising (s .reads)
 

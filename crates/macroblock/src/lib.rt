@@ -8,7 +8,7 @@ ghost use Rattle.definitions.specs.Inheriting.{filled, merged, resolved};
 ghost use Rattle.definitions.specs.Record.{detailOf, recordWords, rule7, splitSaid, subSplitOf};
 ghost use Rattle.details.specs.Bits.{detailBy, halvesOf};
 ghost use Rattle.gather.specs.Reads.{Readable, Rising, gatheredBy, quadrantFrom, setBy};
-ghost use Rattle.macroblock.specs.Made.{Makeable, Ready, Small, answerBy, detailInside, fixedOf, inheritedInside, nowhere, onePart, originBy, readIn, readOf, setInside, sortBy, sortInside, writtenBy, writtenInside};
+ghost use Rattle.macroblock.specs.Made.{Makeable, Ready, SmallRising, answerBy, detailInside, fixedOf, inheritedInside, nowhere, onePart, originBy, readIn, readOf, setInside, sortBy, sortInside, writtenBy, writtenInside};
 ghost use Rattle.macroblock.specs.Quadrants.{Alike, Mergeable, plainAt};
 ghost use Rattle.motion.specs.ByValue.{motionsIn, quadrantsIn};
 ghost use lib.IntN.{natAbs};
@@ -91,7 +91,7 @@ pub struct AxisRead {
 
 // An axis inside, in sixteen bits.
 fn read_in(s: AxisStep) -> AxisRead
-    requires { ⌜ Small s ⌝ }
+    requires { ⌜ SmallRising s ⌝ }
     ensures { λ r. ⌜ r ≡ readIn s ⌝ }
 {
     AxisRead {

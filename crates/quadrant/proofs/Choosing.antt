@@ -10,8 +10,8 @@ use mir.Syntax.{w32}
 use mir.Val.{ofZ, toZ}
 use mir.Facts.{toZ-ofZ}
 use Rattle.definitions.specs.declared.Prediction.{Prediction}
-use Rattle.definitions.specs.Basics.{pick, eqZ}
-use Rattle.definitions.specs.Inheriting.{source, lowest, having, someOf}
+use Rattle.definitions.specs.Basics.{pick, eqZ, someOf}
+use Rattle.definitions.specs.Inheriting.{source, lowest, having}
 use Rattle.definitions.proofs.Steps.{source-below, having-some}
 use Rattle.motion.specs.ByValue.{Reference}
 use Rattle.quadrant.specs.declared.Sources.{Sources}

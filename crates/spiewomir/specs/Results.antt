@@ -32,8 +32,8 @@ classNumber Center = 3
 -- the sub-types that an answer has, 0 unless it is inherited with an 8×8 split
 abbrev pub answerSubTypes : Answer → List ℕ
 answerSubTypes Outside = 0 ∷ 0 ∷ 0 ∷ 0 ∷ []
-answerSubTypes (Intra o) = 0 ∷ 0 ∷ 0 ∷ 0 ∷ []
-answerSubTypes (Inherited o s) = subTypes s
+answerSubTypes (Intra b) = 0 ∷ 0 ∷ 0 ∷ 0 ∷ []
+answerSubTypes (Inherited b s) = subTypes s
 
 -- refusal 0 stands for none
 abbrev pub answerResult : Answer → MacroblockResult

@@ -1,6 +1,7 @@
 -- `inherit::live_of` meets its contract. Assumes nothing.
 use mathlib.Core.Path.{_∙_, ap}
-use Rattle.definitions.specs.Inheriting.{someOf, liveOf}
+use Rattle.definitions.specs.Basics.{someOf}
+use Rattle.definitions.specs.Inheriting.{liveOf}
 use Rattle.definitions.proofs.Choices.{four-same}
 use borrow.Author.Needs.{needs}
 use Rattle.inherit.proofs.live_of.Statement.{statement}

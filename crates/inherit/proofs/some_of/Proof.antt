@@ -1,6 +1,6 @@
 -- `inherit::some_of` meets its contract. Assumes nothing.
 use mathlib.Core.Path.{sym, _∙_}
-use Rattle.definitions.specs.Inheriting.{someOf}
+use Rattle.definitions.specs.Basics.{someOf}
 use Rattle.definitions.proofs.Branches.{or-off}
 use Rattle.definitions.proofs.Choices.{or-left}
 use borrow.Author.Needs.{needs}
