@@ -84,7 +84,7 @@ module _ (g : Axes) (base other : List ℤ) (column row : ℕ) (agree : (i : ℕ
   same-inherited = inherited-alike g base other column row intra-same motion-same
 
   same-reads : (i : ℕ) → i < 16 → readsDetail g other column row i ≡ readsDetail g base column row i
-  same-reads i h = ap (λ (r : List ℤ). hasDetail r (quadrantOf (blockRead g column row i))) (agree i h)
+  same-reads i h = cc (agree i h)
 
   same-detail : detailAt g other column row ≡ detailAt g base column row
   unfolding detailAt quadrantDetail

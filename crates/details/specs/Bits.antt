@@ -53,14 +53,16 @@ halvesOf x = pairOf (getD x 0 0) (getD x 0 0) (getD x 1 0) ∷ pairOf (getD x 0 
 abbrev pub asRows : ℕ → ℕ
 asRows c = c % 2 + 4 * (c / 2 % 2) + 16 * (c / 4 % 2) + 64 * (c / 8 % 2) + 256 * (c / 16 % 2) + 1024 * (c / 32 % 2)
 
--- 1 where some bit of the mask is set, else 0; and the four by the sets of the columns and of the rows
+-- 1 where some bit of the mask is set, else 0; and the four, by the sets of the columns and of the rows
 abbrev pub masked : ℕ → ℕ → ℕ
 masked bits mask = pick (eqb (bitAnd bits mask) 0) 0 1
 
+abbrev pub maskedBy : ℕ → List ℕ → ℕ → ℕ → ℕ
+maskedBy bits h upper lower =
+    masked bits (getD h 0 0 * upper) + 2 * masked bits (getD h 1 0 * upper) + 4 * masked bits (getD h 0 0 * lower) + 8 * masked bits (getD h 1 0 * lower)
+
 abbrev pub fourMasked : ℕ → List ℕ → List ℕ → ℕ
-fourMasked bits h v =
-    masked bits (getD h 0 0 * asRows (getD v 0 0)) + 2 * masked bits (getD h 1 0 * asRows (getD v 0 0))
-    + 4 * masked bits (getD h 0 0 * asRows (getD v 1 0)) + 8 * masked bits (getD h 1 0 * asRows (getD v 1 0))
+fourMasked bits h v = maskedBy bits h (asRows (getD v 0 0)) (asRows (getD v 1 0))
 
 -- the first two blocks read the first half of one macroblock, and the last two the other
 abbrev pub isOwn : List ℕ → Bool

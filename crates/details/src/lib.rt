@@ -1,7 +1,7 @@
 // The detail of a macroblock (document 02, E7): which of its quadrants read base quadrants that have detail. By the block map alone, before any filling.
 ghost use Prim.Native.Nat.{_*_, _+_, _/_, _<_, _≤_};
 ghost use Rattle.definitions.specs.Record.{detailOf};
-ghost use Rattle.details.specs.Bits.{InOne, detailBy, detailsBy, fourMasked, halvesOf, isOwn, masked};
+ghost use Rattle.details.specs.Bits.{InOne, detailBy, detailsBy, fourMasked, halvesOf, isOwn, masked, maskedBy};
 ghost use Rattle.gather.specs.Reads.{Readable, ReadableAt, Rising, recordRead};
 ghost use lib.IntN.{natAbs};
 ghost use lib.ListN.{getD};
@@ -128,19 +128,26 @@ fn any(bits: u32, columns: u32, rows: u32) -> u32
     if bits & (columns * rows) == 0 { 0 } else { 1 }
 }
 
-fn detail_by(bits: u32, h: [u8; 2], v: [u8; 2]) -> u8
-    requires { ⌜ (getD h 0 0 < 64) × (getD h 1 0 < 64) × (getD v 0 0 < 64) × (getD v 1 0 < 64) ⌝ }
-    ensures { λ r. ⌜ (r ≡ fourMasked bits h v) × (r < 16) ⌝ }
+fn four_by(bits: u32, h: [u8; 2], upper: u32, lower: u32) -> u8
+    requires { ⌜ (getD h 0 0 < 64) × (getD h 1 0 < 64) × (upper < 2048) × (lower < 2048) ⌝ }
+    ensures { λ r. ⌜ (r ≡ maskedBy bits h upper lower) × (r < 16) ⌝ }
 {
     let left = h[0] as u32;
     let right = h[1] as u32;
-    let upper = AS_ROWS[v[0] as usize] as u32;
-    let lower = AS_ROWS[v[1] as usize] as u32;
     let a = any(bits, left, upper);
     let b = any(bits, right, upper);
     let c = any(bits, left, lower);
     let d = any(bits, right, lower);
     (a + 2 * b + 4 * c + 8 * d) as u8
+}
+
+fn detail_by(bits: u32, h: [u8; 2], v: [u8; 2]) -> u8
+    requires { ⌜ (getD h 0 0 < 64) × (getD h 1 0 < 64) × (getD v 0 0 < 64) × (getD v 1 0 < 64) ⌝ }
+    ensures { λ r. ⌜ (r ≡ fourMasked bits h v) × (r < 16) ⌝ }
+{
+    let upper = AS_ROWS[v[0] as usize] as u32;
+    let lower = AS_ROWS[v[1] as usize] as u32;
+    four_by(bits, h, upper, lower)
 }
 
 // ---- The detail of a macroblock
@@ -172,17 +179,11 @@ fn detail_in(bits: u32, h: [u8; 2], v: [u8; 2]) -> u8
     requires { ⌜ (getD h 0 0 < 4) × (getD h 1 0 < 4) × (getD v 0 0 < 4) × (getD v 1 0 < 4) ⌝ }
     ensures { λ r. ⌜ (r ≡ fourMasked bits h v) × (r < 16) ⌝ }
 {
-    let left = h[0] as u32;
-    let right = h[1] as u32;
     let above = v[0] as u32;
     let below = v[1] as u32;
     let upper = above + above / 2 * 2;
     let lower = below + below / 2 * 2;
-    let a = any(bits, left, upper);
-    let b = any(bits, right, upper);
-    let c = any(bits, left, lower);
-    let d = any(bits, right, lower);
-    (a + 2 * b + 4 * c + 8 * d) as u8
+    four_by(bits, h, upper, lower)
 }
 
 // Where one is read, its bits are all that matter (`detail-one`), and where each quadrant reads the one in its own place, they are the answer (`detail-own`).
