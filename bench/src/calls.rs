@@ -56,7 +56,8 @@ pub struct Picture {
 impl Picture {
     pub fn new(eight: Eight) -> Picture {
         let random = &mut Random::new(7);
-        let base = Mood::mixed(random).base(random, base_macroblocks(&eight));
+        let details = &mut Random::new(77);
+        let base = Mood::mixed(random).base_apart(random, details, base_macroblocks(&eight));
         let words = full_macroblocks(&eight) * WORDS;
         Picture {
             eight,

@@ -195,18 +195,22 @@ impl Mood {
         }
     }
 
+    /// A well-formed record without detail.
+    fn plain(&self, random: &mut Random) -> Record {
+        if random.below(16) < self.intra {
+            return intra();
+        }
+        let kind = random.pick(&self.kinds);
+        let mut subs = [0; 4];
+        if kind == 4 {
+            subs = [0; 4].map(|_: i16| random.below(4) as i16);
+        }
+        record(kind, subs, || self.motion(random))
+    }
+
     /// A well-formed record.
     pub fn record(&self, random: &mut Random) -> Record {
-        let record = if random.below(16) < self.intra {
-            intra()
-        } else {
-            let kind = random.pick(&self.kinds);
-            let mut subs = [0; 4];
-            if kind == 4 {
-                subs = [0; 4].map(|_: i16| random.below(4) as i16);
-            }
-            record(kind, subs, || self.motion(random))
-        };
+        let record = self.plain(random);
         detailed(record, random.pick(self.details))
     }
 
@@ -215,6 +219,17 @@ impl Mood {
         let mut base = Vec::with_capacity(records * WORDS);
         for _ in 0..records {
             base.extend_from_slice(&self.record(random));
+        }
+        base
+    }
+
+    /// The same with details from a generator of their own, so that the other words
+    /// do not depend on them.
+    pub fn base_apart(&self, random: &mut Random, details: &mut Random, records: usize) -> Vec<i16> {
+        let mut base = Vec::with_capacity(records * WORDS);
+        for _ in 0..records {
+            let record = detailed(self.plain(random), details.pick(self.details));
+            base.extend_from_slice(&record);
         }
         base
     }

@@ -317,7 +317,7 @@ module _ (limit : ℕ) where
           ∙ (record-of (madeAt g base) (λ m. m .written) (made-length g base) (fullCount g) address (omega (arith, mul-le-mul-right width y))
           ∙ (λ i. madeOf g base (p i) (q i) .written))
 
-  -- a macroblock whose call is accepted is one of the picture, and was lent 77 words
+  -- a macroblock whose call is accepted is one of the picture, and was lent 78 words
   pub asked-at : (n : Numbers) (base : List ℤ) (column row : ℤ) (words : List ℤ) → verdictOf (macroblockTests limit n base column row words) ≡ Accepted → AskedAt n column row words
   unfolding macroblockTests
   asked-at n base column row words v =

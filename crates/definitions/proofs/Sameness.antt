@@ -10,8 +10,7 @@ use Rattle.definitions.specs.declared.Answer.the-variants.{Outside, Intr
 use Rattle.definitions.specs.Basics.{pick, four, setOf, someOf}
 use Rattle.definitions.specs.Geometry.{inside}
 use Rattle.definitions.specs.BlockMap.{addressRead, blockRead}
-use Rattle.definitions.specs.Blocks.{quadrantOf}
-use Rattle.definitions.specs.Record.{recordAt, isIntra, motionOf, hasDetail}
+use Rattle.definitions.specs.Record.{recordAt, isIntra, motionOf}
 use Rattle.definitions.specs.Inheriting.{intraSet, mostlyIntra, gathered, resolved, at, scaledMotion, inheritedMotions, chosen}
 use Rattle.definitions.specs.Detail.{readsDetail, quadrantDetail, detailAt}
 use Rattle.definitions.specs.Answer.{originAt, basisAt, withBits, answerOf, writtenFor, madeOf}

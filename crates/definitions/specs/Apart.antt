@@ -1,4 +1,4 @@
--- Detail (document 02, E7) takes no part in anything else: with other bits in the base, an answer and its written record have other bits at most.
+-- Detail (document 02, E7) takes no part in anything else that the two calls hand over: with other bits in the base, an answer and its written record have other bits at most.
 use Prim.Native.Nat.{ℕ}
 use mathlib.Core.Path.{_≡_}
 use mathlib.Core.List.{List}

@@ -74,6 +74,6 @@ forEach (x ∷ xs) f = f x ++ forEach xs f
 abbrev pub four : {A : Type 0} → (ℕ → A) → List A
 four f = f 0 ∷ f 1 ∷ f 2 ∷ f 3 ∷ []
 
--- one of four holds
+-- at least one of four holds
 unfoldable pub someOf : List Bool → Bool
 someOf b = getD b 0 false || (getD b 1 false || (getD b 2 false || getD b 3 false))

@@ -1,4 +1,4 @@
--- Demand 3 of the buyer (document 00) as document 01 reads it ("For demand 3"): one record type, with a field for each sentence of the demand.
+-- Demand 3 of the buyer (document 00) as document 01 reads it ("For demand 3"): one record type, with a field for each sentence of the demand, and two for document 02's E7.
 use Prim.Native.Nat.{ℕ, _*_, _≤_, _<_}
 use mathlib.Core.Path.{_≡_}
 use mathlib.Core.Logic.{_≢_, _↔_}

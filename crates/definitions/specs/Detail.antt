@@ -17,6 +17,6 @@ readsDetail g base column row i = hasDetail (recordAt base (addressRead g column
 unfoldable pub quadrantDetail : Axes → List ℤ → ℕ → ℕ → ℕ → Bool
 quadrantDetail g base column row q = someOf (four (λ k. readsDetail g base column row (rasterOf q k)))
 
--- the four bits
+-- the four bits of a macroblock inside (outside they are 0: outsideBasis of Answer)
 unfoldable pub detailAt : Axes → List ℤ → ℕ → ℕ → ℕ
 detailAt g base column row = setOf 4 (quadrantDetail g base column row)

@@ -1,4 +1,4 @@
--- "Sync text and log" of document 01: the grammar of the text, and the text call.
+-- "Sync text and log" of document 01: the grammar of the text, with the last number that document 02's E7 gives record lines, and the text call.
 -- A text is a list of bytes. The grammar says of a list of bytes what it is, and which numbers stand in it; no reader is described here.
 -- Bytes: 10 is a line feed, 32 a space, 40 and 41 the brackets, 45 a minus, 48 to 57 the digits, 97 to 122 the letters a to z.
 use Prim.Native.Nat.{ℕ, zero, suc, _+_, _-_, _*_, _≤_, _<_}

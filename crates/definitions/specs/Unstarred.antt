@@ -337,8 +337,8 @@ unstarred =
     ∷ call centre (firstList 0 1 2 ++ (withDetail 4 (firstList 0 1 2) ++ (firstList 0 1 2 ++ withDetail 8 (firstList 0 1 2)))) (pos 1) (pos 1) 78
     (record { reply = Answered (Inherited (record { origin = record { class = Center; column = 0; row = 0 }; detail = 11 }) S16x16); words = withDetail 11 (firstList 0 1 2) })
     -- An intra answer has its bits, each in its place; outside there is none.
-    ∷ call (by plain plain) (withDetail 6 noMotion) (pos 0) (pos 0) 78
-    (record { reply = Answered (Intra (record { origin = record { class = Corner; column = 0; row = 0 }; detail = 6 })); words = withDetail 6 noMotion })
+    ∷ call (by plain plain) (withDetail 2 noMotion) (pos 0) (pos 0) 78
+    (record { reply = Answered (Intra (record { origin = record { class = Corner; column = 0; row = 0 }; detail = 2 })); words = withDetail 2 noMotion })
     ∷ call (withAcross (pos 16) (pos 16) (pos 0) (pos 32)) (withDetail 15 noMotion) (pos 1) (pos 0) 78
     (record { reply = Answered Outside; words = words (pos 5) noSub (both (minus 1) (minus 1)) (allBlocks (block 0 0 0 0)) })
     -- Limits of a geometry, each on both sides: B, E,
@@ -462,6 +462,8 @@ unstarred =
     ∷ picture (by (axisWith (pos 32) (pos 32) (pos 0) (pos 16)) plain) (noMotion ++ ofType (pos 5)) 78 (record { number = 8; place = 1; rule = 1 })
     -- The log of too few lines, and of an intra macroblock: (mb 0 0 0 0), (sync 1 0 1 0).
     ∷ log (by (axisWith (pos 32) (pos 32) (pos 0) (pos 32)) plain) (entry intra (pos 0 ∷ []) ∷ []) (refusedLog 5 0)
+    -- a last number that is no detail: rule 7 refuses the record, and not the grammar the text
+    ∷ log (by plain plain) (entry intra (pos 16 ∷ []) ∷ []) (refusedLog 8 0)
     ∷ log (by plain plain) (entry intra (pos 0 ∷ []) ∷ [])
     ((40 ∷ 109 ∷ 98 ∷ 32 ∷ 48 ∷ 32 ∷ 48 ∷ 32 ∷ 48 ∷ 32 ∷ 48 ∷ 41 ∷ 10 ∷ []) ++ (40 ∷ 115 ∷ 121 ∷ 110 ∷ 99 ∷ 32 ∷ 49 ∷ 32 ∷ 48 ∷ 32 ∷ 49 ∷ 32 ∷ 48 ∷ 41 ∷ 10 ∷ []))
     ∷ []

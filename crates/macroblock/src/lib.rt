@@ -1,6 +1,6 @@
 // What is made of one macroblock, on a geometry and records that were checked: the calls share it.
-// As document 01 has it: in or out of the window; inside, first the intra set and its count of nine (`corners_of`, `set_of`, `mostly_intra`), then steps 1 to 3 of "Inheriting"
-// on motions by value (`fill`, `merge`, `copy`), and steps 4 and 5 as the record is written (`write_made`).
+// As document 01 has it: in or out of the window; inside, the detail (document 02's E7; `detail_within`, `detail_of_more`), the intra set and its count of nine
+// (`corners_of`, `set_of`, `mostly_intra`), then steps 1 to 3 of "Inheriting" on motions by value (`fill`, `merge`, `copy`), and steps 4 and 5 as the record is written (`write_made`).
 // Where something goes round a step, its comment names the law that allows it.
 ghost use Prim.Native.Nat.{_<_, _≤_};
 ghost use Rattle.definitions.specs.Accepted.{AcceptedAxes, AcceptedAxis};

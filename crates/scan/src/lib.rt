@@ -168,7 +168,7 @@ fn quick_quarters(words: &[i16]) -> bool
 }
 
 // ---- The scan
-// A record that keeps rule 7 is well formed: by its type.
+// Whether a record that keeps rule 7 is well formed: by its type.
 fn quick_by_type(words: &[i16]) -> bool
     requires { ⌜ (length (now words) ≡ recordWords) × (rule7 (now words) ≡ true) ⌝ }
     ensures { λ t. ⌜ t ≡ wellFormed narrow (now (words .entry)) ⌝ }

@@ -87,11 +87,11 @@ cast-out c = search needs
 slice-set-from-out : tie.Need-slice-set-from-out
 slice-set-from-out c = search needs
 
--- the words that are written
-whole : (c : tie.After-out5) → let s = c .before .before .before .before .before .before .before .before .before .before .before .before .before .before .before .before .before .before .before .before in
-    set (c .before .put-types .last .0 ++ drop 5 (c .before .before .before .before .before .put-quadrant4 .last .0)) 77 (toZ w16 (s .args .detail))
-    ≡ laidOut (dividedBy (chosen (allScaled (s .args .s) (quadrantsIn (s .args .t3)))) (motionAt (allScaled (s .args .s) (quadrantsIn (s .args .t3)))) (pos (s .args .detail)))
-whole c =
+-- the words that are written, with any last one
+whole : (c : tie.After-out5) (z : ℤ) → let s = c .before .before .before .before .before .before .before .before .before .before .before .before .before .before .before .before .before .before .before .before in
+    set (c .before .put-types .last .0 ++ drop 5 (c .before .before .before .before .before .put-quadrant4 .last .0)) 77 z
+    ≡ laidOut (dividedBy (chosen (allScaled (s .args .s) (quadrantsIn (s .args .t3)))) (motionAt (allScaled (s .args .s) (quadrantsIn (s .args .t3)))) z)
+whole c z =
     let s = c .before .before .before .before .before .before .before .before .before .before .before .before .before .before .before .before .before .before .before .before in
     let g = s .args in
     let m = quadrantsIn (g .t3) in
@@ -109,14 +109,17 @@ whole c =
     (if1 .kind) (w .0 .left) (w .1))
     (if1 .came) in
     assembled (g .s) m (g .out .now) (s .pre .0) (one .last .0) (two .last .0) (three .last .0) (four .last .0) (one .ensures .0) (two .ensures .0) (three .ensures .0) (four .ensures .0)
-    (c .before .put-types .last .0) _ (if1 .kind) (one .result) (two .result) (three .result) (four .result) _ (c .before .put-types .ensures) said
-    ∙ ap (λ (z : ℤ). laidOut (dividedBy (chosen (allScaled (g .s) m)) (motionAt (allScaled (g .s) m)) z)) (toZ-pos w16 {n = g .detail} (omega (arith, s .fits .detail)))
+    (c .before .put-types .last .0) _ (if1 .kind) (one .result) (two .result) (three .result) (four .result) z (c .before .put-types .ensures) said
 
 same-length : tie.Need-same-length
-same-length c = ap length (whole c) ∙ (laid-length _ ∙ sym (c .before .before .before .before .before .before .before .before .before .before .before .before .before .before .before .before .before .before .before .before .pre .0))
+same-length c = ap length (whole c _) ∙ (laid-length _ ∙ sym (c .before .before .before .before .before .before .before .before .before .before .before .before .before .before .before .before .before .before .before .before .pre .0))
 
 returns : tie.Need-returns
-returns c = whole c
+returns c =
+    let s = c .before .before .before .before .before .before .before .before .before .before .before .before .before .before .before .before .before .before .before .before in
+    let g = s .args in
+    let m = allScaled (g .s) (quadrantsIn (g .t3)) in
+    whole c _ ∙ ap (λ (z : ℤ). laidOut (dividedBy (chosen m) (motionAt m) z)) (toZ-pos w16 {n = g .detail} (omega (arith, s .fits .detail)))
 
 pub write-made-spec : {M : Type 1} → statement M
 write-made-spec =
