@@ -18,13 +18,14 @@ use Rattle.definitions.specs.declared.Answer.{Answer}
 use Rattle.definitions.specs.declared.Answer.the-variants.{Outside, Intra, Inherited}
 use Rattle.definitions.specs.declared.MacroblockReply.{MacroblockReply}
 use Rattle.definitions.specs.declared.PictureReply.the-variants.{Counted}
-use Rattle.definitions.specs.Basics.{pick, allBelow, allOf, upTo, setOf, someOf}
+use Rattle.definitions.specs.Basics.{pick, allBelow, allOf, upTo, setOf, someOf, howMany}
 use Rattle.definitions.specs.Geometry.{axesOf, fullSize, macroblocks, insideAxis, mOf, nOf, fOf, twoOf, columnsRead}
 use Rattle.definitions.specs.BlockMap.{digitsOf, coordinateOf, stepOf, addressRead, blockRead}
 use Rattle.definitions.specs.Splits.{sameMotion, samePrediction, alike, oneEach, fewestIn}
 use Rattle.definitions.specs.Record.{recordWords, recordAt, wellFormed, motionOf, splitSaid, rule1, rule2, rule3, rule4, rule5, rule6, rule7, firstBroken, narrow, laidOut}
 use Rattle.definitions.specs.Inheriting.{intraSet, gathered, source, clearOf, filled, lower, lowest, having, mergedList, merged, liveOf, copiedFrom, copied, resolved, scaledPrediction, scaledMotion, inheritedMotions}
 use Rattle.definitions.specs.Detail.{quadrantDetail, detailAt}
+use Rattle.definitions.specs.Fed.{blocksReading, fedAt}
 use Rattle.definitions.specs.Answer.{originAt, basisAt, answerOf, addressesOf, writtenFor, madeOf}
 use Rattle.definitions.specs.Refusals.{geometryTests, geometryVerdict, recordTests, addressesRead}
 use Rattle.definitions.specs.Calls.{Outcome, macroblockTests, macroblockCall, pictureTests, madeAt, countsOf, pictureCall}
@@ -72,18 +73,18 @@ concrete n column row base answer written counts accepted size formed x y singly
 -- ---- what computes: the whole case, and the starred macroblock with base 0, 1 and 2 intra and with only base 3 intra
 pub record Computed : Type 0 where
   pub whole-formed : allBelow 1 (λ a. wellFormed narrow (recordAt wholeRecord a)) ≡ true
-  pub whole-first : SinglyGives narrow wholeCase 0 0 (blank 1) wholeRecord (Inherited (fromZero Corner) S16x16) doubledRecord
+  pub whole-first : SinglyGives narrow wholeCase 0 0 (blank 1) wholeRecord (Inherited (fromZero Corner 16 0 0 0) S16x16) doubledRecord
   pub whole-outside : SinglyGives narrow wholeCase 2 0 (blank 1) wholeRecord Outside outsideRecord
   pub whole-counted : pictureCall narrow wholeCase wholeRecord (blank 6) .reply ≡ Counted (threeCounts 4 0 2)
   pub filled-formed : allBelow 4 (λ a. wellFormed narrow (recordAt onlyLast a)) ≡ true
-  pub filled-center : SinglyGives narrow centred 1 1 (blank 1) onlyLast (Inherited (fromZero Center) S16x16) wholeRecord
+  pub filled-center : SinglyGives narrow centred 1 1 (blank 1) onlyLast (Inherited (fromZero Center 1 3 3 9) S16x16) wholeRecord
   pub filled-counted : pictureCall narrow centred onlyLast (blank 16) .reply ≡ Counted (threeCounts 1 0 15)
   pub intra-formed : allBelow 4 (λ a. wellFormed narrow (recordAt allButLast a)) ≡ true
-  pub intra-center : SinglyGives narrow centred 1 1 (blank 1) allButLast (Intra (fromZero Center)) intraRecord
+  pub intra-center : SinglyGives narrow centred 1 1 (blank 1) allButLast (Intra (fromZero Center 1 3 3 9)) intraRecord
   pub intra-counted : pictureCall narrow centred allButLast (blank 16) .reply ≡ Counted (threeCounts 0 1 15)
 
 pub computed : Computed
-unfolding allOf allBelow pick upTo insideAxis mOf nOf fOf twoOf columnsRead digitsOf coordinateOf stepOf addressRead blockRead sameMotion samePrediction alike oneEach fewestIn recordAt motionOf splitSaid rule1 rule2 rule3 rule4 rule5 rule6 rule7 firstBroken laidOut setOf intraSet gathered source clearOf filled lower lowest having mergedList merged someOf liveOf copiedFrom copied resolved scaledPrediction scaledMotion inheritedMotions originAt basisAt quadrantDetail detailAt answerOf addressesOf writtenFor madeOf geometryTests recordTests addressesRead macroblockTests macroblockCall ones onesIn pictureTests madeAt countsOf pictureCall
+unfolding howMany allOf allBelow pick upTo insideAxis mOf nOf fOf twoOf columnsRead digitsOf coordinateOf stepOf addressRead blockRead sameMotion samePrediction alike oneEach fewestIn recordAt motionOf splitSaid rule1 rule2 rule3 rule4 rule5 rule6 rule7 firstBroken laidOut setOf intraSet gathered source clearOf filled lower lowest having mergedList merged someOf liveOf copiedFrom copied resolved scaledPrediction scaledMotion inheritedMotions originAt basisAt quadrantDetail detailAt blocksReading fedAt answerOf addressesOf writtenFor madeOf geometryTests recordTests addressesRead macroblockTests macroblockCall ones onesIn pictureTests madeAt countsOf pictureCall
 computed = record {
   whole-formed = refl;
   whole-first = refl;

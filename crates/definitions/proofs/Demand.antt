@@ -40,7 +40,7 @@ use Rattle.definitions.proofs.Sameness.{same-made}
 use Rattle.definitions.proofs.Addresses.{address-named, address-below}
 use Rattle.definitions.proofs.Pieces.{covered}
 use Rattle.definitions.proofs.Records.{laid-length}
-use Rattle.definitions.proofs.Promises.{origin-right, detail-right, detail-written, inherited-when, intra-when, outside-when, nothing-written, motions-written, fewest-written, split-written, said-written, columns-below, rows-below}
+use Rattle.definitions.proofs.Promises.{origin-right, detail-right, detail-written, fed-right, inherited-when, intra-when, outside-when, nothing-written, motions-written, fewest-written, split-written, said-written, columns-below, rows-below}
 
 -- ---- bases that agree on some records
 -- the records at the addresses are the same
@@ -96,6 +96,7 @@ module _ (n : Numbers) (column row : ℕ) (accepted : geometryVerdict n ≡ Acce
         split-said = said-written axes base column row;
         detail = detail-right axes base column row d;
         says-detail = detail-written axes base column row _;
+        fed = fed-right axes base column row d;
       }
 
 -- ---- what is written, and when a column (row) lies in the picture

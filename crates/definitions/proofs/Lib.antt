@@ -12,6 +12,7 @@ pub mod Shapes
 pub mod Fewest
 pub mod Steps
 pub mod StepOne
+pub mod Fed
 pub mod Scaling
 pub mod Records
 pub mod Parts

@@ -24,8 +24,8 @@ use Rattle.definitions.specs.Geometry.{baseSize, scaledSize, cOf, sample
 use Rattle.definitions.specs.Splits.{oneEach, count}
 use Rattle.definitions.specs.Record.{motionOf, detailOf, typeNumber, subTypeNumber, subSplitOf, splitSaid, laidOut, allOne}
 use Rattle.definitions.specs.Inheriting.{blocksReadingIntra, intraSet, gathered, resolved, at, motionAt, scaledPrediction, scaledMotion, inheritedMotions, chosen}
-use Rattle.definitions.specs.Answer.{basisAt, answerOrigin, answerDetail, columnsNamed, rowsNamed, subTypes, dividedBy, unusedMotion, writtenFor}
-use Rattle.definitions.specs.Demand3.{originByPaper, detailByPaper}
+use Rattle.definitions.specs.Answer.{basisAt, answerOrigin, answerDetail, answerFed, columnsNamed, rowsNamed, subTypes, dividedBy, unusedMotion, writtenFor}
+use Rattle.definitions.specs.Demand3.{originByPaper, detailByPaper, fedByPaper}
 use Rattle.definitions.specs.Blocks.{quadrantOf, rasterOf}
 use Rattle.definitions.proofs.Choices.{yes, no}
 use Rattle.definitions.proofs.Sets.{intra-count}
@@ -87,6 +87,13 @@ module _ (g : Axes) (base : List ℤ) (column row : ℕ) where
   detail-written Outside = laid-detail (allOne 5 unusedMotion (pos 0))
   detail-written (Intra b) = laid-detail (allOne 0 unusedMotion (pos (b .detail)))
   detail-written (Inherited b s) = laid-detail (dividedBy s (motionAt motions) (pos (b .detail)))
+
+  -- what fed it
+  pub fed-right : {answer : Answer} → Decided g base column row answer → answerFed answer ≡ fedByPaper g column row
+  unfolding basisAt
+  fed-right (is-outside e) = sym (no _ _ e)
+  fed-right (is-intra e m) = sym (yes _ _ e)
+  fed-right (is-inherited e m) = sym (yes _ _ e)
 
   -- the sort
   count-is : ones set ≡ blocksReadingIntra g base column row

@@ -13,6 +13,7 @@ use Rattle.definitions.specs.BlockMap.{addressRead, blockRead}
 use Rattle.definitions.specs.Record.{recordAt, isIntra, motionOf}
 use Rattle.definitions.specs.Inheriting.{intraSet, mostlyIntra, gathered, resolved, at, scaledMotion, inheritedMotions, chosen}
 use Rattle.definitions.specs.Detail.{readsDetail, quadrantDetail, detailAt}
+use Rattle.definitions.specs.Fed.{fedAt}
 use Rattle.definitions.specs.Answer.{originAt, basisAt, withBits, answerOf, writtenFor, madeOf}
 use Rattle.definitions.proofs.Choices.{each, four-same}
 
@@ -96,7 +97,14 @@ module _ (g : Axes) (base other : List ℤ) (column row : ℕ) (agree : (i : ℕ
 
   same-basis : basisAt g other column row ≡ basisAt g base column row
   unfolding basisAt
-  same-basis = λ i. record { origin = originAt g column row; detail = same-detail i }
+  same-basis = λ i. record {
+    origin = originAt g column row;
+    detail = same-detail i;
+    first = fedAt g column row .first;
+    right = fedAt g column row .right;
+    below = fedAt g column row .below;
+    diagonal = fedAt g column row .diagonal;
+  }
 
   same-answer : answerOf g other column row ≡ answerOf g base column row
   unfolding answerOf

@@ -27,7 +27,7 @@ use Rattle.definitions.proofs.Steps.{source-below, having-some, lowest-
 ≤ℤ-antisym (negsuc m) (negsuc n) h k = ap negsuc (le-antisymm (leb→le m n (k .le)) (leb→le n m (h .le)))
 
 -- ---- where the vector comes from: a test on all clear blocks c and all blocks h that have r, among them
-onBools : (Bool → Bool) → Bool
+unfoldable pub onBools : (Bool → Bool) → Bool
 onBools f = f true && f false
 
 on-bool : (f : Bool → Bool) → onBools f ≡ true → (b : Bool) → f b ≡ true
@@ -35,13 +35,13 @@ unfolding onBools
 on-bool f e true = both-true (f true) (f false) e .0
 on-bool f e false = both-true (f true) (f false) e .1
 
-abbrev Four : Type 0
+abbrev pub Four : Type 0
 Four = Bool → Bool → Bool → Bool → Bool
 
-onFour : Four → Bool
+unfoldable pub onFour : Four → Bool
 onFour f = onBools (λ a. onBools (λ b. onBools (λ c. onBools (λ d. f a b c d))))
 
-on-four : (f : Four) → onFour f ≡ true → (a b c d : Bool) → f a b c d ≡ true
+pub on-four : (f : Four) → onFour f ≡ true → (a b c d : Bool) → f a b c d ≡ true
 unfolding onFour
 on-four f e a b c d = on-bool (f a b c) (on-bool (λ z. onBools (λ w. f a b z w)) (on-bool (λ y. onBools (λ z. onBools (λ w. f a y z w))) (on-bool (λ x. onBools (λ y. onBools (λ z. onBools (λ w. f x y z w)))) e a) b) c) d
 

@@ -1,4 +1,4 @@
--- The answer and its written record ("Inheriting" of document 01, after the steps, and document 02's E7).
+-- The answer and its written record ("Inheriting" of document 01, after the steps, and document 02's E7 and E5).
 use Prim.Native.Nat.{ℕ}
 use mathlib.Core.Bool.{Bool, true, false}
 use mathlib.Core.List.{List, [], _∷_, map}
@@ -19,6 +19,7 @@ use Rattle.definitions.specs.BlockMap.{stepOf}
 use Rattle.definitions.specs.Record.{Contents, typeNumber, subTypeNumber, laidOut, allOne}
 use Rattle.definitions.specs.Inheriting.{intraSet, mostlyIntra, inheritedMotions, motionAt, chosen, unused}
 use Rattle.definitions.specs.Detail.{detailAt}
+use Rattle.definitions.specs.Fed.{Fed, fedAt}
 use Rattle.definitions.specs.Raster.{baseAddress}
 use lib.ListN.{getD}
 
@@ -29,9 +30,11 @@ originAt g column row =
     let v = stepOf (g .vertical) (sampleOf row) in
     record { class = classOf (h .two) (v .two); column = h .first; row = v .first }
 
--- what an answer inside says besides its split: what it names, and its detail (document 02, E7)
+-- what an answer inside says besides its split: what it names, its detail (document 02, E7), and what fed it (E5)
 unfoldable pub basisAt : Axes → List ℤ → ℕ → ℕ → Basis
-basisAt g base column row = record { origin = originAt g column row; detail = detailAt g base column row }
+basisAt g base column row =
+    let fed = fedAt g column row in
+    record { origin = originAt g column row; detail = detailAt g base column row; first = fed .first; right = fed .right; below = fed .below; diagonal = fed .diagonal }
 
 -- The answer is outside, intra, or inherited with a split.
 unfoldable pub answerOf : Axes → List ℤ → ℕ → ℕ → Answer
@@ -42,7 +45,8 @@ answerOf g base column row =
     (Inherited (basisAt g base column row) (chosen (inheritedMotions g base column row))))
     Outside
 
--- The papers' values for each case of the answer: its type; class, first base column and row (0 outside, class Corner); and its detail, 0 outside
+-- The papers' values for each case of the answer: its type; class, first base column and row (0 outside, class Corner); its detail, 0 outside; and the counts of what fed it, all 0
+-- outside
 abbrev pub answerType : Answer → ℕ
 answerType Outside = 5
 answerType (Intra b) = 0
@@ -52,7 +56,7 @@ abbrev pub outsideOrigin : Origin
 outsideOrigin = record { class = Corner; column = 0; row = 0 }
 
 abbrev pub outsideBasis : Basis
-outsideBasis = record { origin = outsideOrigin; detail = 0 }
+outsideBasis = record { origin = outsideOrigin; detail = 0; first = 0; right = 0; below = 0; diagonal = 0 }
 
 abbrev pub answerBasis : Answer → Basis
 answerBasis Outside = outsideBasis
@@ -65,11 +69,17 @@ answerOrigin a = answerBasis a .origin
 abbrev pub answerDetail : Answer → ℕ
 answerDetail a = answerBasis a .detail
 
+abbrev pub answerFed : Answer → Fed
+answerFed a = record { first = answerBasis a .first; right = answerBasis a .right; below = answerBasis a .below; diagonal = answerBasis a .diagonal }
+
 -- the same answer with other bits; outside there are none
+abbrev withDetail : ℕ → Basis → Basis
+withDetail d b = record { origin = b .origin; detail = d; first = b .first; right = b .right; below = b .below; diagonal = b .diagonal }
+
 abbrev pub withBits : ℕ → Answer → Answer
 withBits d Outside = Outside
-withBits d (Intra b) = Intra (record { origin = b .origin; detail = d })
-withBits d (Inherited b s) = Inherited (record { origin = b .origin; detail = d }) s
+withBits d (Intra b) = Intra (withDetail d b)
+withBits d (Inherited b s) = Inherited (withDetail d b) s
 
 -- The base macroblocks that an answer names are those that its class reads, from its first column and row on; outside there are none.
 abbrev pub twoColumns : Class → Bool

@@ -2,12 +2,13 @@
 use Prim.Native.Nat.{ℕ, _+_, _*_, _/_, _%_}
 use mathlib.Core.Bool.{Bool, true, false, _&&_}
 use mathlib.Core.List.{List, [], _∷_}
+use lib.Dec.{eqb}
 use lib.IntN.{ℤ, pos}
 use lib.ListN.{getD}
 use Rattle.definitions.specs.declared.Axis.{Axis}
 use Rattle.definitions.specs.declared.Axes.{Axes}
 use Rattle.definitions.specs.declared.AxisStep.{AxisStep}
-use Rattle.definitions.specs.Basics.{pick, minus, eqZ, four}
+use Rattle.definitions.specs.Basics.{pick, minus, eqZ, howMany, four}
 use Rattle.definitions.specs.Geometry.{baseSize, scaledSize, cOf, kOf, mOf, nOf, fOf, twoOf, even, sampleOf}
 use Rattle.definitions.specs.Raster.{baseAddress}
 
@@ -76,7 +77,14 @@ digitsOf k-even m n = rowDigits (mapRows k-even) m n
 unfoldable pub coordinateOf : ℕ → ℕ → ℕ → ℕ → ℕ
 coordinateOf b s c i = 4 * fOf b s c + getD (digitsOf (even (kOf b s c)) (mOf b s c) (nOf b s c)) i 0
 
--- all that an axis gives for the macroblock at sample P
+-- a coordinate divided by 4 is the base column or row, its remainder the block's in that macroblock
+abbrev pub columnOf : ℕ → ℕ
+columnOf q = q / 4
+
+abbrev pub blockIn : ℕ → ℕ
+blockIn q = q % 4
+
+-- all that an axis gives for the macroblock at sample P (falls, of document 02's E5: how many of its four blocks fall in the first column or row)
 unfoldable pub stepOf : Axis → ℕ → AxisStep
 stepOf a p =
     let b = baseSize a in
@@ -89,14 +97,8 @@ stepOf a p =
       first = fOf b s c;
       two = twoOf b s c;
       reads = four (coordinateOf b s c);
+      falls = howMany 4 (λ i. eqb (columnOf (coordinateOf b s c i)) (fOf b s c));
     }
-
--- a coordinate divided by 4 is the base column or row, its remainder the block's in that macroblock
-abbrev pub columnOf : ℕ → ℕ
-columnOf q = q / 4
-
-abbrev pub blockIn : ℕ → ℕ
-blockIn q = q % 4
 
 -- Both axes: block i of 0..15 of the macroblock at a column and row, in raster order. The coordinates that it reads
 abbrev pub across : Axes → ℕ → ℕ → ℕ

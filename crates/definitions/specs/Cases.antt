@@ -35,9 +35,10 @@ pub record Concrete (n : Numbers) (column row : ℕ) (base : List ℤ) (answer :
   pub picture : PictureGives narrow n column row (blank (fullCount (axesOf n))) (blank 1) base answer written
   pub picture-counts : picture .counts ≡ counts
 
--- a class, from column and row 0 on, without detail
-abbrev pub fromZero : Class → Basis
-fromZero class = record { origin = record { class = class; column = 0; row = 0 }; detail = 0 }
+-- a class, from column and row 0 on, without detail, fed so (document 02, E5)
+abbrev pub fromZero : Class → ℕ → ℕ → ℕ → ℕ → Basis
+fromZero class first right below diagonal =
+    record { origin = record { class = class; column = 0; row = 0 }; detail = 0; first = first; right = right; below = below; diagonal = diagonal }
 
 -- the whole case's record with its vector doubled, and the record of an outside macroblock
 abbrev pub doubledRecord : List ℤ
@@ -51,7 +52,7 @@ threeCounts inherited intra outside = record { inherited = inherited; intra = in
 
 pub record Cases : Type 0 where
   -- document 01's whole case,
-  pub inherited : Concrete wholeCase 0 0 wholeRecord (Inherited (fromZero Corner) S16x16) doubledRecord (threeCounts 4 0 2)
+  pub inherited : Concrete wholeCase 0 0 wholeRecord (Inherited (fromZero Corner 16 0 0 0) S16x16) doubledRecord (threeCounts 4 0 2)
   -- and to the right of the window,
   pub outside : Concrete wholeCase 2 0 wholeRecord Outside outsideRecord (threeCounts 4 0 2)
   -- where every base record is another one, and may be malformed;
@@ -60,6 +61,6 @@ pub record Cases : Type 0 where
   -- the picture by one-macroblock calls;
   pub by-calls : AsSingly narrow wholeCase wholeRecord (threeCounts 4 0 2) (pictureCall narrow wholeCase wholeRecord (blank 6) .words) (λ a. blank 1)
   -- the starred macroblock at 16,16, with base 0, 1 and 2 intra, which is filled from base 3,
-  pub filled-there : Concrete centred 1 1 onlyLast (Inherited (fromZero Center) S16x16) wholeRecord (threeCounts 1 0 15)
+  pub filled-there : Concrete centred 1 1 onlyLast (Inherited (fromZero Center 1 3 3 9) S16x16) wholeRecord (threeCounts 1 0 15)
   -- and with only base 3 intra.
-  pub intra : Concrete centred 1 1 allButLast (Intra (fromZero Center)) intraRecord (threeCounts 0 1 15)
+  pub intra : Concrete centred 1 1 allButLast (Intra (fromZero Center 1 3 3 9)) intraRecord (threeCounts 0 1 15)

@@ -1,4 +1,4 @@
--- Demand 3 of the buyer (document 00) as document 01 reads it ("For demand 3"): one record type, with a field for each sentence of the demand, and two for document 02's E7.
+-- Demand 3 of the buyer (document 00) as document 01 reads it ("For demand 3"): one record type, with a field for each sentence of the demand, two for document 02's E7 and one for its E5.
 use Prim.Native.Nat.{ℕ, _*_, _≤_, _<_}
 use mathlib.Core.Path.{_≡_}
 use mathlib.Core.Logic.{_≢_, _↔_}
@@ -24,8 +24,9 @@ use Rattle.definitions.specs.Geometry.{axesOf, baseSize, fullSize, macro
 use Rattle.definitions.specs.Splits.{Covers, pieces, oneEach, count}
 use Rattle.definitions.specs.Record.{recordWords, recordAt, wellFormed, motionOf, detailOf, typeNumber, splitSaid}
 use Rattle.definitions.specs.Inheriting.{blocksReadingIntra, inheritedMotions, motionAt}
-use Rattle.definitions.specs.Answer.{originAt, answerOrigin, answerDetail, columnsNamed, rowsNamed, addressesNamed, subTypes, unusedMotion}
+use Rattle.definitions.specs.Answer.{originAt, answerOrigin, answerDetail, answerFed, columnsNamed, rowsNamed, addressesNamed, subTypes, unusedMotion}
 use Rattle.definitions.specs.Detail.{detailAt}
+use Rattle.definitions.specs.Fed.{Fed, fedAt}
 use Rattle.definitions.specs.Refusals.{geometryVerdict, addressesRead, AllFormed}
 use Rattle.definitions.specs.Calls.{macroblockCall, pictureCall}
 use Rattle.definitions.specs.Raster.{baseCount, fullCount, fullAddress}
@@ -37,6 +38,10 @@ originByPaper g column row = pick (inside g column row) (originAt g column row) 
 -- and the detail bits of document 02's E7: outside 0
 abbrev pub detailByPaper : Axes → List ℤ → ℕ → ℕ → ℕ
 detailByPaper g base column row = pick (inside g column row) (detailAt g base column row) 0
+
+-- and the counts of its E5: outside all 0
+abbrev pub fedByPaper : Axes → ℕ → ℕ → Fed
+fedByPaper g column row = pick (inside g column row) (fedAt g column row) (record { first = 0; right = 0; below = 0; diagonal = 0 })
 
 -- The answer and the written record of the macroblock at a column and row, on a base. Other says which bases are compared with it, and Gives that on
 -- a base a call hands over an answer and a written record. Motions are those read back from the written words, and their first five say the split.
@@ -72,6 +77,8 @@ pub record Demand3 (g : Axes) (column row : ℕ) (base : List ℤ) (answer : Ans
   -- (Document 02, E7.) A quadrant's bit is set exactly when one of its blocks reads a base quadrant whose bit is set; outside all are 0. Word 77 of the written record says them.
   pub detail : answerDetail answer ≡ detailByPaper g base column row
   pub says-detail : detailOf written ≡ pos (answerDetail answer)
+  -- (E5.) Its counts are those of the blocks that read each of the four base macroblocks by the map; outside all are 0.
+  pub fed : answerFed answer ≡ fedByPaper g column row
 
 -- Made singly: the other records may hold any words.
 abbrev pub AnyWords : List ℤ → List ℤ → Type 0

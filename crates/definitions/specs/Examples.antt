@@ -14,13 +14,14 @@ use Rattle.definitions.specs.declared.Numbers.{Numbers}
 use Rattle.definitions.specs.declared.Prediction.{Prediction}
 use Rattle.definitions.specs.declared.MacroblockReply.{MacroblockReply}
 use Rattle.definitions.specs.declared.MacroblockReply.the-variants.{Answered, Refused}
-use Rattle.definitions.specs.Basics.{pick, minus, eqZ, allBelow, allOf, upTo, four, setOf, someOf}
+use Rattle.definitions.specs.Basics.{pick, minus, eqZ, allBelow, allOf, upTo, four, setOf, someOf, howMany}
 use Rattle.definitions.specs.Geometry.{axesOf, axisOf, insideAxis, cOf, mOf, nOf, fOf, twoOf, baseSize, scaledSize}
 use Rattle.definitions.specs.BlockMap.{digitsOf, coordinateOf, stepOf, addressRead, blockRead}
 use Rattle.definitions.specs.Splits.{sameMotion, samePrediction, alike, oneEach, fewestIn}
 use Rattle.definitions.specs.Record.{recordWords, recordAt, motionOf, splitSaid, rule1, rule2, rule3, rule4, rule5, rule6, rule7, firstBroken, narrow, laidOut, allOne}
 use Rattle.definitions.specs.Inheriting.{intraSet, gathered, source, clearOf, filled, lower, lowest, having, unused, zeroPrediction, zeroMotion, mergedList, merged, liveOf, copiedFrom, copied, resolved, scaledWord, scaledPrediction, scaledMotion, inheritedMotions}
 use Rattle.definitions.specs.Detail.{quadrantDetail, detailAt}
+use Rattle.definitions.specs.Fed.{blocksReading, fedAt}
 use Rattle.definitions.specs.Answer.{originAt, basisAt, answerOf, answerType, addressesOf, withoutMotion, writtenFor, madeOf}
 use Rattle.definitions.specs.Refusals.{geometryTests, recordTests, addressesRead}
 use Rattle.definitions.specs.Calls.{macroblockTests, macroblockCall, madeAt, countsOf}
@@ -119,7 +120,7 @@ starred =
 
 -- The starred examples hold.
 pub starred-hold : T (allOf holds starred)
-unfolding allOf allBelow pick upTo insideAxis mOf nOf fOf twoOf columnsRead digitsOf coordinateOf stepOf addressRead blockRead sameMotion samePrediction alike oneEach fewestIn recordAt motionOf splitSaid rule1 rule2 rule3 rule4 rule5 rule6 rule7 firstBroken laidOut setOf intraSet gathered source clearOf filled lower lowest having mergedList merged someOf liveOf copiedFrom copied resolved scaledPrediction scaledMotion inheritedMotions originAt basisAt quadrantDetail detailAt answerOf addressesOf writtenFor madeOf geometryTests recordTests addressesRead macroblockTests macroblockCall ones onesIn
+unfolding howMany allOf allBelow pick upTo insideAxis mOf nOf fOf twoOf columnsRead digitsOf coordinateOf stepOf addressRead blockRead sameMotion samePrediction alike oneEach fewestIn recordAt motionOf splitSaid rule1 rule2 rule3 rule4 rule5 rule6 rule7 firstBroken laidOut setOf intraSet gathered source clearOf filled lower lowest having mergedList merged someOf liveOf copiedFrom copied resolved scaledPrediction scaledMotion inheritedMotions originAt basisAt quadrantDetail detailAt blocksReading fedAt answerOf addressesOf writtenFor madeOf geometryTests recordTests addressesRead macroblockTests macroblockCall ones onesIn
 starred-hold = tt
 
 -- The last of them holds for any vectors.
@@ -173,7 +174,7 @@ wholeLog =
     ++ (40 ∷ 115 ∷ 121 ∷ 110 ∷ 99 ∷ 32 ∷ 54 ∷ 32 ∷ 52 ∷ 32 ∷ 48 ∷ 32 ∷ 50 ∷ 41 ∷ 10 ∷ []))))))
 
 pub whole-holds : judged wholeCase 1 (baseOf wholeEntries) ≡ makes wholeLog
-unfolding allOf allBelow pick upTo insideAxis mOf nOf fOf twoOf columnsRead digitsOf coordinateOf stepOf addressRead blockRead sameMotion samePrediction alike oneEach fewestIn recordAt motionOf splitSaid rule1 rule2 rule3 rule4 rule5 rule6 rule7 firstBroken laidOut setOf intraSet gathered source clearOf filled lower lowest having mergedList merged someOf liveOf copiedFrom copied resolved scaledPrediction scaledMotion inheritedMotions originAt basisAt quadrantDetail detailAt answerOf addressesOf writtenFor madeOf geometryTests recordTests ones onesIn madeAt countsOf digitsIn decimal lineOf macroblockLine syncLine pictureLines programTests
+unfolding howMany allOf allBelow pick upTo insideAxis mOf nOf fOf twoOf columnsRead digitsOf coordinateOf stepOf addressRead blockRead sameMotion samePrediction alike oneEach fewestIn recordAt motionOf splitSaid rule1 rule2 rule3 rule4 rule5 rule6 rule7 firstBroken laidOut setOf intraSet gathered source clearOf filled lower lowest having mergedList merged someOf liveOf copiedFrom copied resolved scaledPrediction scaledMotion inheritedMotions originAt basisAt quadrantDetail detailAt blocksReading fedAt answerOf addressesOf writtenFor madeOf geometryTests recordTests ones onesIn madeAt countsOf digitsIn decimal lineOf macroblockLine syncLine pictureLines programTests
 whole-holds = refl
 
 -- Refusal 9: a text, and its place

@@ -31,7 +31,7 @@ use Rattle.definitions.specs.declared.LogReply.{LogReply}
 use Rattle.definitions.specs.declared.LogReply.the-variants.{Written, Refused as NotWritten}
 use Rattle.definitions.specs.declared.MacroblockReply.{MacroblockReply}
 use Rattle.definitions.specs.declared.MacroblockReply.the-variants.{Answered, Refused as Declined}
-use Rattle.definitions.specs.Basics.{pick, minus, allBelow, allOf, upTo, forEach, setOf, someOf}
+use Rattle.definitions.specs.Basics.{pick, minus, allBelow, allOf, upTo, forEach, setOf, someOf, howMany}
 use Rattle.definitions.specs.Raster.{baseAddress}
 use Rattle.definitions.specs.Geometry.{axisOf, insideAxis, mOf, nOf, fOf, twoOf, columnsRead}
 use Rattle.definitions.specs.BlockMap.{digitsOf, coordinateOf, stepOf, addressRead, blockRead}
@@ -39,6 +39,7 @@ use Rattle.definitions.specs.Splits.{sameMotion, samePrediction, alike, 
 use Rattle.definitions.specs.Record.{recordAt, motionOf, splitSaid, rule1, rule2, rule3, rule4, rule5, rule6, rule7, firstBroken, narrow, laidOut}
 use Rattle.definitions.specs.Inheriting.{intraSet, gathered, source, clearOf, filled, lower, lowest, having, mergedList, merged, liveOf, copiedFrom, copied, resolved, scaledPrediction, scaledMotion, inheritedMotions}
 use Rattle.definitions.specs.Detail.{quadrantDetail, detailAt}
+use Rattle.definitions.specs.Fed.{Fed, blocksReading, fedAt}
 use Rattle.definitions.specs.Answer.{originAt, basisAt, answerOf, columnsNamed, rowsNamed, addressesNamed, addressesOf, writtenFor, madeOf}
 use Rattle.definitions.specs.Refusals.{refusal, geometryTests, geometryVerdict, recordTests, addressesRead}
 use Rattle.definitions.specs.Calls.{Outcome, macroblockTests, macroblockCall, pictureTests, pictureCall, madeAt, countsOf}
@@ -163,13 +164,18 @@ secondList r x y = words (pos 1) noSub (both (minus 1) (pos r)) (allBlocks (bloc
 abbrev noMotion : List ℤ
 noMotion = words (pos 0) noSub (both (minus 1) (minus 1)) (allBlocks (block 0 0 0 0))
 
--- a class from a column and row 0 on, without detail
-abbrev ofClass : Class → ℕ → Basis
-ofClass class column = record { origin = record { class = class; column = column; row = 0 }; detail = 0 }
+-- the four counts of what fed it
+abbrev fed : ℕ → ℕ → ℕ → ℕ → Fed
+fed a b c d = record { first = a; right = b; below = c; diagonal = d }
 
--- the macroblock is inherited, with a class from column and row 0 on, a split, and these words
-abbrev inherits : Class → Split → List ℤ → Outcome MacroblockReply
-inherits class split w = record { reply = Answered (Inherited (ofClass class 0) split); words = w }
+-- a class from a column and row 0 on, with this detail, fed so
+abbrev ofClass : Class → ℕ → ℕ → Fed → Basis
+ofClass class column detail f =
+    record { origin = record { class = class; column = column; row = 0 }; detail = detail; first = f .first; right = f .right; below = f .below; diagonal = f .diagonal }
+
+-- the macroblock is inherited, with a class from column and row 0 on, without detail, fed so, with a split, and these words
+abbrev inherits : Class → Fed → Split → List ℤ → Outcome MacroblockReply
+inherits class f split w = record { reply = Answered (Inherited (ofClass class 0 0 f) split); words = w }
 
 -- a record with another last word
 abbrev withDetail : ℕ → List ℤ → List ℤ
@@ -304,43 +310,46 @@ clipLog =
 abbrev pub unstarred : List Instance
 unstarred =
     -- What a macroblock inherits. At ratio 1 a record is written as it was read;
-    call (by plain plain) various (pos 0) (pos 0) 78 (inherits Corner (quarters S8x8 S8x4 S4x8 S4x4) various)
+    call (by plain plain) various (pos 0) (pos 0) 78 (inherits Corner (fed 16 0 0 0) (quarters S8x8 S8x4 S4x8 S4x4) various)
     -- each axis has its own ratio, its own blocks and its own word of a vector; all four sub-types;
-    ∷ call wide differing (pos 2) (pos 0) 78 (inherits Vert (quarters S8x8 S4x8 S8x4 S4x4) inWide)
-    ∷ call tall differing (pos 0) (pos 2) 78 (inherits Hori (quarters S8x8 S4x8 S8x4 S4x4) inTall)
+    ∷ call wide differing (pos 2) (pos 0) 78 (inherits Vert (fed 12 4 0 0) (quarters S8x8 S4x8 S8x4 S4x4) inWide)
+    ∷ call tall differing (pos 0) (pos 2) 78 (inherits Hori (fed 12 0 4 0) (quarters S8x8 S4x8 S8x4 S4x4) inTall)
     -- base 0 intra, and base 0 with another reference in list 1: the horizontal neighbour's motion, though the vertical one serves too and differs;
     ∷ call centre (noMotion ++ (firstList 0 1 2 ++ (firstList 0 3 4 ++ firstList 0 5 6))) (pos 1) (pos 1) 78
-    (inherits Center (quarters S4x4 S8x4 S4x8 S8x8) (words (pos 4) (listOf4 (pos 3) (pos 1) (pos 2) (pos 0)) (both (pos 0) (minus 1)) (fromRight (λ x y. block x y 0 0))))
+    (inherits Center (fed 1 3 3 9) (quarters S4x4 S8x4 S4x8 S8x8) (words (pos 4) (listOf4 (pos 3) (pos 1) (pos 2) (pos 0)) (both (pos 0) (minus 1)) (fromRight (λ x y. block x y 0 0))))
     ∷ call centre (secondList 1 7 8 ++ (secondList 0 1 2 ++ (secondList 0 3 4 ++ secondList 0 5 6))) (pos 1) (pos 1) 78
-    (inherits Center (quarters S4x4 S8x4 S4x8 S8x8) (words (pos 4) (listOf4 (pos 3) (pos 1) (pos 2) (pos 0)) (both (minus 1) (pos 0)) (fromRight (λ x y. block 0 0 x y))))
+    (inherits Center (fed 1 3 3 9) (quarters S4x4 S8x4 S4x8 S8x8) (words (pos 4) (listOf4 (pos 3) (pos 1) (pos 2) (pos 0)) (both (minus 1) (pos 0)) (fromRight (λ x y. block 0 0 x y))))
     -- step 3: a quadrant all intra has the horizontal one's motion, though the vertical one differs; where both are, the vertical one's.
     ∷ call twiceAsLarge (noMotion ++ (firstList 0 1 2 ++ (firstList 0 3 4 ++ firstList 0 3 4))) (pos 2) (pos 2) 78
-    (inherits Center S16x8 (words (pos 2) noSub (both (pos 0) (minus 1)) (rowOf4 (ofAll (block 2 4 0 0)) (ofAll (block 2 4 0 0)) (ofAll (block 6 8 0 0)) (ofAll (block 6 8 0 0)))))
+    (inherits Center (fed 4 4 4 4) S16x8 (words (pos 2) noSub (both (pos 0) (minus 1)) (rowOf4 (ofAll (block 2 4 0 0)) (ofAll (block 2 4 0 0)) (ofAll (block 6 8 0 0)) (ofAll (block 6 8 0 0)))))
     ∷ call twiceAsLarge (noMotion ++ (noMotion ++ (firstList 0 3 4 ++ firstList 0 5 6))) (pos 2) (pos 2) 78
-    (inherits Center S8x16 (words (pos 3) noSub (both (pos 0) (minus 1)) (ofAll (rowOf4 (block 6 8 0 0) (block 6 8 0 0) (block 10 12 0 0) (block 10 12 0 0)))))
+    (inherits Center (fed 4 4 4 4) S8x16 (words (pos 3) noSub (both (pos 0) (minus 1)) (ofAll (rowOf4 (block 6 8 0 0) (block 6 8 0 0) (block 10 12 0 0) (block 10 12 0 0)))))
     -- Block for block: quadrant 0, all intra, has the four motions of quadrant 1.
     ∷ call shifted
     (noMotion ++ (words (pos 4) (listOf4 (pos 3) (pos 3) (pos 3) (pos 3)) (both (pos 0) (pos 2)) (rising 1) ++ (firstList 0 3 4 ++ firstList 0 5 6)))
     (pos 1) (pos 1) 78
-    (inherits Center (quarters S4x4 S4x4 S8x8 S8x8) copiedThere)
+    (inherits Center (fed 4 4 4 4) (quarters S4x4 S4x4 S8x8 S8x8) copiedThere)
     -- Base 0 and 1 intra: the vertical neighbour's motion, though the diagonal one serves too and differs.
     ∷ call centre (noMotion ++ (noMotion ++ (firstList 0 3 4 ++ firstList 0 5 6))) (pos 1) (pos 1) 78
-    (inherits Center (quarters S4x8 S8x8 S4x8 S8x8)
+    (inherits Center (fed 1 3 3 9) (quarters S4x8 S8x8 S4x8 S8x8)
     (words (pos 4) (listOf4 (pos 2) (pos 0) (pos 2) (pos 0)) (both (pos 0) (minus 1))
     (ofAll (rowOf4 (block 3 4 0 0) (block 5 6 0 0) (block 5 6 0 0) (block 5 6 0 0)))))
     -- Detail (document 02, E7). A quadrant to each base macroblock, whose quadrants 3, 2, 1 and 0 are read: base 0, intra, and 3 have that bit, 1 has all others, 2 has none.
     ∷ call shifted
     (withDetail 8 noMotion ++ (withDetail 11 (firstList 0 1 2) ++ (firstList 0 1 2 ++ withDetail 1 (firstList 0 1 2))))
     (pos 1) (pos 1) 78
-    (record { reply = Answered (Inherited (record { origin = record { class = Center; column = 0; row = 0 }; detail = 9 }) S16x16); words = withDetail 9 (firstList 0 1 2) })
+    (record { reply = Answered (Inherited (ofClass Center 0 9 (fed 4 4 4 4)) S16x16); words = withDetail 9 (firstList 0 1 2) })
     -- In the first quadrant four blocks read base 0, 1, 2 and 3, one each: base 1's bit is enough. Quadrant 1 reads base 1's quadrant 2 too; quadrant 2 reads base 2, and base 3's quadrants 0 and 2, none set; quadrant 3 reads base 3's quadrant 3.
     ∷ call centre (firstList 0 1 2 ++ (withDetail 4 (firstList 0 1 2) ++ (firstList 0 1 2 ++ withDetail 8 (firstList 0 1 2)))) (pos 1) (pos 1) 78
-    (record { reply = Answered (Inherited (record { origin = record { class = Center; column = 0; row = 0 }; detail = 11 }) S16x16); words = withDetail 11 (firstList 0 1 2) })
+    (record { reply = Answered (Inherited (ofClass Center 0 11 (fed 1 3 3 9)) S16x16); words = withDetail 11 (firstList 0 1 2) })
     -- An intra answer has its bits, each in its place; outside there is none.
     ∷ call (by plain plain) (withDetail 2 noMotion) (pos 0) (pos 0) 78
-    (record { reply = Answered (Intra (record { origin = record { class = Corner; column = 0; row = 0 }; detail = 2 })); words = withDetail 2 noMotion })
+    (record { reply = Answered (Intra (ofClass Corner 0 2 (fed 16 0 0 0))); words = withDetail 2 noMotion })
     ∷ call (withAcross (pos 16) (pos 16) (pos 0) (pos 32)) (withDetail 15 noMotion) (pos 1) (pos 0) 78
     (record { reply = Answered Outside; words = words (pos 5) noSub (both (minus 1) (minus 1)) (allBlocks (block 0 0 0 0)) })
+    -- What fed a macroblock (document 02, E5). In a base one macroblock wide: twelve of its blocks read base 0 and four the one below it, base 1, whose address is that to the right of base 0 too.
+    ∷ call (by (axisWith (pos 16) (pos 16) (pos 16) (pos 48)) (axisWith (pos 48) (pos 86) (pos 30) (pos 64))) (noMotion ++ (noMotion ++ noMotion)) (pos 1) (pos 3) 78
+    (record { reply = Answered (Intra (record { origin = record { class = Hori; column = 0; row = 0 }; detail = 0; first = 12; right = 0; below = 4; diagonal = 0 })); words = noMotion })
     -- Limits of a geometry, each on both sides: B, E,
     ∷ geometry (withAcross (pos 16) (pos 16) (pos 0) (pos 16)) 0
     ∷ geometry (withAcross (pos 4096) (pos 4096) (pos 0) (pos 16)) 0
@@ -438,17 +447,17 @@ unstarred =
     ∷ log (by plain plain) (entry intra (pos 0 ∷ []) ∷ entry mb (ofType (pos 5)) ∷ []) (refusedLog 5 0)
     ∷ log (by (axisWith (pos 32) (pos 32) (pos 0) (pos 32)) plain) (entry intra (pos 0 ∷ []) ∷ entry mb (ofType (pos 5)) ∷ []) (refusedLog 8 1)
     -- The clip of docs/WHY.md: its second macroblock, its third, which reads base column 1, and its log.
-    ∷ call clip (ofVector (pos 3) (minus 8) ++ ofVector (pos 7) (minus 8)) (pos 1) (pos 0) 78 (inherits Vert (quarters S8x8 S4x8 S8x8 S4x8) clipWords)
+    ∷ call clip (ofVector (pos 3) (minus 8) ++ ofVector (pos 7) (minus 8)) (pos 1) (pos 0) 78 (inherits Vert (fed 12 4 0 0) (quarters S8x8 S4x8 S8x8 S4x8) clipWords)
     ∷ call clip (ofVector (pos 3) (minus 8) ++ ofVector (pos 7) (minus 8)) (pos 2) (pos 0) 78
-    (record { reply = Answered (Inherited (ofClass Corner 1) S16x16); words = ofVector (pos 11) (minus 8) })
+    (record { reply = Answered (Inherited (ofClass Corner 1 0 (fed 16 0 0 0)) S16x16); words = ofVector (pos 11) (minus 8) })
     ∷ log clip (clipRecord (pos 3) ∷ clipRecord (pos 7) ∷ []) clipLog
-    -- What the axis across gives for its second macroblock: k, M, N, F, two columns, and the coordinates. And where Z and p(j) round up by B/2, with o below 0.
+    -- What the axis across gives for its second macroblock: k, M, N, F, two columns, the coordinates, and how many fall in the first. And where Z and p(j) round up by B/2, with o below 0.
     ∷ step (axisWith (pos 32) (pos 48) (pos 4) (pos 64)) 16
-    (record { k = 1; border = record { 0 = pos 4 }; border8 = record { 0 = minus 8 }; first = 0; two = true; reads = 2 ∷ 2 ∷ 3 ∷ 4 ∷ [] })
+    (record { k = 1; border = record { 0 = pos 4 }; border8 = record { 0 = minus 8 }; first = 0; two = true; reads = 2 ∷ 2 ∷ 3 ∷ 4 ∷ []; falls = 3 })
     ∷ step (axisWith (pos 32) (pos 38) (minus 4) (pos 64)) 16
-    (record { k = 3; border = record { 0 = pos 12 }; border8 = record { 0 = pos 0 }; first = 1; two = false; reads = 5 ∷ 5 ∷ 6 ∷ 6 ∷ [] })
+    (record { k = 3; border = record { 0 = pos 12 }; border8 = record { 0 = pos 0 }; first = 1; two = false; reads = 5 ∷ 5 ∷ 6 ∷ 6 ∷ []; falls = 4 })
     ∷ step (axisWith (pos 32) (pos 34) (minus 2) (pos 64)) 0
-    (record { k = 1; border = record { 0 = pos 8 }; border8 = record { 0 = pos 0 }; first = 0; two = false; reads = 0 ∷ 1 ∷ 2 ∷ 3 ∷ [] })
+    (record { k = 1; border = record { 0 = pos 8 }; border8 = record { 0 = pos 0 }; first = 0; two = false; reads = 0 ∷ 1 ∷ 2 ∷ 3 ∷ []; falls = 4 })
     -- A block takes from itself, else from its horizontal, its vertical, its diagonal neighbour.
     ∷ takes (true ∷ true ∷ true ∷ true ∷ []) (0 ∷ 1 ∷ 2 ∷ 3 ∷ [])
     ∷ takes (false ∷ true ∷ true ∷ false ∷ []) (1 ∷ 1 ∷ 2 ∷ 2 ∷ [])
@@ -470,7 +479,7 @@ unstarred =
 
 -- They hold.
 pub unstarred-hold : map given unstarred ≡ map expected unstarred
-unfolding allOf allBelow pick upTo insideAxis mOf nOf fOf twoOf columnsRead digitsOf coordinateOf stepOf addressRead blockRead sameMotion samePrediction alike oneEach fewestIn recordAt motionOf splitSaid rule1 rule2 rule3 rule4 rule5 rule6 rule7 firstBroken laidOut setOf intraSet gathered source clearOf filled lower lowest having mergedList merged someOf liveOf copiedFrom copied resolved scaledPrediction scaledMotion inheritedMotions originAt basisAt quadrantDetail detailAt answerOf addressesOf writtenFor madeOf geometryTests recordTests addressesRead macroblockTests macroblockCall pictureTests pictureCall ones onesIn madeAt countsOf digitsIn decimal lineOf macroblockLine syncLine pictureLines refusedLine programTests
+unfolding howMany allOf allBelow pick upTo insideAxis mOf nOf fOf twoOf columnsRead digitsOf coordinateOf stepOf addressRead blockRead sameMotion samePrediction alike oneEach fewestIn recordAt motionOf splitSaid rule1 rule2 rule3 rule4 rule5 rule6 rule7 firstBroken laidOut setOf intraSet gathered source clearOf filled lower lowest having mergedList merged someOf liveOf copiedFrom copied resolved scaledPrediction scaledMotion inheritedMotions originAt basisAt quadrantDetail detailAt blocksReading fedAt answerOf addressesOf writtenFor madeOf geometryTests recordTests addressesRead macroblockTests macroblockCall pictureTests pictureCall ones onesIn madeAt countsOf digitsIn decimal lineOf macroblockLine syncLine pictureLines refusedLine programTests
 unstarred-hold = refl
 
 -- The addresses that an answer names are those of its columns and rows.

@@ -35,8 +35,8 @@ pub struct Axes {
     pub vertical: Axis,
 }
 
-// What an axis gives for one macroblock: k, M (003's MbBorder), N (its B8x8Border), F, whether two columns (rows) are read, and the base 4 by 4
-// coordinates that the four blocks along the axis read.
+// What an axis gives for one macroblock: k, M (003's MbBorder), N (its B8x8Border), F, whether two columns (rows) are read, the base 4 by 4
+// coordinates that the four blocks along the axis read, and how many of these fall in the first column (row; document 02, E5).
 pub struct AxisStep {
     pub k: u32,
     pub border: EnhancementOffset,
@@ -44,6 +44,7 @@ pub struct AxisStep {
     pub first: u32,
     pub two: bool,
     pub reads: [u32; 4],
+    pub falls: u32,
 }
 
 pub enum Class {
@@ -100,11 +101,15 @@ pub struct Origin {
     pub row: u32,
 }
 
-// What an answer says of a macroblock inside the window, besides its split: what it names, and which of its quadrants carry detail (document 02, E7): bit q of 0..15 is quadrant
-// q's.
+// What an answer says of a macroblock inside the window, besides its split: what it names; which of its quadrants carry detail (document 02, E7): bit q of 0..15 is quadrant
+// q's; and how many of its sixteen blocks read the base macroblocks at first, right, below and diagonal (E5).
 pub struct Basis {
     pub origin: Origin,
     pub detail: u8,
+    pub first: u8,
+    pub right: u8,
+    pub below: u8,
+    pub diagonal: u8,
 }
 
 pub enum Answer {
