@@ -172,9 +172,9 @@ module _ (a : Axis) (x : ℕ) (accepted : AcceptedAxis a) (within : insideAxis a
         one = λ t. all-many 4 (in-column (fOf b s c)) (λ i h. eq-eqb _ _ (⊎-elim (λ e. e) (λ e. cc (sym t ∙ e .0)) (read-column b s c inside-here i h)));
         two = λ t. (
           let r = named-read b s c inside-here (first-named t) in
-          some-low 4 (in-column (fOf b s c)) (r .0) (r .1) (eq-eqb _ _ (r .2)),
+              some-low 4 (in-column (fOf b s c)) (r .0) (r .1) (eq-eqb _ _ (r .2)),
           let r = named-read b s c inside-here (second-named t) in
-          omega (arith, some-missing 4 (in-column (fOf b s c)) (r .0) (r .1) (ne-eqb (columnOf (coordinateOf b s c (r .0))) (fOf b s c) (λ e. absurd (omega (arith, r .2)))))
+              omega (arith, some-missing 4 (in-column (fOf b s c)) (r .0) (r .1) (ne-eqb (columnOf (coordinateOf b s c (r .0))) (fOf b s c) (λ e. absurd (omega (arith, r .2))))),
         );
       }
     where
@@ -260,11 +260,12 @@ module _ (g : Axes) (column row : ℕ) where
             m ∙ (λ i. p i * q i)
 
     fed-named : (x y : ℕ) → (1 ≤ blocksReading g column row x y) ↔ (List·Memᴰ x (columnsRead (h .first) (h .two)) × List·Memᴰ y (columnsRead (v .first) (v .two)))
-    fed-named x y =
-        (λ l. let p = both-low (fallsIn h x) (fallsIn v y) (subst (λ (n : ℕ). 1 ≤ n) (reading-product x y) l) in
-        (falls-named (g .horizontal) column (accepted .horizontal) (both .0) x (p .0), falls-named (g .vertical) row (accepted .vertical) (both .1) y (p .1)),
-        λ m. subst (λ (n : ℕ). 1 ≤ n) (sym (reading-product x y))
-        (product-low (fallsIn h x) (fallsIn v y) (named-falls (g .horizontal) column (accepted .horizontal) (both .0) x (m .0)) (named-falls (g .vertical) row (accepted .vertical) (both .1) y (m .1))))
+    fed-named x y = (
+      λ l. let p = both-low (fallsIn h x) (fallsIn v y) (subst (λ (n : ℕ). 1 ≤ n) (reading-product x y) l) in
+          (falls-named (g .horizontal) column (accepted .horizontal) (both .0) x (p .0), falls-named (g .vertical) row (accepted .vertical) (both .1) y (p .1)),
+      λ m. subst (λ (n : ℕ). 1 ≤ n) (sym (reading-product x y))
+          (product-low (fallsIn h x) (fallsIn v y) (named-falls (g .horizontal) column (accepted .horizontal) (both .0) x (m .0)) (named-falls (g .vertical) row (accepted .vertical) (both .1) y (m .1))),
+    )
 
     fed-intra : (base : List ℤ)
         → blocksReadingIntra g base column row

@@ -1,9 +1,10 @@
 // The block map: the coordinates that the four blocks along an axis read.
-ghost use Prim.Native.Nat.{_*_, _+_, _<_};
-ghost use Rattle.definitions.specs.BlockMap.{digitsOf};
+ghost use Prim.Native.Nat.{_*_, _+_, _<_, _≤_};
+ghost use Rattle.definitions.specs.BlockMap.{columnOf, digitsOf};
 ghost use Rattle.definitions.specs.Geometry.{even};
-ghost use Rattle.definitions.specs.Basics.{four};
+ghost use Rattle.definitions.specs.Basics.{four, howMany, pick};
 ghost use Rattle.geometry.specs.Step.{Complete, decimals};
+ghost use lib.Dec.{eqb};
 ghost use lib.ListN.{getD, length};
 ghost use mathlib.Core.Path.{_≡_};
 use crate::sign::magnitude;
@@ -61,4 +62,18 @@ pub fn reads(k: u32, m: EnhancementOffset, n: EnhancementOffset, f: u32) -> [u32
         4 * f + r / 10 % 10,
         4 * f + r % 10,
     ]
+}
+
+// 1 where a coordinate lies in column (row) f, else 0.
+fn falls(q: u32, f: u32) -> u32
+    ensures { λ r. ⌜ (r ≡ pick (eqb (columnOf q) f) 1 0) × (r ≤ 1) ⌝ }
+{
+    if q / 4 == f { 1 } else { 0 }
+}
+
+// How many of the four blocks that read these coordinates fall in column (row) f (document 02, E5).
+pub fn falls_in(q: [u32; 4], f: u32) -> u32
+    ensures { λ r. ⌜ (r ≡ howMany 4 (λ i. eqb (columnOf (getD q i 0)) f)) × (r ≤ 4) ⌝ }
+{
+    falls(q[0], f) + falls(q[1], f) + falls(q[2], f) + falls(q[3], f)
 }

@@ -21,6 +21,7 @@ ghost use lib.IntN.{natAbs, subℕ};
 ghost use lib.Signed.{ltZ};
 ghost use mathlib.Core.Bool.{_&&_, not, true};
 ghost use mathlib.Core.Path.{_≡_};
+use crate::map::falls_in;
 use crate::map::reads;
 use crate::sign::magnitude;
 use crate::sign::with_sign_of;
@@ -41,7 +42,7 @@ pub fn is_inside(a: Axis, p: EnhancementSample) -> bool
     (o <= x) & (x + 16 <= o + a.scaled.0 as i32)
 }
 
-// All that the axis gives for the macroblock at P: steps 1 to 5, and then the block map (003, 3.3.2.1, Table 3).
+// All that the axis gives for the macroblock at P: steps 1 to 5, then the block map (003, 3.3.2.1, Table 3), and of its four blocks how many fall in the first column.
 pub fn axis_step(a: Axis, p: EnhancementSample) -> AxisStep
     requires { ⌜ AtSample a (p .0) × (insideAxis a (p .0) ≡ true) ⌝ }
     ensures { λ r. ⌜ r ≡ stepOf a (p .0) ⌝ }
@@ -53,13 +54,15 @@ pub fn axis_step(a: Axis, p: EnhancementSample) -> AxisStep
     let columns = columns_read(at.k, chosen.border); // 5. XB / 16, one or two
     let border = chosen.border;
     let border8 = chosen.border8;
+    let coordinates = reads(at.k, border, border8, columns.first);
     AxisStep {
         k: at.k,
         border,
         border8,
         first: columns.first,
         two: columns.two,
-        reads: reads(at.k, border, border8, columns.first),
+        reads: coordinates,
+        falls: falls_in(coordinates, columns.first),
     }
 }
 

@@ -2,9 +2,12 @@
 use Prim.Native.Nat.{ℕ}
 use mathlib.Core.Path.{_≡_, ap, _∙_}
 use native.Mathlib.Omega.{arith}
+use lib.Dec.{eqb}
+use lib.ListN.{getD}
 use borrow.Author.Needs.{needs}
 use Rattle.definitions.specs.Accepted.{Inside}
-use Rattle.definitions.specs.BlockMap.{stepOf}
+use Rattle.definitions.specs.Basics.{howMany}
+use Rattle.definitions.specs.BlockMap.{columnOf, stepOf}
 use Rattle.definitions.specs.Geometry.{baseSize, fOf, kOf, mOf, nOf, roundedOf, scaledSize}
 use Rattle.definitions.proofs.Accepted.{inside-axis}
 use Rattle.definitions.proofs.Map.{f-below}
@@ -89,12 +92,16 @@ reads-requires c κs =
     let g = inside (at m) in
     (steps.row-there _ _ _ g (k-is (at m)) (m-is m) (n-is m), omega (arith, f-is f, f-below _ _ _ g, g))
 
+falls-in-requires : tie.Need-falls-in-requires
+falls-in-requires c κs = search needs
+
 returns : tie.Need-returns
-unfolding b s mid at stepOf
+unfolding b s mid at stepOf howMany
 returns c =
-    let f = c .before .before .before in
+    let f = c .before .before .before .before in
     let m = f .before in
     let k = k-is (at m) in
+    let read = c .before .reads .ensures ∙ steps.reads _ _ _ k (m-is m) (n-is m) (f-is f) in
     rw (← at m .centre .ensures .0)
     (λ i. record {
       k = k i;
@@ -102,8 +109,9 @@ returns c =
       border8 = record { 0 = n-is m i };
       first = f-is f i;
       two = f .columns-read .ensures .1 .1 .1 _ _ _ (m-is m) i;
-      reads = (c .reads .ensures ∙ steps.reads _ _ _ k (m-is m) (n-is m) (f-is f)) i;
+      reads = read i;
+      falls = (c .falls-in .ensures .0 ∙ (λ j. howMany 4 (λ n. eqb (columnOf (getD (read j) n 0)) (f-is f j)))) i;
     })
 
 pub axis-step-spec : {M : Type 1} → statement M
-axis-step-spec = tie.close (tie.spec centre-requires distances-requires rounded-requires borders-by-parity-requires columns-read-requires reads-requires returns)
+axis-step-spec = tie.close (tie.spec centre-requires distances-requires rounded-requires borders-by-parity-requires columns-read-requires reads-requires falls-in-requires returns)
