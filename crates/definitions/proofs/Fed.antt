@@ -1,8 +1,8 @@
 -- What fed a macroblock (document 02, E5): the counts are products of what falls in a column and in a row, they sum to sixteen, they say which macroblocks are named, and how many blocks
 -- read intra ones. Assumes nothing.
-use Prim.Native.Nat.{ℕ, zero, suc, _+_, _*_, _/_, _%_, _≤_, _<_}
+use Prim.Native.Nat.{ℕ, zero, suc, _+_, _*_, _/_, _%_, _-_, _≤_, _<_}
 use mathlib.Core.Path.{_≡_, refl, sym, ap, subst, _∙_}
-use mathlib.Core.Bool.{Bool, true, false, _&&_, false≢true}
+use mathlib.Core.Bool.{Bool, true, false, not, _&&_, false≢true}
 use mathlib.Core.List.{List, _∷_, [], List·Memᴰ, List·Memᴰ·head, List·Memᴰ·tail}
 use mathlib.Core.Logic.{_⊎_, inl, inr, ⊎-elim, _↔_}
 use native.Mathlib.Nat.{mul-comm}
@@ -214,6 +214,24 @@ module _ (a : Axis) (x : ℕ) (accepted : AcceptedAxis a) (within : insideAxis a
       either : (i : ℕ) → (coordinateOf b s c i / 4 ≡ fOf b s c) ⊎ (coordinateOf b s c i / 4 ≡ fOf b s c + 1) → pick (in-column (fOf b s c) i) 1 0 + pick (in-column (fOf b s c + 1) i) 1 0 ≡ 1
       either i (inl e) = rw (eq-eqb _ _ e, ne-eqb (columnOf (coordinateOf b s c i)) (fOf b s c + 1) (λ q. absurd (omega arith)))
       either i (inr e) = rw (eq-eqb _ _ e, ne-eqb (columnOf (coordinateOf b s c i)) (fOf b s c) (λ q. absurd (omega arith)))
+
+-- the step's count, by which it says whether two columns are read
+module _ (a : Axis) (x : ℕ) (accepted : AcceptedAxis a) (within : insideAxis a (sampleOf x) ≡ true) where
+  abbrev step : AxisStep
+  step = stepOf a (sampleOf x)
+
+  pub falls-next : fallsIn step (step .first + 1) ≡ 4 - step .falls
+  falls-next = omega (arith, falls-all a x accepted within, falls-right a x accepted within .first)
+
+  pub falls-low : step .falls ≤ 4
+  falls-low = omega (arith, falls-all a x accepted within, falls-right a x accepted within .first)
+
+  pub two-by-falls : step .two ≡ not (eqb (step .falls) 4)
+  two-by-falls = go (step .two) refl
+    where
+      go : (t : Bool) → step .two ≡ t → t ≡ not (eqb (step .falls) 4)
+      go true e = sym (ap not (ne-eqb (step .falls) 4 (λ q. absurd (omega (arith, falls-right a x accepted within .two e .1)))))
+      go false e = sym (ap not (eq-eqb (step .falls) 4 (falls-right a x accepted within .one e)))
 
 -- ---- Both axes
 -- what stands at a column and row, each the first or the next, by which of the four it is

@@ -166,7 +166,7 @@ placed Intra = true
 placed Outside = false
 
 module _ (f : Fixed) (h v : AxisRead) (base : List ℤ) where
-  sort-inside : {s : Sort} → s ≡ sortBy f h v base → placed s ≡ true → (h .inside && v .inside) ≡ true
+  pub sort-inside : {s : Sort} → s ≡ sortBy f h v base → placed s ≡ true → (h .inside && v .inside) ≡ true
   unfolding sortBy
   sort-inside {s} e p = by (h .inside && v .inside) refl
     where

@@ -1,5 +1,5 @@
 -- What is made by the axes' readings is what document 01 makes. Assumes nothing.
-use Prim.Native.Nat.{ℕ}
+use Prim.Native.Nat.{ℕ, _*_}
 use mathlib.Core.Path.{_≡_, refl, sym, ap, _∙_}
 use mathlib.Core.Bool.{Bool, true, false, and-false, _&&_}
 use mathlib.Core.List.{List, []}
@@ -8,22 +8,23 @@ use Rattle.definitions.specs.declared.Axes.{Axes}
 use Rattle.definitions.specs.declared.Answer.the-variants.{Inherited, Intra, Outside}
 use Rattle.definitions.specs.declared.Motion.{Motion}
 use Rattle.definitions.specs.declared.Basis.{Basis}
-use Rattle.definitions.specs.declared.Origin.{Origin}
 use Rattle.macroblock.specs.declared.AxisRead.{AxisRead}
 use Rattle.macroblock.specs.declared.Fixed.{Fixed}
 use Rattle.common.specs.declared.counts.Sort.{Sort}
 use Rattle.common.specs.declared.counts.Sort.the-variants.{Inherited as SortInherited, Intra as SortIntra, Outside as SortOutside}
 use Rattle.definitions.specs.Basics.{pick}
-use Rattle.definitions.specs.Geometry.{insideAxis, inside, sampleOf}
+use Rattle.definitions.specs.Geometry.{classOf, insideAxis, inside, sampleOf}
 use Rattle.definitions.specs.BlockMap.{stepOf, addressRead, blockRead}
 use Rattle.definitions.specs.Inheriting.{chosen, gathered, inheritedMotions, intraSet, mostlyIntra, motionAt}
 use Rattle.definitions.specs.Record.{laidOut}
 use Rattle.definitions.specs.Detail.{detailAt, quadrantDetail}
+use Rattle.definitions.specs.Fed.{blocksReading, fallsIn, fedAt}
 use Rattle.definitions.specs.Answer.{Made, answerOf, basisAt, dividedBy, madeOf, originAt, withoutMotion, writtenFor}
 use Rattle.common.specs.Sorts.{sortOf}
 use Rattle.definitions.specs.Accepted.{AcceptedAxes}
 use Rattle.definitions.proofs.Accepted.{across-inside, down-inside}
-use Rattle.definitions.proofs.Choices.{yes, no, and-intro}
+use Rattle.definitions.proofs.Choices.{yes, no, and-intro, both-true}
+use Rattle.definitions.proofs.Fed.{falls-next, falls-right, reading-product, two-by-falls}
 use Rattle.details.specs.Bits.{detailBy}
 use Rattle.macroblock.proofs.Reading.{first-column}
 use Rattle.definitions.proofs.Answers.{made-outside}
@@ -63,19 +64,38 @@ module _ (g : Axes) (accepted : AcceptedAxes g) (column row : ℕ) (base : List 
   abbrev basis : Basis
   basis = basisBy (fixedOf g) hor ver base
 
+  both : inside g column row ≡ true → (insideAxis (g .horizontal) (sampleOf column) ≡ true) × (insideAxis (g .vertical) (sampleOf row) ≡ true)
+  both e = both-true (insideAxis (g .horizontal) (sampleOf column)) (insideAxis (g .vertical) (sampleOf row)) e
+
+  -- a count, from what falls in its column and in its row
+  count-same : {m n : ℕ} (x y : ℕ) → fallsIn (stepOf (g .horizontal) (sampleOf column)) x ≡ m → fallsIn (stepOf (g .vertical) (sampleOf row)) y ≡ n → blocksReading g column row x y ≡ m * n
+  count-same x y p q = reading-product g column row x y ∙ (λ i. p i * q i)
+
   pub origin-same : inside g column row ≡ true → originAt g column row ≡ originBy hor ver
   unfolding originAt stepOf
   origin-same e =
       let x = first-column _ _ _ (across-inside g column row accepted e) in
       let y = first-column _ _ _ (down-inside g column row accepted e) in
-      λ i. record { class = originBy hor ver .class; column = sym x i; row = sym y i }
+      let p = two-by-falls (g .horizontal) column (accepted .horizontal) (both e .0) in
+      let q = two-by-falls (g .vertical) row (accepted .vertical) (both e .1) in
+      λ i. record { class = classOf (p i) (q i); column = sym x i; row = sym y i }
 
   basis-same : inside g column row ≡ true → basisAt g base column row ≡ basis
-  unfolding basisAt detailAt quadrantDetail detailBy addressRead blockRead
-  basis-same e = ap (λ (o : Origin). the-basis o) (origin-same e)
-    where
-      the-basis : Origin → Basis
-      the-basis o = record { origin = o; detail = basis .detail }
+  unfolding basisAt fedAt detailAt quadrantDetail detailBy addressRead blockRead
+  basis-same e =
+      let o = origin-same e in
+      let h = falls-right (g .horizontal) column (accepted .horizontal) (both e .0) .first in
+      let v = falls-right (g .vertical) row (accepted .vertical) (both e .1) .first in
+      let k = falls-next (g .horizontal) column (accepted .horizontal) (both e .0) in
+      let l = falls-next (g .vertical) row (accepted .vertical) (both e .1) in
+      λ i. record {
+        origin = o i;
+        detail = basis .detail;
+        first = count-same _ _ (sym h) (sym v) i;
+        right = count-same _ _ k (sym v) i;
+        below = count-same _ _ (sym h) l i;
+        diagonal = count-same _ _ k l i;
+      }
 
   answer-same : inside g column row ≡ true → answerOf g base column row ≡ pick (mostlyIntra set) (Intra basis) (Inherited basis (chosen made))
   unfolding answerOf intraSet addressRead setBy

@@ -18,6 +18,7 @@ use Rattle.definitions.specs.BlockMap.{columnOf, stepOf, coordinateOf}
 use Rattle.definitions.specs.Accepted.{AcceptedAxis, Inside}
 use Rattle.definitions.proofs.Accepted.{inside-axis}
 use Rattle.definitions.proofs.Choices.{each, yes, no, four-at}
+use Rattle.definitions.proofs.Fed.{falls-low}
 use Rattle.definitions.proofs.Map.{coordinate-below, named-read, read-column}
 use Rattle.macroblock.specs.Made.{SmallRising, readIn, nowhere, readOf}
 
@@ -78,16 +79,17 @@ module _ (a : Axis) (x : ℕ) where
       says false = ap (λ (r : AxisRead). r .inside) (no (readIn (stepOf a (sampleOf x))) nowhere refl)
 
   -- columns and coordinates lie inside the base, which has 256 columns at the most
-  small : AcceptedAxis a → Inside (baseSize a) (scaledSize a) (cOf a (sampleOf x)) → SmallRising (stepOf a (sampleOf x))
+  small : AcceptedAxis a → insideAxis a (sampleOf x) ≡ true → Inside (baseSize a) (scaledSize a) (cOf a (sampleOf x)) → SmallRising (stepOf a (sampleOf x))
   unfolding stepOf
-  small accepted at-c = record {
+  small accepted within at-c = record {
+    falls = falls-low a x accepted within;
     reads = λ i h. subst (λ (n : ℕ). n < 65536) (sym (four-at (coordinateOf (baseSize a) (scaledSize a) (cOf a (sampleOf x))) 0 i h))
         (omega (arith, accepted .sized .base-high, coordinate-below (baseSize a) (scaledSize a) (cOf a (sampleOf x)) at-c i h));
     rising = coordinates-rise (baseSize a) (scaledSize a) (cOf a (sampleOf x)) at-c;
   }
 
   pub step-small : {step : AxisStep} → AcceptedAxis a → insideAxis a (sampleOf x) ≡ true → step ≡ stepOf a (sampleOf x) → SmallRising step
-  step-small accepted e s = subst SmallRising (sym s) (small accepted (inside-axis a (sampleOf x) accepted e))
+  step-small accepted e s = subst SmallRising (sym s) (small accepted e (inside-axis a (sampleOf x) accepted e))
 
   -- inside, the coordinates rise
   pub step-rises : AcceptedAxis a → insideAxis a (sampleOf x) ≡ true → Rising (stepOf a (sampleOf x) .reads)

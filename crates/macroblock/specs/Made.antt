@@ -1,7 +1,7 @@
 -- What is made of a macroblock, as a function of what is fixed for a picture, of what the macroblock's axes give, and of the base: document 01's, with the axes' part worked
 -- out once.
-use Prim.Native.Nat.{ℕ, _/_, _<_, _≤_}
-use mathlib.Core.Bool.{Bool, true, false, _&&_}
+use Prim.Native.Nat.{ℕ, _*_, _-_, _/_, _<_, _≤_}
+use mathlib.Core.Bool.{Bool, true, false, not, _&&_}
 use mathlib.Core.Path.{_≡_}
 use mathlib.Core.List.{List, [], _∷_}
 use lib.Dec.{eqb}
@@ -34,18 +34,23 @@ abbrev pub fixedOf : Axes → Fixed
 fixedOf g = record { width = macroblocks (baseSize (g .horizontal)); scales = scalesOf g }
 
 -- ---- An axis at a macroblock
--- inside, of its step the coordinates that are read, the sets of base quadrants along it that the first two blocks and the last two read, and whether two columns (rows) are read
+-- inside, of its step the coordinates that are read, the sets of base quadrants along it that the first two blocks and the last two read, and how many blocks fall in the first column (row)
 abbrev pub readIn : AxisStep → AxisRead
-readIn s = record { reads = s .reads; halves = halvesOf (s .reads); two = s .two; inside = true }
+readIn s = record { reads = s .reads; halves = halvesOf (s .reads); falls = s .falls; inside = true }
 
 abbrev pub nowhere : AxisRead
-nowhere = record { reads = 65535 ∷ 65535 ∷ 65535 ∷ 65535 ∷ []; halves = 0 ∷ 0 ∷ []; two = false; inside = false }
+nowhere = record { reads = 65535 ∷ 65535 ∷ 65535 ∷ 65535 ∷ []; halves = 0 ∷ 0 ∷ []; falls = 0; inside = false }
 
 unfoldable pub readOf : Axis → ℕ → AxisRead
 readOf a x = pick (insideAxis a (sampleOf x)) (readIn (stepOf a (sampleOf x))) nowhere
 
--- the coordinates of a step have sixteen bits, and rise
+-- two columns (rows) are read: not all four blocks fall in the first
+abbrev pub twoRead : AxisRead → Bool
+twoRead r = not (eqb (r .falls) 4)
+
+-- the coordinates of a step have sixteen bits, and rise; four at most fall in the first column (row)
 pub record SmallRising (s : AxisStep) : Type 0 where
+  pub falls : s .falls ≤ 4
   pub reads : (i : ℕ) → i < 4 → getD (s .reads) i 0 < 65536
   pub rising : Rising (s .reads)
 
@@ -86,12 +91,23 @@ module _ (f : Fixed) (h v : AxisRead) (base : List ℤ) where
   unfoldable pub sortBy : Sort
   sortBy = pick (h .inside && v .inside) (sortInside f (h .reads) (v .reads) base) SortOutside
 
--- the answer of a sort: what it names (the first column is that of the first coordinate), its detail, and the split that is chosen
+-- the answer of a sort: what it names (the first column is that of the first coordinate), its detail, what fed it, and the split that is chosen
 abbrev pub originBy : AxisRead → AxisRead → Origin
-originBy h v = record { class = classOf (h .two) (v .two); column = columnOf (getD (h .reads) 0 0); row = columnOf (getD (v .reads) 0 0) }
+originBy h v = record { class = classOf (twoRead h) (twoRead v); column = columnOf (getD (h .reads) 0 0); row = columnOf (getD (v .reads) 0 0) }
+
+-- (each count is the product of what falls in its column and in its row)
+abbrev pub basisWith : AxisRead → AxisRead → ℕ → Basis
+basisWith h v detail = record {
+  origin = originBy h v;
+  detail = detail;
+  first = h .falls * v .falls;
+  right = (4 - h .falls) * v .falls;
+  below = h .falls * (4 - v .falls);
+  diagonal = (4 - h .falls) * (4 - v .falls);
+}
 
 abbrev pub basisBy : Fixed → AxisRead → AxisRead → List ℤ → Basis
-basisBy f h v base = record { origin = originBy h v; detail = detailInside f (h .reads) (v .reads) base }
+basisBy f h v base = basisWith h v (detailInside f (h .reads) (v .reads) base)
 
 abbrev pub answerFor : Sort → Basis → List (List Motion) → Answer
 answerFor SortOutside b m = Outside
@@ -114,9 +130,11 @@ pub record Ready (f : Fixed) (across down : List ℕ) (base : List ℤ) : Type 0
   pub columns : Rising across
   pub rows : Rising down
 
--- and of the axes that their sets are those of their coordinates
+-- and of the axes that their sets are those of their coordinates, and that four blocks at most fall in the first column and row
 pub record MakeableInside (f : Fixed) (h v : AxisRead) (base : List ℤ) : Type 0 where
   pub ready : Ready f (h .reads) (v .reads) base
+  pub columns-falling : h .falls ≤ 4
+  pub rows-falling : v .falls ≤ 4
   pub columns : h .halves ≡ halvesOf (h .reads)
   pub rows : v .halves ≡ halvesOf (v .reads)
 

@@ -8,7 +8,7 @@ ghost use Rattle.definitions.specs.Inheriting.{filled, merged, resolved};
 ghost use Rattle.definitions.specs.Record.{detailOf, recordWords, rule7, splitSaid, subSplitOf};
 ghost use Rattle.details.specs.Bits.{detailBy, halvesOf};
 ghost use Rattle.gather.specs.Reads.{Readable, Rising, gatheredBy, quadrantFrom, setBy};
-ghost use Rattle.macroblock.specs.Made.{Makeable, Ready, SmallRising, answerBy, detailInside, fixedOf, inheritedInside, nowhere, onePart, originBy, readIn, readOf, setInside, sortBy, sortInside, writtenBy, writtenInside};
+ghost use Rattle.macroblock.specs.Made.{Makeable, Ready, SmallRising, answerBy, basisWith, detailInside, fixedOf, inheritedInside, nowhere, onePart, originBy, readIn, readOf, setInside, sortBy, sortInside, twoRead, writtenBy, writtenInside};
 ghost use Rattle.macroblock.specs.Quadrants.{Alike, Mergeable, plainAt};
 ghost use Rattle.motion.specs.ByValue.{motionsIn, quadrantsIn};
 ghost use lib.IntN.{natAbs};
@@ -85,7 +85,7 @@ pub fn fixed_of(g: Axes) -> Fixed
 pub struct AxisRead {
     pub reads: [u16; 4],
     pub halves: [u8; 2],
-    pub two: bool,
+    pub falls: u8,
     pub inside: bool,
 }
 
@@ -102,7 +102,7 @@ fn read_in(s: AxisStep) -> AxisRead
             s.reads[3] as u16,
         ],
         halves: halves_of(s.reads),
-        two: s.two,
+        falls: s.falls as u8,
         inside: true,
     }
 }
@@ -114,7 +114,7 @@ pub fn read_nowhere() -> AxisRead
     AxisRead {
         reads: [65535; 4],
         halves: [0; 2],
-        two: false,
+        falls: 0,
         inside: false,
     }
 }
@@ -345,24 +345,38 @@ fn quadrant_made(
 }
 
 // ---- The answer
+// Two columns (rows) are read: not all four blocks fall in the first (`two-by-falls`).
+pub fn is_two(r: AxisRead) -> bool
+    ensures { λ t. ⌜ t ≡ twoRead r ⌝ }
+{
+    r.falls != 4
+}
+
 fn origin_of(h: AxisRead, v: AxisRead) -> Origin
     ensures { λ r. ⌜ r ≡ originBy h v ⌝ }
 {
     Origin {
-        class: class_of(h.two, v.two),
+        class: class_of(is_two(h), is_two(v)),
         column: h.reads[0] as u32 / 4,
         row: v.reads[0] as u32 / 4,
     }
 }
 
-// With the detail that a written record says.
+// With the detail that a written record says. What fed a macroblock is products: the blocks that fall in a column, in each row that falls in a row (`reading-product`).
 fn basis_of(h: AxisRead, v: AxisRead, out: &[i16]) -> Basis
-    requires { ⌜ (length (now out) ≡ recordWords) × (rule7 (now out) ≡ true) ⌝ }
-    ensures { λ r. ⌜ r ≡ record { origin = originBy h v; detail = natAbs (detailOf (now (out .entry))) } ⌝ }
+    requires { ⌜ (length (now out) ≡ recordWords) × (rule7 (now out) ≡ true) × (h .falls ≤ 4) × (v .falls ≤ 4) ⌝ }
+    ensures { λ r. ⌜ r ≡ basisWith h v (natAbs (detailOf (now (out .entry)))) ⌝ }
 {
+    let origin = origin_of(h, v);
+    let columns = h.falls;
+    let rows = v.falls;
     Basis {
-        origin: origin_of(h, v),
+        origin,
         detail: out[DETAIL] as u8,
+        first: columns * rows,
+        right: (4 - columns) * rows,
+        below: columns * (4 - rows),
+        diagonal: (4 - columns) * (4 - rows),
     }
 }
 

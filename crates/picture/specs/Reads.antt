@@ -10,7 +10,7 @@ use Rattle.macroblock.specs.Made.{nowhere, readOf}
 
 -- what stands where there is none
 abbrev pub noRead : AxisRead
-noRead = record { reads = []; halves = []; two = false; inside = false }
+noRead = record { reads = []; halves = []; falls = 0; inside = false }
 
 -- at the first n columns; the rest reads nothing
 pub record AxisReads (a : Axis) (n : ℕ) (reads : List AxisRead) : Type 0 where

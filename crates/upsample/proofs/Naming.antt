@@ -23,7 +23,7 @@ use Rattle.definitions.proofs.Map.{class-columns, class-rows}
 use Rattle.definitions.proofs.Verdicts.{then-verdict, refused-first}
 use Rattle.records.specs.Checking.{addresses}
 use Rattle.records.proofs.Addresses.{addresses-more, addresses-end, addresses-one}
-use Rattle.macroblock.specs.Made.{originBy}
+use Rattle.macroblock.specs.Made.{originBy, twoRead}
 use Rattle.upsample.specs.Staged.{rowAddresses, InBase}
 
 -- ---- one row
@@ -69,20 +69,20 @@ firstOf r = columnOf (getD (r .reads) 0 0)
 
 module _ (g : Axes) (h v : AxisRead) where
   abbrev rowOf : ℕ → List ℕ
-  rowOf row = rowAddresses g (firstOf h) (h .two) row
+  rowOf row = rowAddresses g (firstOf h) (twoRead h) row
 
-  by-rows : addressesOf g (originBy h v) ≡ forEach (columnsRead (firstOf v) (v .two)) rowOf
+  by-rows : addressesOf g (originBy h v) ≡ forEach (columnsRead (firstOf v) (twoRead v)) rowOf
   unfolding addressesOf
   by-rows =
-      let c = class-columns (h .two) (v .two) in
-      let r = class-rows (h .two) (v .two) in
+      let c = class-columns (twoRead h) (twoRead v) in
+      let r = class-rows (twoRead h) (twoRead v) in
       λ i. forEach (columnsRead (firstOf v) (r i)) (λ row. map (λ column. baseAddress g column row) (columnsRead (firstOf h) (c i)))
 
-  pub named-one : v .two ≡ false → addressesOf g (originBy h v) ≡ rowOf (firstOf v)
+  pub named-one : twoRead v ≡ false → addressesOf g (originBy h v) ≡ rowOf (firstOf v)
   unfolding columnsRead
   named-one e = by-rows ∙ (ap (λ (l : List ℕ). forEach l rowOf) (no (firstOf v ∷ (firstOf v + 1) ∷ []) (firstOf v ∷ []) e) ∙ append-nil (rowOf (firstOf v)))
 
-  pub named-two : v .two ≡ true → addressesOf g (originBy h v) ≡ rowOf (firstOf v) ++ rowOf (firstOf v + 1)
+  pub named-two : twoRead v ≡ true → addressesOf g (originBy h v) ≡ rowOf (firstOf v) ++ rowOf (firstOf v + 1)
   unfolding columnsRead
   named-two e =
       by-rows ∙ (ap (λ (l : List ℕ). forEach l rowOf) (yes (firstOf v ∷ (firstOf v + 1) ∷ []) (firstOf v ∷ []) e)
@@ -95,23 +95,23 @@ module _ (g : Axes) (h v : AxisRead) where
     abbrev verdict : Verdict
     verdict = verdictOf (recordTests narrow base (addressesOf g (originBy h v)))
 
-    pub one-row : v .two ≡ false → verdictAt (firstOf v) ≡ verdict
+    pub one-row : twoRead v ≡ false → verdictAt (firstOf v) ≡ verdict
     one-row e = ap (λ (l : List ℕ). verdictOf (recordTests narrow base l)) (sym (named-one e))
 
-    split-rows : v .two ≡ true → verdict ≡ verdictOf (recordTests narrow base (rowOf (firstOf v)) ++ recordTests narrow base (rowOf (firstOf v + 1)))
+    split-rows : twoRead v ≡ true → verdict ≡ verdictOf (recordTests narrow base (rowOf (firstOf v)) ++ recordTests narrow base (rowOf (firstOf v + 1)))
     split-rows e = ap (λ (l : List ℕ). verdictOf (recordTests narrow base l)) (named-two e) ∙ ap verdictOf (tests-join base (rowOf (firstOf v)) (rowOf (firstOf v + 1)))
 
-    pub second-row : v .two ≡ true → verdictAt (firstOf v) ≡ Accepted → verdictAt (firstOf v + 1) ≡ verdict
+    pub second-row : twoRead v ≡ true → verdictAt (firstOf v) ≡ Accepted → verdictAt (firstOf v + 1) ≡ verdict
     second-row e p = sym (split-rows e ∙ then-verdict (recordTests narrow base (rowOf (firstOf v))) _ p)
 
-    pub first-row : v .two ≡ true → (r : Refusal) → verdictAt (firstOf v) ≡ Refused r → Refused r ≡ verdict
+    pub first-row : twoRead v ≡ true → (r : Refusal) → verdictAt (firstOf v) ≡ Refused r → Refused r ≡ verdict
     first-row e r p = sym (split-rows e ∙ refused-first (recordTests narrow base (rowOf (firstOf v))) _ r p)
 
-    pub one-below : v .two ≡ false → InBase base (addressesOf g (originBy h v)) → InBase base (rowOf (firstOf v))
+    pub one-below : twoRead v ≡ false → InBase base (addressesOf g (originBy h v)) → InBase base (rowOf (firstOf v))
     one-below e n = subst (InBase base) (named-one e) n
 
-    pub first-below : v .two ≡ true → InBase base (addressesOf g (originBy h v)) → InBase base (rowOf (firstOf v))
+    pub first-below : twoRead v ≡ true → InBase base (addressesOf g (originBy h v)) → InBase base (rowOf (firstOf v))
     first-below e n a m = n a (subst (List·Memᴰ a) (sym (named-two e)) (Memᴰ·append-left (rowOf (firstOf v + 1)) m))
 
-    pub second-below : v .two ≡ true → InBase base (addressesOf g (originBy h v)) → InBase base (rowOf (firstOf v + 1))
+    pub second-below : twoRead v ≡ true → InBase base (addressesOf g (originBy h v)) → InBase base (rowOf (firstOf v + 1))
     second-below e n a m = n a (subst (List·Memᴰ a) (sym (named-two e)) (Memᴰ·append-right (rowOf (firstOf v)) m))

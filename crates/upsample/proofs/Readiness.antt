@@ -16,6 +16,7 @@ use Rattle.definitions.specs.Record.{recordWords, recordAt, wellFormed, narrow}
 use Rattle.definitions.specs.Answer.{originAt, addressesOf}
 use Rattle.definitions.specs.Refusals.{addressesRead}
 use Rattle.definitions.specs.Raster.{baseCount}
+use Rattle.definitions.proofs.Fed.{falls-low}
 use Rattle.definitions.proofs.Choices.{yes, no, both-true}
 use Rattle.definitions.proofs.Accepted.{across-inside, down-inside}
 use Rattle.definitions.proofs.Addresses.{address-named, address-below}
@@ -96,7 +97,13 @@ module _ (g : Axes) (base : List ℤ) (right : BaseRight g base) (column row : �
             let e = sym says ∙ t in
             yes _ _ e ∙ (ap (addressesOf g) (origin-same g (right .axes) column row base e) ∙ (λ i. addressesOf g (originBy (sym (x e) i) (sym (y e) i))));
         unnamed = λ t. no _ _ (sym says ∙ t);
-        made-ready = λ t f. let e = sym says ∙ t in to (λ h v. MakeableInside (fixedOf g) h v base) e (record { ready = ready e (λ a m. f a (subst (List·Memᴰ a) (sym (yes _ _ e)) m)); columns = refl; rows = refl });
+        made-ready = λ t f. let e = sym says ∙ t in to (λ h v. MakeableInside (fixedOf g) h v base) e (record {
+          ready = ready e (λ a m. f a (subst (List·Memᴰ a) (sym (yes _ _ e)) m));
+          columns-falling = falls-low (g .horizontal) column (right .axes .horizontal) (both-true (insideAxis (g .horizontal) (sampleOf column)) (insideAxis (g .vertical) (sampleOf row)) e .0);
+          rows-falling = falls-low (g .vertical) row (right .axes .vertical) (both-true (insideAxis (g .horizontal) (sampleOf column)) (insideAxis (g .vertical) (sampleOf row)) e .1);
+          columns = refl;
+          rows = refl;
+        });
       }
 
   pub known-of : (h v : AxisRead) → h ≡ readOf (g .horizontal) column → v ≡ readOf (g .vertical) row → Known h v

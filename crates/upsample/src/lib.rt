@@ -30,6 +30,7 @@ use macroblock::AxisRead;
 use macroblock::answer;
 use macroblock::axis_read;
 use macroblock::fixed_of;
+use macroblock::is_two;
 use scan::check;
 
 // ---- The records that a macroblock reads
@@ -52,8 +53,8 @@ fn check_read(g: Axes, base: &[i16], h: AxisRead, v: AxisRead) -> Verdict
 {
     let column = h.reads[0] as u32 / 4;
     let row = v.reads[0] as u32 / 4;
-    let columns = h.two;
-    if v.two {
+    let columns = is_two(h);
+    if is_two(v) {
         return match check_row(g, base, column, columns, row) {
             Verdict::Accepted => check_row(g, base, column, columns, row + 1),
             Verdict::Refused(r) => Verdict::Refused(r),

@@ -1,8 +1,8 @@
 -- `macroblock::answer` meets its contract. Assumes nothing.
 use mathlib.Core.Path.{refl, ap, sym, _∙_}
 use Rattle.definitions.specs.declared.Answer.the-variants.{Inherited, Intra}
-use Rattle.macroblock.specs.Made.{originBy}
-use Rattle.macroblock.proofs.Making.{answered, says-detail, split-is}
+use Rattle.macroblock.specs.Made.{basisWith}
+use Rattle.macroblock.proofs.Making.{answered, says-detail, sort-inside, split-is}
 use borrow.Author.Needs.{needs}
 use Rattle.macroblock.proofs.answer.Statement.{statement}
 use Rattle.macroblock.proofs.answer.Tie as tie
@@ -20,7 +20,8 @@ basis-of-requires : tie.Need-basis-of-requires
 basis-of-requires c κs =
     let s = c .before .before .before .before .before .before in
     let made = c .before .before .before .before .make .ensures in
-    (search needs, says-detail (s .args .f) (s .args .h) (s .args .v) (s .args .base .now) (sym (c .before .enum-told2 .given .1) ∙ made .0) refl (made .1) .0)
+    let k = s .pre .0 (sort-inside (s .args .f) (s .args .h) (s .args .v) (s .args .base .now) (sym (c .before .enum-told2 .given .1) ∙ made .0) refl) in
+    (search needs, says-detail (s .args .f) (s .args .h) (s .args .v) (s .args .base .now) (sym (c .before .enum-told2 .given .1) ∙ made .0) refl (made .1) .0, k .columns-falling, k .rows-falling)
 
 enum-told-3 : tie.Need-enum-told-3
 enum-told-3 c = search needs
@@ -29,7 +30,8 @@ basis-of-requires-2 : tie.Need-basis-of-requires-2
 basis-of-requires-2 c κs =
     let s = c .before .before .before .before .before .before in
     let made = c .before .before .before .before .make .ensures in
-    (search needs, says-detail (s .args .f) (s .args .h) (s .args .v) (s .args .base .now) (sym (c .before .enum-told3 .given .1) ∙ made .0) refl (made .1) .0)
+    let k = s .pre .0 (sort-inside (s .args .f) (s .args .h) (s .args .v) (s .args .base .now) (sym (c .before .enum-told3 .given .1) ∙ made .0) refl) in
+    (search needs, says-detail (s .args .f) (s .args .h) (s .args .v) (s .args .base .now) (sym (c .before .enum-told3 .given .1) ∙ made .0) refl (made .1) .0, k .columns-falling, k .rows-falling)
 
 split-said-requires : tie.Need-split-said-requires
 split-said-requires c κs = search needs
@@ -51,7 +53,7 @@ returns-2 c =
     let made = c .before .before .before .before .before .make .ensures in
     let sort = sym (c .before .before .enum-told2 .given .1) ∙ made .0 in
     let d = says-detail (s .args .f) (s .args .h) (s .args .v) (s .args .base .now) sort refl (made .1) .1 in
-    (ap Intra (c .basis-of .ensures ∙ (λ i. record { origin = originBy (s .args .h) (s .args .v); detail = d i })) ∙ answered (s .args .f) (s .args .h) (s .args .v) (s .args .base .now) sort, made .1)
+    (ap Intra (c .basis-of .ensures ∙ (λ i. basisWith (s .args .h) (s .args .v) (d i))) ∙ answered (s .args .f) (s .args .h) (s .args .v) (s .args .base .now) sort, made .1)
 
 same-length-3 : tie.Need-same-length-3
 same-length-3 c = search needs
@@ -62,7 +64,7 @@ returns-3 c =
     let made = c .before .before .before .before .before .before .before .make .ensures in
     let sort = sym (c .before .before .before .before .enum-told3 .given .1) ∙ made .0 in
     let d = says-detail (s .args .f) (s .args .h) (s .args .v) (s .args .base .now) sort refl (made .1) .1 in
-    let o = c .before .before .basis-of2 .ensures ∙ (λ i. record { origin = originBy (s .args .h) (s .args .v); detail = d i }) in
+    let o = c .before .before .basis-of2 .ensures ∙ (λ i. basisWith (s .args .h) (s .args .v) (d i)) in
     let k = c .split-said .ensures ∙ split-is (s .args .f) (s .args .h) (s .args .v) (s .args .base .now) sort (made .1) in
     ((λ i. Inherited (o i) (k i)) ∙ answered (s .args .f) (s .args .h) (s .args .v) (s .args .base .now) sort, made .1)
 

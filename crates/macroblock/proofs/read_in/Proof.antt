@@ -34,12 +34,15 @@ cast-t18 c = record { fits = c .before .before .before .before .pre .reads 3 (om
 halves-of-requires : tie.Need-halves-of-requires
 halves-of-requires c κs = search needs
 
+cast-t23 : tie.Need-cast-t23
+cast-t23 c = search needs
+
 returns : tie.Need-returns
 returns c =
     let s = c .before .before .before .before .before .before .args .t1 in
     let e = sym (four-is (s .reads) 0 (search needs)) in
     let h = c .halves-of .ensures in
-    λ i. record { reads = e i; halves = h i; two = s .two; inside = true }
+    λ i. record { reads = e i; halves = h i; falls = s .falls; inside = true }
 
 pub read-in-spec : {M : Type 1} → statement M
 read-in-spec =
@@ -54,4 +57,5 @@ read-in-spec =
     element-copy-out-t17
     cast-t18
     halves-of-requires
+    cast-t23
     returns)
