@@ -53,7 +53,7 @@ pub record Instance : Type 0 where
 
 -- ---- What is handed over
 abbrev from : Class → Basis
-from class = record { origin = record { class = class; column = 5; row = 7 }; detail = 13 }
+from class = record { origin = record { class = class; column = 5; row = 7 }; detail = 13; first = 1; right = 3; below = 2; diagonal = 10 }
 
 abbrev refused : Refusal
 refused = record { number = 8; place = 41; rule = 6 }
@@ -86,23 +86,39 @@ before = record { begun = 3; geometry = nothing; inherited = 10; intra = 11; out
 abbrev unbegun : Session
 unbegun = record { begun = false; numbers = noNumbers; counts = record { inherited = 10; intra = 11; outside = 12 } }
 
--- an answer's type, sub-types, class, column, row and detail
-abbrev answer : ℕ → ℕ → ℕ → ℕ → ℕ → ℕ → ℕ → ℕ → ℕ → MacroblockResult
-answer kind a b c d class column row detail =
-    record { refusal = 0; place = 0; rule = 0; kind = kind; sub0 = a; sub1 = b; sub2 = c; sub3 = d; class = class; column = column; row = row; detail = detail }
+-- an answer's type, sub-types, class, column, row, detail and the four counts of what fed it
+abbrev answer : ℕ → ℕ → ℕ → ℕ → ℕ → ℕ → ℕ → ℕ → ℕ → ℕ → ℕ → ℕ → ℕ → MacroblockResult
+answer kind a b c d class column row detail first right below diagonal = record {
+  refusal = 0;
+  place = 0;
+  rule = 0;
+  kind = kind;
+  sub0 = a;
+  sub1 = b;
+  sub2 = c;
+  sub3 = d;
+  class = class;
+  column = column;
+  row = row;
+  detail = detail;
+  first = first;
+  right = right;
+  below = below;
+  diagonal = diagonal;
+}
 
 abbrev noAnswer : MacroblockResult
-noAnswer = record { refusal = 8; place = 41; rule = 6; kind = 0; sub0 = 0; sub1 = 0; sub2 = 0; sub3 = 0; class = 0; column = 0; row = 0; detail = 0 }
+noAnswer = record { refusal = 8; place = 41; rule = 6; kind = 0; sub0 = 0; sub1 = 0; sub2 = 0; sub3 = 0; class = 0; column = 0; row = 0; detail = 0; first = 0; right = 0; below = 0; diagonal = 0 }
 
 abbrev pub examples : List Instance
 examples =
-    record { given = macroblock (macroblockResult (Answered (Inherited (from Hori) (Quarters (record { a = S8x4; b = S4x8; c = S4x4; d = S8x8 }))))); expected = macroblock (answer 4 1 2 3 0 2 5 7 13) }
-    ∷ record { given = macroblock (macroblockResult (Answered (Inherited (from Center) (Quarters (record { a = S4x4; b = S8x8; c = S8x4; d = S4x8 }))))); expected = macroblock (answer 4 3 0 1 2 3 5 7 13) }
-    ∷ record { given = macroblock (macroblockResult (Answered (Inherited (from Vert) S16x16))); expected = macroblock (answer 1 0 0 0 0 1 5 7 13) }
-    ∷ record { given = macroblock (macroblockResult (Answered (Inherited (from Corner) S16x8))); expected = macroblock (answer 2 0 0 0 0 0 5 7 13) }
-    ∷ record { given = macroblock (macroblockResult (Answered (Inherited (from Center) S8x16))); expected = macroblock (answer 3 0 0 0 0 3 5 7 13) }
-    ∷ record { given = macroblock (macroblockResult (Answered (Intra (from Vert)))); expected = macroblock (answer 0 0 0 0 0 1 5 7 13) }
-    ∷ record { given = macroblock (macroblockResult (Answered Outside)); expected = macroblock (answer 5 0 0 0 0 0 0 0 0) }
+    record { given = macroblock (macroblockResult (Answered (Inherited (from Hori) (Quarters (record { a = S8x4; b = S4x8; c = S4x4; d = S8x8 }))))); expected = macroblock (answer 4 1 2 3 0 2 5 7 13 1 3 2 10) }
+    ∷ record { given = macroblock (macroblockResult (Answered (Inherited (from Center) (Quarters (record { a = S4x4; b = S8x8; c = S8x4; d = S4x8 }))))); expected = macroblock (answer 4 3 0 1 2 3 5 7 13 1 3 2 10) }
+    ∷ record { given = macroblock (macroblockResult (Answered (Inherited (from Vert) S16x16))); expected = macroblock (answer 1 0 0 0 0 1 5 7 13 1 3 2 10) }
+    ∷ record { given = macroblock (macroblockResult (Answered (Inherited (from Corner) S16x8))); expected = macroblock (answer 2 0 0 0 0 0 5 7 13 1 3 2 10) }
+    ∷ record { given = macroblock (macroblockResult (Answered (Inherited (from Center) S8x16))); expected = macroblock (answer 3 0 0 0 0 3 5 7 13 1 3 2 10) }
+    ∷ record { given = macroblock (macroblockResult (Answered (Intra (from Vert)))); expected = macroblock (answer 0 0 0 0 0 1 5 7 13 1 3 2 10) }
+    ∷ record { given = macroblock (macroblockResult (Answered Outside)); expected = macroblock (answer 5 0 0 0 0 0 0 0 0 0 0 0 0) }
     ∷ record { given = macroblock (macroblockResult (Declined refused)); expected = macroblock noAnswer }
     ∷ record { given = picture (pictureResult (Counted counts)); expected = picture (record { refusal = 0; place = 0; rule = 0; inherited = 4; intra = 9; outside = 2 }) }
     ∷ record { given = picture (pictureResult (NotMade refused)); expected = picture (record { refusal = 8; place = 41; rule = 6; inherited = 0; intra = 0; outside = 0 }) }
@@ -111,7 +127,7 @@ examples =
     ∷ record { given = taken (sessionFromC before); expected = taken unbegun }
     ∷ record { given = judged (judgedResult before Accepted begun); expected = judged (record { session = begunNumbers; refusal = 0; place = 0; rule = 0 }) }
     ∷ record { given = judged (judgedResult before (Refused refused) begun); expected = judged (record { session = before; refusal = 8; place = 41; rule = 6 }) }
-    ∷ record { given = advanced (advancedResult before (Answered Outside) begun); expected = advanced (record { session = begunNumbers; macroblock = answer 5 0 0 0 0 0 0 0 0 }) }
+    ∷ record { given = advanced (advancedResult before (Answered Outside) begun); expected = advanced (record { session = begunNumbers; macroblock = answer 5 0 0 0 0 0 0 0 0 0 0 0 0 }) }
     ∷ record { given = advanced (advancedResult before (Declined refused) begun); expected = advanced (record { session = before; macroblock = noAnswer }) }
     ∷ record { given = told (totalsResult before counts); expected = told (record { session = before; inherited = 4; intra = 9; outside = 2 }) }
     ∷ record { given = text (textResult (Read (record { numbers = numbers; lines = 3 }))); expected = text (record { refusal = 0; place = 0; rule = 0; geometry = geometry; lines = 3 }) }

@@ -11,7 +11,7 @@ use Rattle.definitions.specs.declared.MacroblockReply.{MacroblockReply}
 use Rattle.definitions.specs.declared.MacroblockReply.the-variants.{Answered, Refused as Declined}
 use Rattle.definitions.specs.declared.PictureReply.{PictureReply}
 use Rattle.definitions.specs.declared.PictureReply.the-variants.{Counted, Refused as NotMade}
-use Rattle.definitions.specs.Answer.{answerType, answerOrigin, answerDetail, subTypes}
+use Rattle.definitions.specs.Answer.{answerType, answerOrigin, answerDetail, answerFed, subTypes}
 use Rattle.spiewomir.specs.declared.GeometryNumbers.{GeometryNumbers}
 use Rattle.spiewomir.specs.declared.MacroblockResult.{MacroblockResult}
 use Rattle.spiewomir.specs.declared.PictureResult.{PictureResult}
@@ -50,11 +50,15 @@ answerResult a = record {
   column = answerOrigin a .column;
   row = answerOrigin a .row;
   detail = answerDetail a;
+  first = answerFed a .first;
+  right = answerFed a .right;
+  below = answerFed a .below;
+  diagonal = answerFed a .diagonal;
 }
 
 abbrev pub macroblockResult : MacroblockReply → MacroblockResult
 macroblockResult (Answered a) = answerResult a
-macroblockResult (Declined r) = record { refusal = r .number; place = r .place; rule = r .rule; kind = 0; sub0 = 0; sub1 = 0; sub2 = 0; sub3 = 0; class = 0; column = 0; row = 0; detail = 0 }
+macroblockResult (Declined r) = record { refusal = r .number; place = r .place; rule = r .rule; kind = 0; sub0 = 0; sub1 = 0; sub2 = 0; sub3 = 0; class = 0; column = 0; row = 0; detail = 0; first = 0; right = 0; below = 0; diagonal = 0 }
 
 abbrev pub pictureResult : PictureReply → PictureResult
 pictureResult (Counted c) = record { refusal = 0; place = 0; rule = 0; inherited = c .inherited; intra = c .intra; outside = c .outside }

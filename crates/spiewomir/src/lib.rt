@@ -60,6 +60,10 @@ pub struct MacroblockResult {
     pub column: u32,
     pub row: u32,
     pub detail: u32,
+    pub first: u32,
+    pub right: u32,
+    pub below: u32,
+    pub diagonal: u32,
 }
 
 #[repr(C)]
@@ -163,7 +167,7 @@ fn wide(n: u8) -> u32
     n as u32
 }
 
-// Outside as document 01 has it, without detail.
+// Outside as document 01 has it, without detail, and fed by nothing.
 const OUTSIDE: Basis = Basis {
     origin: Origin {
         class: Class::Corner,
@@ -171,6 +175,10 @@ const OUTSIDE: Basis = Basis {
         row: 0,
     },
     detail: 0,
+    first: 0,
+    right: 0,
+    below: 0,
+    diagonal: 0,
 };
 
 // What an answer says besides its split.
@@ -216,6 +224,10 @@ fn answer_result(a: Answer) -> MacroblockResult
         column: origin.column,
         row: origin.row,
         detail: wide(basis.detail),
+        first: wide(basis.first),
+        right: wide(basis.right),
+        below: wide(basis.below),
+        diagonal: wide(basis.diagonal),
     }
 }
 
@@ -238,6 +250,10 @@ fn reply_result(r: MacroblockReply) -> MacroblockResult
             column: 0,
             row: 0,
             detail: 0,
+            first: 0,
+            right: 0,
+            below: 0,
+            diagonal: 0,
         },
     }
 }

@@ -51,19 +51,36 @@ class-number-requires c κs = search needs
 wide-requires-6 : tie.Need-wide-requires-6
 wide-requires-6 c κs = search needs
 
+wide-requires-7 : tie.Need-wide-requires-7
+wide-requires-7 c κs = search needs
+
+wide-requires-8 : tie.Need-wide-requires-8
+wide-requires-8 c κs = search needs
+
+wide-requires-9 : tie.Need-wide-requires-9
+wide-requires-9 c κs = search needs
+
+wide-requires-10 : tie.Need-wide-requires-10
+wide-requires-10 c κs = search needs
+
 returns : tie.Need-returns
 returns c =
-    let w = c .before .before .before .before .before .before in
+    let e = c .before .before .before .before in
+    let w = e .before .before .before .before .before .before in
     let o = w .before .before .before in
     let sub = o .before .sub-types-of .ensures in
     let basis = o .basis-of .ensures in
     let kind = w .wide .ensures ∙ w .before .answer-type .ensures in
-    let s0 = c .before .before .before .before .before .wide2 .ensures ∙ ap (λ (l : List ℕ). getD l 0 0) sub in
-    let s1 = c .before .before .before .before .wide3 .ensures ∙ ap (λ (l : List ℕ). getD l 1 0) sub in
-    let s2 = c .before .before .before .wide4 .ensures ∙ ap (λ (l : List ℕ). getD l 2 0) sub in
-    let s3 = c .before .before .wide5 .ensures ∙ ap (λ (l : List ℕ). getD l 3 0) sub in
-    let class = c .before .class-number .ensures ∙ ap (λ (x : Basis). classNumber (x .origin .class)) basis in
-    let detail = c .wide6 .ensures ∙ ap (λ (x : Basis). x .detail) basis in
+    let s0 = e .before .before .before .before .before .wide2 .ensures ∙ ap (λ (l : List ℕ). getD l 0 0) sub in
+    let s1 = e .before .before .before .before .wide3 .ensures ∙ ap (λ (l : List ℕ). getD l 1 0) sub in
+    let s2 = e .before .before .before .wide4 .ensures ∙ ap (λ (l : List ℕ). getD l 2 0) sub in
+    let s3 = e .before .before .wide5 .ensures ∙ ap (λ (l : List ℕ). getD l 3 0) sub in
+    let class = e .before .class-number .ensures ∙ ap (λ (x : Basis). classNumber (x .origin .class)) basis in
+    let detail = e .wide6 .ensures ∙ ap (λ (x : Basis). x .detail) basis in
+    let first = c .before .before .before .wide7 .ensures ∙ ap (λ (x : Basis). x .first) basis in
+    let right = c .before .before .wide8 .ensures ∙ ap (λ (x : Basis). x .right) basis in
+    let below = c .before .wide9 .ensures ∙ ap (λ (x : Basis). x .below) basis in
+    let diagonal = c .wide10 .ensures ∙ ap (λ (x : Basis). x .diagonal) basis in
     λ i. record {
       refusal = 0;
       place = 0;
@@ -77,6 +94,10 @@ returns c =
       column = basis i .origin .column;
       row = basis i .origin .row;
       detail = detail i;
+      first = first i;
+      right = right i;
+      below = below i;
+      diagonal = diagonal i;
     }
 
 pub answer-result-spec : {M : Type 1} → statement M
@@ -97,4 +118,8 @@ answer-result-spec =
     wide-requires-5
     class-number-requires
     wide-requires-6
+    wide-requires-7
+    wide-requires-8
+    wide-requires-9
+    wide-requires-10
     returns)

@@ -44,9 +44,11 @@ check-row-requires : tie.Need-check-row-requires
 check-row-requires c κs =
     let v = c .before in
     let h = v .before in
-    let s = h .before .before .before in
-    (s .pre .0, in-row (s .args .g) (s .args .base .now) (firstOf (s .args .t3)) (firstOf (s .args .t4)) (h .is-two .ensures)
-    (first-below (s .args .g) (s .args .t3) (s .args .t4) (s .args .base .now) (sym (v .is-two2 .ensures) ∙ c .if1 .taken) (s .pre .2)))
+    let s = h .before .before .before in (
+      s .pre .0,
+      in-row (s .args .g) (s .args .base .now) (firstOf (s .args .t3)) (firstOf (s .args .t4)) (h .is-two .ensures)
+          (first-below (s .args .g) (s .args .t3) (s .args .t4) (s .args .base .now) (sym (v .is-two2 .ensures) ∙ c .if1 .taken) (s .pre .2)),
+    )
 
 enum-told : tie.Need-enum-told
 enum-told c = search needs
@@ -59,9 +61,11 @@ check-row-requires-2 c κs =
     let i = c .before .before .before in
     let v = i .before in
     let h = v .before in
-    let s = h .before .before .before in
-    (s .pre .0, in-row (s .args .g) (s .args .base .now) (firstOf (s .args .t3)) (firstOf (s .args .t4) + 1) (h .is-two .ensures)
-    (second-below (s .args .g) (s .args .t3) (s .args .t4) (s .args .base .now) (sym (v .is-two2 .ensures) ∙ i .if1 .taken) (s .pre .2)))
+    let s = h .before .before .before in (
+      s .pre .0,
+      in-row (s .args .g) (s .args .base .now) (firstOf (s .args .t3)) (firstOf (s .args .t4) + 1) (h .is-two .ensures)
+          (second-below (s .args .g) (s .args .t3) (s .args .t4) (s .args .base .now) (sym (v .is-two2 .ensures) ∙ i .if1 .taken) (s .pre .2)),
+    )
 
 enum-known-r : tie.Need-enum-known-r
 enum-known-r c = search needs
@@ -91,9 +95,11 @@ check-row-requires-3 : tie.Need-check-row-requires-3
 check-row-requires-3 c κs =
     let v = c .before in
     let h = v .before in
-    let s = h .before .before .before in
-    (s .pre .0, in-row (s .args .g) (s .args .base .now) (firstOf (s .args .t3)) (firstOf (s .args .t4)) (h .is-two .ensures)
-    (one-below (s .args .g) (s .args .t3) (s .args .t4) (s .args .base .now) (sym (v .is-two2 .ensures) ∙ c .if1 .left) (s .pre .2)))
+    let s = h .before .before .before in (
+      s .pre .0,
+      in-row (s .args .g) (s .args .base .now) (firstOf (s .args .t3)) (firstOf (s .args .t4)) (h .is-two .ensures)
+          (one-below (s .args .g) (s .args .t3) (s .args .t4) (s .args .base .now) (sym (v .is-two2 .ensures) ∙ c .if1 .left) (s .pre .2)),
+    )
 
 returns-3 : tie.Need-returns-3
 returns-3 c =
