@@ -37,7 +37,7 @@ extern "C" {
 
 /* The version that this header is of: major times 10,000, plus minor times 100, plus
  * patch. CHANGELOG.md says what is new. */
-#define SPIEWOMIR_VERSION 30000
+#define SPIEWOMIR_VERSION 40000
 
 /* The version of the library that is linked: SPIEWOMIR_VERSION, unless the header is
  * another version's. */
@@ -142,6 +142,10 @@ typedef struct {
     uint32_t class_;                 /* what is read of the base; 0 (CORNER) outside */
     uint32_t column, row;            /* first base column and row that are read; 0 outside */
     uint32_t detail;                 /* word 77 of the written record; 0 outside */
+    uint32_t first, right, below, diagonal; /* how many of the sixteen blocks read the base macroblock at
+                                               `column` and `row`, the one to its right, the one below it
+                                               and the one below that to the right, before any filling
+                                               from neighbours: 16 together; 0 outside */
 } SpiewomirMacroblock;
 
 typedef struct {

@@ -47,7 +47,7 @@ use std::fmt;
 
 /// The version that this crate is of: major times 10,000, plus minor times 100,
 /// plus patch. [`version`] gives that of the library.
-pub const VERSION: u32 = 30_000;
+pub const VERSION: u32 = 40_000;
 
 /// Words of a motion record. Quadrants, blocks, and the macroblocks of a picture
 /// go in raster order; `l` is the list, 0 or 1.
@@ -177,6 +177,22 @@ pub struct Answer {
     /// quadrant `q` reads a base quadrant whose bit is set, of an intra macroblock too;
     /// 0 outside. The written record says the same in word 77.
     pub detail: u8,
+    /// Which base macroblocks fed it.
+    pub fed: Fed,
+}
+
+/// Of a macroblock's sixteen blocks, how many read each of the base macroblocks, before
+/// any filling from neighbours. Together they are 16; outside all are 0.
+#[derive(Clone, Copy, Debug, Default, PartialEq, Eq)]
+pub struct Fed {
+    /// The one at the answer's `column` and `row`.
+    pub first: u8,
+    /// The one to its right; 0 where one column is read.
+    pub right: u8,
+    /// The one below it; 0 where one row is read.
+    pub below: u8,
+    /// The one to the right of that below.
+    pub diagonal: u8,
 }
 
 /// Macroblocks by the kind of their answers.
@@ -321,12 +337,23 @@ impl numbers::Macroblock {
             detail @ 0..=15 => detail as u8,
             other => excluded("detail", other),
         };
+        let blocks = |n| match n {
+            0..=16 => n as u8,
+            other => excluded("count of blocks", other),
+        };
+        let fed = Fed {
+            first: blocks(self.first),
+            right: blocks(self.right),
+            below: blocks(self.below),
+            diagonal: blocks(self.diagonal),
+        };
         Ok(Answer {
             kind,
             class,
             column: self.column,
             row: self.row,
             detail,
+            fed,
         })
     }
 }

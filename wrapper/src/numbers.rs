@@ -54,6 +54,14 @@ pub struct Macroblock {
     pub row: u32,
     /// Word 77 of the written record; 0 outside.
     pub detail: u32,
+    /// Of the sixteen blocks, how many read the base macroblock at `column` and `row`.
+    pub first: u32,
+    /// The one to its right.
+    pub right: u32,
+    /// The one below it.
+    pub below: u32,
+    /// The one below that to the right. Outside all four are 0.
+    pub diagonal: u32,
 }
 
 /// Answer of the picture call; `refusal` 0 means answered.

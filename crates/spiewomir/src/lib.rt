@@ -535,5 +535,5 @@ pub extern "C" fn spiewomir_log(text: &[u8], out: &mut [u8]) -> LogResult
 pub extern "C" fn spiewomir_version() -> u32
     ensures { λ r. ⌜ r ≡ version ⌝ }
 {
-    30000
+    40000
 }
