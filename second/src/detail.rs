@@ -44,14 +44,14 @@ pub fn detail([first, right, below, diagonal]: [i16; 4], x: &Reading, y: &Readin
 }
 
 #[cfg(test)]
-mod tests {
+pub mod tests {
     use super::*;
     use crate::geometry::Axis;
     use crate::inherit::tests::Random;
     use crate::map::reading;
 
     /// One reading for each way in which the four blocks can read.
-    fn readings() -> Vec<Reading> {
+    pub fn readings() -> Vec<Reading> {
         let mut found: Vec<Reading> = Vec::new();
         for base in [16, 32, 48] {
             for scaled in (base..=2 * base).step_by(2) {

@@ -1,10 +1,11 @@
 //! A second implementation of document 01, motion upsampling between two
 //! layers of a track clip, with document 02's requests E3, the rounding of
-//! vector words, and E7, where detail was sent. Written from the papers alone,
-//! in plain Rust and without other crates, to be compared with the proved
-//! library.
+//! vector words, E5, which small macroblock fed it, and E7, where detail was
+//! sent. Written from the papers alone, in plain Rust and without other crates,
+//! to be compared with the proved library.
 
 pub mod detail;
+pub mod fed;
 pub mod geometry;
 pub mod grammar;
 pub mod inherit;
@@ -17,6 +18,7 @@ pub mod split;
 pub mod text;
 pub mod upsample;
 
+pub use fed::Fed;
 pub use geometry::Numbers;
 pub use log::{log, log_with_refusal};
 pub use record::WORDS;

@@ -65,6 +65,9 @@ pub struct Reading {
     pub step: [u8; 4],
     /// For each of the four blocks: the block 0..3 in that base macroblock.
     pub block: [u8; 4],
+    /// How many of the four blocks fall in the first column (row): 4 where one
+    /// is read, 1 to 3 where two are.
+    pub in_first: u8,
     /// For each half of the four blocks: the base quadrants along the axis
     /// that it reads, as a set of 0 and 1 in the first column (row) and 2 and
     /// 3 in the next.
@@ -85,6 +88,7 @@ pub fn reading(axis: &Axis, at: usize) -> Option<Reading> {
         two: borders.m.abs() < 8,
         step: m.map(|m| m / 4),
         block: m.map(|m| m % 4),
+        in_first: m.iter().filter(|&m| m / 4 == 0).count() as u8,
         quadrants: [quadrants(m[0], m[1]), quadrants(m[2], m[3])],
     })
 }
@@ -95,8 +99,9 @@ mod tests {
     use std::collections::BTreeSet;
 
     /// Every accepted (B, S, P - o) with B in `bases`: the pair is in the
-    /// table, the columns named lie in the base, and the columns read are
-    /// those named. Returns how many were tried and the pairs met.
+    /// table, the columns named lie in the base, the columns read are those
+    /// named, and as many blocks as is said read the first. Returns how many
+    /// were tried and the pairs met.
     fn try_all(bases: impl Iterator<Item = i32>) -> (u64, BTreeSet<(bool, i32, i32)>) {
         let mut met = BTreeSet::new();
         let mut tried = 0;
@@ -110,6 +115,8 @@ mod tests {
                     assert!(b.first >= 0 && last < axis.base_count());
                     assert!(r.step.contains(&0));
                     assert_eq!(r.two, r.step.contains(&1));
+                    assert_eq!(r.in_first, 4 - r.step.iter().sum::<u8>());
+                    assert!(if r.two { (1..=3).contains(&r.in_first) } else { r.in_first == 4 });
                     let quadrant = |i: usize| 1 << (2 * r.step[i] + r.block[i] / 2);
                     assert_eq!(r.quadrants, [quadrant(0) | quadrant(1), quadrant(2) | quadrant(3)]);
                     met.insert((b.k_odd, b.m, b.n));
@@ -142,10 +149,10 @@ mod tests {
         assert_eq!(reading(&axis, 0), None);
         let one = reading(&axis, 1).unwrap();
         assert_eq!((one.first, one.two, one.step, one.block), (0, false, [0; 4], [1, 2, 2, 2]));
-        assert_eq!(one.quadrants, [0b0011, 0b0010]);
+        assert_eq!((one.in_first, one.quadrants), (4, [0b0011, 0b0010]));
         let two = reading(&axis, 2).unwrap();
         assert_eq!((two.first, two.two, two.step, two.block), (0, true, [0, 1, 1, 1], [3, 0, 0, 0]));
-        assert_eq!(two.quadrants, [0b0110, 0b0100]);
+        assert_eq!((two.in_first, two.quadrants), (1, [0b0110, 0b0100]));
     }
 
     /// 003's ratio 1 and 2 on aligned windows: a copy, and each half doubled.

@@ -1,6 +1,7 @@
 //! The calls on records: one macroblock, and a picture.
 
 use crate::detail::detail;
+use crate::fed::{fed, Fed};
 use crate::geometry::{Geometry, Numbers};
 use crate::inherit::{inherit, IntraSet, Quadrants, Scales, INTRA_FROM};
 use crate::map::{reading, Reading};
@@ -36,6 +37,8 @@ pub struct Answer {
     /// 0 to 15: bit q says that quadrant q reads a base quadrant with luma
     /// coefficients.
     pub detail: u8,
+    /// How many of the sixteen blocks read each base macroblock.
+    pub fed: Fed,
 }
 
 /// Numbers of macroblocks by the kind of their answers.
@@ -171,7 +174,14 @@ fn write_inherited(out: &mut Record, quadrants: &Quadrants, split: Split, scales
 fn answer(geometry: &Geometry, base: &[i16], readings: Both, out: &mut Record) -> Answer {
     let Some((x, y)) = readings else {
         write_without_motion(out, TYPE_OUTSIDE, 0);
-        return Answer { kind: Kind::Outside, class: Class::Corner, first_column: 0, first_row: 0, detail: 0 };
+        return Answer {
+            kind: Kind::Outside,
+            class: Class::Corner,
+            first_column: 0,
+            first_row: 0,
+            detail: 0,
+            fed: Fed::default(),
+        };
     };
     let records = records(base, geometry.x.base_count(), x, y);
     let detail = detail(records.map(|record| record[DETAIL]), x, y);
@@ -187,7 +197,7 @@ fn answer(geometry: &Geometry, base: &[i16], readings: Both, out: &mut Record) -
         write_inherited(out, &quadrants, split, &geometry.scales, detail);
         Kind::Inherited(split)
     };
-    Answer { kind, class: class(x, y), first_column: x.first as i32, first_row: y.first as i32, detail }
+    Answer { kind, class: class(x, y), first_column: x.first as i32, first_row: y.first as i32, detail, fed: fed(x, y) }
 }
 
 fn judge_record(base: &[i16], address: usize) -> Result<(), Refusal> {

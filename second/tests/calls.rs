@@ -5,11 +5,22 @@ mod common;
 use common::*;
 use second::geometry::Geometry;
 use second::map::reading;
-use second::{macroblock, picture, Answer, Class, Counts, Kind, Numbers, Refusal, Session, Split, WORDS};
+use second::{macroblock, picture, Answer, Class, Counts, Fed, Kind, Numbers, Refusal, Session, Split, WORDS};
 
 const UNTOUCHED: i16 = -12_345;
 
-const OUTSIDE: Answer = Answer { kind: Kind::Outside, class: Class::Corner, first_column: 0, first_row: 0, detail: 0 };
+const fn fed([first, right, below, diagonal]: [u8; 4]) -> Fed {
+    Fed { first, right, below, diagonal }
+}
+
+const OUTSIDE: Answer = Answer {
+    kind: Kind::Outside,
+    class: Class::Corner,
+    first_column: 0,
+    first_row: 0,
+    detail: 0,
+    fed: fed([0, 0, 0, 0]),
+};
 
 /// The call's result; refused, it has left the words as they were.
 fn one(numbers: Numbers, base: &[i16], column: i32, row: i32, words: usize) -> (Result<Answer, Refusal>, Vec<i16>) {
@@ -35,16 +46,20 @@ fn bench_center() {
     let numbers = Numbers::from_array([32, 32, 32, 32, 4, 4, 48, 48]);
     let motion = whole([2, -1], [5, -7, 0, 0]);
 
+    let center = |kind: Kind| {
+        let fed = fed([1, 3, 3, 9]);
+        Answer { kind, class: Class::Center, first_column: 0, first_row: 0, detail: 0, fed }
+    };
+
+    // Seven intra blocks, which count for what they read though they are filled.
     let base = [intra(), intra(), intra(), motion].concat();
     let (result, out) = one(numbers, &base, 1, 1, WORDS);
-    let inherited = Kind::Inherited(Split::S16x16);
-    assert_eq!(result, Ok(Answer { kind: inherited, class: Class::Center, first_column: 0, first_row: 0, detail: 0 }));
+    assert_eq!(result, Ok(center(Kind::Inherited(Split::S16x16))));
     assert_eq!(out, motion);
 
     let base = [motion, motion, motion, intra()].concat();
     let (result, out) = one(numbers, &base, 1, 1, WORDS);
-    let intra_answer = Answer { kind: Kind::Intra, class: Class::Center, first_column: 0, first_row: 0, detail: 0 };
-    assert_eq!(result, Ok(intra_answer));
+    assert_eq!(result, Ok(center(Kind::Intra)));
     assert_eq!(out, intra());
 }
 
@@ -451,6 +466,111 @@ fn malformed_details() {
     base[3 * WORDS + 77] = 16;
     assert!(one(numbers, &base, 0, 0, WORDS).0.is_ok());
     assert_eq!(one(numbers, &base, 3, 3, WORDS).0, Err(malformed(3, 7)));
+}
+
+/// A picture's eight numbers, column and row, and what fed the macroblock there.
+type FedFact = ([i32; 8], [i32; 2], [u8; 4]);
+
+const FED_FACTS: [FedFact; 20] = [
+    // A base one macroblock wide: its macroblocks at right and below would have
+    // one address.
+    ([16, 48, 16, 86, 16, 30, 48, 64], [1, 3], [12, 0, 4, 0]),
+    ([16, 48, 16, 86, 16, 30, 48, 64], [1, 2], [16, 0, 0, 0]),
+    ([16, 48, 16, 86, 16, 30, 48, 64], [2, 0], [0, 0, 0, 0]),
+    ([32, 48, 32, 86, 16, 0, 48, 48], [2, 1], [12, 0, 4, 0]),
+    // All four, in unlike and in like parts.
+    ([32, 32, 32, 64, 20, -22, 112, 32], [2, 0], [3, 9, 1, 3]),
+    ([32, 32, 32, 64, 20, -22, 112, 32], [2, 1], [4, 12, 0, 0]),
+    ([32, 32, 32, 64, 20, -22, 112, 32], [6, 0], [0, 0, 0, 0]),
+    ([48, 48, 72, 72, 0, 0, 32, 48], [1, 1], [4, 4, 4, 4]),
+    ([48, 48, 72, 72, 0, 0, 32, 48], [0, 1], [8, 0, 8, 0]),
+    ([48, 48, 72, 72, 0, 0, 32, 48], [1, 2], [8, 8, 0, 0]),
+    ([48, 48, 72, 72, 0, 0, 32, 48], [0, 0], [16, 0, 0, 0]),
+    // Windows that begin before the picture, or further in.
+    ([48, 48, 72, 72, -18, 16, 96, 112], [0, 4], [4, 12, 0, 0]),
+    ([48, 48, 72, 72, -18, 16, 96, 112], [2, 2], [8, 0, 8, 0]),
+    ([48, 48, 72, 72, -18, 16, 96, 112], [4, 5], [0, 0, 0, 0]),
+    ([32, 32, 64, 48, -36, 30, 48, 80], [0, 3], [4, 0, 12, 0]),
+    ([32, 32, 64, 48, -36, 30, 48, 80], [1, 2], [0, 0, 0, 0]),
+    ([48, 16, 96, 32, 16, 0, 128, 64], [6, 1], [16, 0, 0, 0]),
+    // Outside by its row, or by its column, alone.
+    ([16, 16, 24, 16, 16, 0, 32, 32], [1, 0], [16, 0, 0, 0]),
+    ([16, 16, 24, 16, 16, 0, 32, 32], [1, 1], [0, 0, 0, 0]),
+    ([16, 16, 24, 32, 0, 0, 48, 32], [1, 0], [0, 0, 0, 0]),
+];
+
+/// What fed a macroblock, typed in; the one-macroblock call and a session say
+/// it, whatever the base has.
+#[test]
+fn fed_facts() {
+    for (eight, [column, row], counts) in FED_FACTS {
+        let numbers = Numbers::from_array(eight);
+        for record in [whole([0, -1], [4, -8, 0, 0]), intra()] {
+            let base = record.repeat(base_records(numbers));
+            let answer = one(numbers, &base, column, row, WORDS).0.unwrap();
+            assert_eq!(answer.fed, fed(counts), "{eight:?}, {column} {row}");
+            assert_eq!(answer.kind == Kind::Outside, counts == [0; 4]);
+
+            let (mut session, _) = Session::fresh().begin(numbers);
+            let mut words = [UNTOUCHED; WORDS];
+            for _ in 0..row * (numbers.full_width / 16) + column {
+                session = session.next(&base, &mut words).0;
+            }
+            assert_eq!(session.next(&base, &mut words).1, Ok(answer));
+        }
+    }
+}
+
+/// Over random pictures: sixteen inside, 0 outside, and 0 for a macroblock that
+/// the class leaves out. Where each base macroblock has a vector of its own and
+/// all have one reference, the written vectors tell what each block read; the
+/// counts are those, also on a base that has blocks filled or makes intra.
+#[test]
+fn fed_by_written_vectors() {
+    let mut random = Random(5);
+    let (mut classes, mut kinds) = ([0; 4], Counts::default());
+    for _ in 0..400 {
+        let numbers = geometry(&mut random);
+        let scales = Geometry::new(numbers).unwrap().scales;
+        let own = |column: i32, row: i32| [64 * column as i16, 64 * row as i16, 0, 0];
+        let base_width = numbers.base_width as usize / 16;
+        let base: Vec<i16> = (0..base_records(numbers))
+            .flat_map(|at| whole([0, -1], own((at % base_width) as i32, (at / base_width) as i32)))
+            .collect();
+        let other_base = base_of(&mut random, base_records(numbers), &[0, 0, 1, 4], 8191);
+        for address in 0..full_records(numbers) {
+            let width = numbers.full_width as usize / 16;
+            let (column, row) = ((address % width) as i32, (address / width) as i32);
+            let (result, out) = one(numbers, &base, column, row, WORDS);
+            let answer = result.unwrap();
+            let other = one(numbers, &other_base, column, row, WORDS).0.unwrap();
+            assert_eq!(other.fed, answer.fed);
+            kinds.add(other.kind);
+            if answer.kind == Kind::Outside {
+                assert_eq!(answer, OUTSIDE);
+                continue;
+            }
+
+            let count = |right: i32, below: i32| {
+                let vector = scales.vector(own(answer.first_column + right, answer.first_row + below));
+                out[13..77].chunks(4).filter(|four| *four == vector).count() as u8
+            };
+            assert_eq!(answer.fed, fed([count(0, 0), count(1, 0), count(0, 1), count(1, 1)]));
+
+            let Fed { first, right, below, diagonal } = answer.fed;
+            assert_eq!(first + right + below + diagonal, 16);
+            let read = match answer.class {
+                Class::Corner => [true, false, false, false],
+                Class::Vert => [true, true, false, false],
+                Class::Hori => [true, false, true, false],
+                Class::Center => [true, true, true, true],
+            };
+            assert_eq!([first, right, below, diagonal].map(|count| count > 0), read);
+            classes[answer.class as usize] += 1;
+        }
+    }
+    assert!(classes.iter().all(|&met| met > 100), "{classes:?}");
+    assert!(kinds.inherited > 500 && kinds.intra > 500 && kinds.outside > 500, "{kinds:?}");
 }
 
 #[test]
