@@ -65,6 +65,10 @@ pub fn macroblock_numbers(result: Result<second::Answer, second::Refusal>) -> nu
                 column: answer.first_column as u32,
                 row: answer.first_row as u32,
                 detail: answer.detail as u32,
+                first: answer.fed.first as u32,
+                right: answer.fed.right as u32,
+                below: answer.fed.below as u32,
+                diagonal: answer.fed.diagonal as u32,
                 ..numbers::Macroblock::default()
             }
         }
@@ -160,6 +164,12 @@ pub fn same_answer(library: &spiewomir::Answer, second: &second::Answer) -> bool
     kind && class
         && (library.column, library.row) == (second.first_column as u32, second.first_row as u32)
         && library.detail == second.detail
+        && same_fed(library.fed, second.fed)
+}
+
+fn same_fed(library: spiewomir::Fed, second: second::Fed) -> bool {
+    (library.first, library.right) == (second.first, second.right)
+        && (library.below, library.diagonal) == (second.below, second.diagonal)
 }
 
 fn same_split(library: spiewomir::Split, second: second::Split) -> bool {
