@@ -135,6 +135,7 @@ static void answer(SpiewomirGeometry g, const int16_t *base, int32_t column, int
     if (m.refusal) {
         HOLDS(m.refusal == SPIEWOMIR_REFUSED_RECORD ? m.rule >= 1 && m.rule <= 7 : m.place == 0 && m.rule == 0);
         HOLDS(!m.kind && !m.sub0 && !m.sub1 && !m.sub2 && !m.sub3 && !m.class_ && !m.column && !m.row && !m.detail);
+        HOLDS(!m.first && !m.right && !m.below && !m.diagonal);
         return;
     }
     HOLDS(m.place == 0 && m.rule == 0);
@@ -145,6 +146,7 @@ static void answer(SpiewomirGeometry g, const int16_t *base, int32_t column, int
     HOLDS(m.detail == (uint32_t)record[77] && m.detail <= 15);
     if (!inside(column, g.offset_x, g.scaled_width) || !inside(row, g.offset_y, g.scaled_height)) {
         HOLDS(m.kind == SPIEWOMIR_OUTSIDE && m.class_ == SPIEWOMIR_CORNER && m.column == 0 && m.row == 0 && m.detail == 0);
+        HOLDS(!m.first && !m.right && !m.below && !m.diagonal);
         return;
     }
     HOLDS(m.kind == SPIEWOMIR_INTRA || m.kind == SPIEWOMIR_16X16 || m.kind == SPIEWOMIR_16X8 || m.kind == SPIEWOMIR_8X16 || m.kind == SPIEWOMIR_8X8);
@@ -153,6 +155,11 @@ static void answer(SpiewomirGeometry g, const int16_t *base, int32_t column, int
     uint32_t rows = m.class_ == SPIEWOMIR_HORI || m.class_ == SPIEWOMIR_CENTER ? 2 : 1;
     HOLDS(m.column < 256 && m.column + columns <= (uint32_t)g.base_width / 16);
     HOLDS(m.row < 256 && m.row + rows <= (uint32_t)g.base_height / 16);
+
+    /* what fed it: all sixteen blocks, each macroblock that is named with some and no other */
+    HOLDS(m.first + m.right + m.below + m.diagonal == 16 && m.first <= 16 && m.right <= 16 && m.below <= 16);
+    HOLDS(m.first && !m.right == (columns == 1) && !m.below == (rows == 1) && !m.diagonal == (columns == 1 || rows == 1));
+    HOLDS(m.first * m.diagonal == m.right * m.below);
 
     /* detail comes from the base macroblocks that are named, and from no others: none if they have none, all if they have all */
     int16_t some = 0, every = 15;

@@ -36,8 +36,9 @@ static void sizes(void) {
     IS(SPIEWOMIR_PICTURE_WORDS(4096, 4112), 0);
     IS(SPIEWOMIR_MACROBLOCKS(80), 5);
     IS(SPIEWOMIR_TEXT_WORDS, SPIEWOMIR_TEXT_RECORDS * SPIEWOMIR_WORDS);
-    IS(sizeof(SpiewomirMacroblock), 12 * sizeof(uint32_t));
+    IS(sizeof(SpiewomirMacroblock), 16 * sizeof(uint32_t));
     IS(offsetof(SpiewomirMacroblock, detail), 11 * sizeof(uint32_t));
+    IS(offsetof(SpiewomirMacroblock, diagonal), 15 * sizeof(uint32_t));
 }
 
 static void *room(size_t size) { /* uninitialised */

@@ -1,5 +1,5 @@
-/* Reads a sync text from standard input, makes its picture, and prints the counts and
- * the record of one macroblock:
+/* Reads a sync text from standard input, makes its picture, and prints the counts, and
+ * of one macroblock how many of its blocks each base macroblock fed, and the record:
  *
  *     picture COLUMN ROW < TEXT
  *
@@ -65,6 +65,7 @@ int main(int argc, char **argv) {
     SpiewomirMacroblock m = spiewomir_macroblock(g, base, base_words, column, row, record, SPIEWOMIR_WORDS);
     if (m.refusal != SPIEWOMIR_ANSWERED) return refused(m.refusal, m.place, m.rule);
     printf("inherited %u intra %u outside %u\n", p.inherited, p.intra, p.outside);
+    printf("first %u right %u below %u diagonal %u\n", m.first, m.right, m.below, m.diagonal);
     for (int i = 0; i < SPIEWOMIR_WORDS; i++) printf("%d%c", record[i], i + 1 < SPIEWOMIR_WORDS ? ' ' : '\n');
     return 0;
 }

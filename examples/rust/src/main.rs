@@ -1,15 +1,16 @@
 //! Reads a sync text from standard input, makes its picture, and prints the
-//! counts and the record of one macroblock: `picture COLUMN ROW < TEXT`.
+//! counts, and of one macroblock how many of its blocks each base macroblock fed,
+//! and the record: `picture COLUMN ROW < TEXT`.
 //!
 //! The exit status is 0, 1 if a call refuses, which is printed, or 2 if the
 //! arguments are no two numbers or the text cannot be read.
 
-use spiewomir::{Counts, Refusal, TEXT_BYTES, TEXT_WORDS, WORDS};
+use spiewomir::{Counts, Fed, Refusal, TEXT_BYTES, TEXT_WORDS, WORDS};
 use std::io::Read;
 use std::process::ExitCode;
 
-/// The counts, and the record of the macroblock at a column and row.
-fn picture(text: &[u8], column: i32, row: i32) -> Result<(Counts, [i16; WORDS]), Refusal> {
+/// The counts, and what fed the macroblock at a column and row, and its record.
+fn picture(text: &[u8], column: i32, row: i32) -> Result<(Counts, Fed, [i16; WORDS]), Refusal> {
     let mut base = vec![0; TEXT_WORDS];
     let (geometry, lines) = spiewomir::text(text, &mut base)?;
     base.truncate(lines as usize * WORDS);
@@ -21,8 +22,8 @@ fn picture(text: &[u8], column: i32, row: i32) -> Result<(Counts, [i16; WORDS]),
     // One record: the words that the picture has from 78 * (row * columns + column)
     // on, columns being full_width / 16. The call judges column and row.
     let mut record = [0; WORDS];
-    spiewomir::macroblock(geometry, &base, column, row, &mut record)?;
-    Ok((counts, record))
+    let answer = spiewomir::macroblock(geometry, &base, column, row, &mut record)?;
+    Ok((counts, answer.fed, record))
 }
 
 /// Two arguments, each wholly a number.
@@ -44,8 +45,9 @@ fn main() -> ExitCode {
         return ExitCode::from(2);
     }
     match picture(&text, column, row) {
-        Ok((counts, record)) => {
+        Ok((counts, fed, record)) => {
             println!("inherited {} intra {} outside {}", counts.inherited, counts.intra, counts.outside);
+            println!("first {} right {} below {} diagonal {}", fed.first, fed.right, fed.below, fed.diagonal);
             println!("{}", record.map(|word| word.to_string()).join(" "));
             ExitCode::SUCCESS
         }
