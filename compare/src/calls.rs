@@ -132,6 +132,7 @@ fn count(
             counts.inside(Inside {
                 map_rows: [*x_row, *y_row],
                 class: x.two as usize + 2 * y.two as usize,
+                falls: [x.in_first, y.in_first],
                 blocks,
                 words,
             });

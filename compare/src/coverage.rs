@@ -106,6 +106,9 @@ pub struct Counts {
     outside: u64,
     splits: [u64; 259],
     intra_blocks: [u64; 17],
+    /// Of inherited and of intra answers, by how many of the four blocks along each
+    /// axis fall in the first column and row, less one.
+    falls: [[[u64; 4]; 4]; 2],
     /// Details of inherited and of intra answers.
     details: [[u64; 16]; 2],
     /// By BITS and quadrant.
@@ -120,6 +123,8 @@ pub struct Counts {
 pub struct Inside<'a> {
     pub map_rows: [usize; 2],
     pub class: usize,
+    /// How many of the four blocks along each axis fall in the first column and row.
+    pub falls: [u8; 2],
     pub blocks: Blocks,
     /// The written record.
     pub words: &'a [i16],
@@ -133,6 +138,7 @@ impl Counts {
             outside: 0,
             splits: [0; 259],
             intra_blocks: [0; 17],
+            falls: [[[0; 4]; 4]; 2],
             details: [[0; 16]; 2],
             bits: [[0; 4]; 7],
             refusals: [0; 9],
@@ -156,6 +162,8 @@ impl Counts {
         if !intra {
             self.splits[split_number(inside.words)] += 1;
         }
+        let [columns, rows] = inside.falls.map(|falls| falls as usize - 1);
+        self.falls[intra as usize][columns][rows] += 1;
         let detail = detail(&inside.blocks);
         self.details[intra as usize][detail as usize] += 1;
         for (q, blocks) in inside.blocks.iter().enumerate() {
@@ -211,7 +219,7 @@ impl Coverage {
 
     /// Prints the tables. For each, its name and whether everything that it
     /// lists did happen.
-    pub fn report(&self) -> [(&'static str, bool); 9] {
+    pub fn report(&self) -> [(&'static str, bool); 10] {
         [
             (
                 "each row of the block map, on both axes, in both calls",
@@ -226,6 +234,10 @@ impl Coverage {
                 self.print_intra_blocks(),
             ),
             ("each of the 259 splits, in both calls", self.print_splits()),
+            (
+                "each number of blocks in the first column and row, of inherited and of intra answers, in both calls",
+                self.print_falls(),
+            ),
             (
                 "each detail, of inherited and of intra answers, in both calls",
                 self.print_details(),
@@ -317,6 +329,25 @@ impl Coverage {
             );
         }
         (0..259).all(|n| picture[n] > 0 && single[n] > 0)
+    }
+
+    fn print_falls(&self) -> bool {
+        println!("blocks in the first column and row: inherited and intra in pictures, and singly");
+        let mut all = true;
+        for columns in 0..4 {
+            for rows in 0..4 {
+                let (picture, single) = (&self.picture.falls, &self.single.falls);
+                let counts = [
+                    picture[0][columns][rows],
+                    picture[1][columns][rows],
+                    single[0][columns][rows],
+                    single[1][columns][rows],
+                ];
+                line(&format!("{} and {}", columns + 1, rows + 1), &counts);
+                all &= counts.iter().all(|&count| count > 0);
+            }
+        }
+        all
     }
 
     fn print_details(&self) -> bool {

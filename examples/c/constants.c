@@ -190,8 +190,10 @@ static const struct {
     int32_t column, row;
     uint32_t class_, base_column, base_row, detail;
     int inherited;
-} read_by[] = {{1, 1, SPIEWOMIR_CORNER, 0, 0, 3, 1}, {2, 1, SPIEWOMIR_VERT, 0, 0, 1, 1},    {3, 2, SPIEWOMIR_HORI, 1, 0, 3, 1},
-               {2, 2, SPIEWOMIR_CENTER, 0, 0, 5, 1}, {3, 1, SPIEWOMIR_CORNER, 1, 0, 15, 1}, {1, 3, SPIEWOMIR_CORNER, 0, 1, 3, 0}};
+    uint32_t first, right, below, diagonal;
+} read_by[] = {{1, 1, SPIEWOMIR_CORNER, 0, 0, 3, 1, 16, 0, 0, 0}, {2, 1, SPIEWOMIR_VERT, 0, 0, 1, 1, 4, 12, 0, 0},
+               {3, 2, SPIEWOMIR_HORI, 1, 0, 3, 1, 4, 0, 12, 0},   {2, 2, SPIEWOMIR_CENTER, 0, 0, 5, 1, 1, 3, 3, 9},
+               {3, 1, SPIEWOMIR_CORNER, 1, 0, 15, 1, 16, 0, 0, 0}, {1, 3, SPIEWOMIR_CORNER, 0, 1, 3, 0, 16, 0, 0, 0}};
 
 static void picture(size_t length) {
     SpiewomirText t = spiewomir_text(text, length, base, SPIEWOMIR_TEXT_WORDS);
@@ -216,12 +218,19 @@ static void picture(size_t length) {
         IS(m.row, read_by[i].base_row);
         IS(m.detail, read_by[i].detail);
         IS(one[77], read_by[i].detail);
+        IS(m.first, read_by[i].first);
+        IS(m.right, read_by[i].right);
+        IS(m.below, read_by[i].below);
+        IS(m.diagonal, read_by[i].diagonal);
     }
     SpiewomirMacroblock m = spiewomir_macroblock(t.geometry, base, words, 1, 2, one, W);
     IS(m.kind, SPIEWOMIR_INTRA);
     IS(one[0], SPIEWOMIR_INTRA);
     IS(m.detail, 15);
     IS(one[77], 15);
+    IS(m.first, 4);
+    IS(m.below, 12);
+    IS(m.right + m.diagonal, 0);
     m = spiewomir_macroblock(t.geometry, base, words, 4, 3, one, W);
     IS(m.kind, SPIEWOMIR_OUTSIDE);
     IS(one[0], SPIEWOMIR_OUTSIDE);
@@ -230,6 +239,7 @@ static void picture(size_t length) {
     IS(m.row, 0);
     IS(m.detail, 0);
     IS(one[77], 0);
+    IS(m.first + m.right + m.below + m.diagonal, 0);
 
     SpiewomirSession s = spiewomir_session_fresh();
     IS(s.begun, 0);
