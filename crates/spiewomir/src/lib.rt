@@ -163,14 +163,14 @@ fn wide(n: u8) -> u32
     n as u32
 }
 
-// Outside as document 01 has it, without detail.
+// Outside as document 01 has it.
 const OUTSIDE: Basis = Basis {
     origin: Origin {
         class: Class::Corner,
         column: 0,
         row: 0,
     },
-    detail: 0,
+    detail: 0, // no bits
 };
 
 // What an answer says besides its split.
