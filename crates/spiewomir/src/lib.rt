@@ -167,14 +167,14 @@ fn wide(n: u8) -> u32
     n as u32
 }
 
-// Outside as document 01 has it, without detail, and fed by nothing.
+// Outside as document 01 has it, and fed by nothing.
 const OUTSIDE: Basis = Basis {
     origin: Origin {
         class: Class::Corner,
         column: 0,
         row: 0,
     },
-    detail: 0,
+    detail: 0, // no bits
     first: 0,
     right: 0,
     below: 0,
