@@ -174,7 +174,7 @@ fn is_own(h: [u8; 2]) -> bool
     (h[0] == 1) & (h[1] == 2)
 }
 
-// The same of sets of two bits, as they are where one macroblock is read: as rows bit 1 is at 2, without a table.
+// What `detail_by` gives, of sets of two bits, as they are where one macroblock is read: as rows bit 1 is at 2, without a table.
 fn detail_in(bits: u32, h: [u8; 2], v: [u8; 2]) -> u8
     requires { ⌜ (getD h 0 0 < 4) × (getD h 1 0 < 4) × (getD v 0 0 < 4) × (getD v 1 0 < 4) ⌝ }
     ensures { λ r. ⌜ (r ≡ fourMasked bits h v) × (r < 16) ⌝ }
