@@ -16,7 +16,12 @@ fn answer(bytes: &[u8], column: i32, row: i32) -> Answer {
 }
 
 const fn fed([first, right, below, diagonal]: [u8; 4]) -> Fed {
-    Fed { first, right, below, diagonal }
+    Fed {
+        first,
+        right,
+        below,
+        diagonal,
+    }
 }
 
 /// In a base one macroblock wide those to the right and below have one address, but not
@@ -49,12 +54,16 @@ fn of_intra_answers_and_a_session() {
     assert_eq!(begun, Ok(()));
     for address in 0..9 {
         let mut record = [-1; WORDS];
-        let answer = macroblock(geometry, &base, address % 3, address / 3, &mut record).expect("answered");
+        let answer =
+            macroblock(geometry, &base, address % 3, address / 3, &mut record).expect("answered");
         let counts = match address {
             4 => fed([9, 3, 3, 1]),
             _ => Fed::default(),
         };
-        assert_eq!((answer.kind == Kind::Intra, answer.fed), (address == 4, counts));
+        assert_eq!(
+            (answer.kind == Kind::Intra, answer.fed),
+            (address == 4, counts)
+        );
         let next;
         (session, next) = session.next(&base, &mut record);
         assert_eq!(next, Ok(answer));
