@@ -1,4 +1,5 @@
-//! The grammar of the sync text as a finite machine.
+//! The grammar of the sync text as a finite machine. A text of no bytes does not
+//! belong to it: the text call answers that one itself.
 //!
 //! Notes are at most eight deep, so the grammar is regular: it is written out
 //! here as states and edges. Several edges of a state may take the same byte

@@ -1,8 +1,8 @@
 //! A second implementation of document 01, motion upsampling between two
-//! layers of a track clip, with document 02's requests E3, the rounding of
-//! vector words, E5, which small macroblock fed it, and E7, where detail was
-//! sent. Written from the papers alone, in plain Rust and without other crates,
-//! to be compared with the proved library.
+//! layers of a track clip, with document 02's requests E2, a camera that filmed
+//! nothing, E3, the rounding of vector words, E5, which small macroblock fed it,
+//! and E7, where detail was sent. Written from the papers alone, in plain Rust
+//! and without other crates, to be compared with the proved library.
 
 pub mod detail;
 pub mod fed;
@@ -20,10 +20,10 @@ pub mod upsample;
 
 pub use fed::Fed;
 pub use geometry::Numbers;
-pub use log::{log, log_with_refusal};
+pub use log::{log, log_with_result, Logged};
 pub use record::WORDS;
 pub use refusal::Refusal;
 pub use session::Session;
 pub use split::{Split, SubSplit};
-pub use text::{text, TEXT_RECORDS, TEXT_WORDS};
+pub use text::{text, Text, TEXT_RECORDS, TEXT_WORDS};
 pub use upsample::{macroblock, picture, Answer, Class, Counts, Kind};

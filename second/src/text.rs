@@ -1,5 +1,6 @@
-//! The sync text's reader. The machine of `grammar` judges the text; what
-//! belongs is then read line by line without further tests.
+//! The sync text's reader. A text of no bytes means no picture. The machine of
+//! `grammar` judges any other; what belongs is then read line by line without
+//! further tests.
 
 use crate::geometry::Numbers;
 use crate::grammar::Machine;
@@ -12,6 +13,15 @@ pub const TEXT_LIMIT: usize = 65_536;
 pub const TEXT_RECORDS: usize = 99;
 /// Words to be lent for them.
 pub const TEXT_WORDS: usize = TEXT_RECORDS * WORDS;
+
+/// What an accepted text says.
+#[derive(Clone, Copy, Debug, PartialEq, Eq)]
+pub enum Text {
+    /// The text has no bytes.
+    NoPicture,
+    /// The geometry's numbers and the count of record lines.
+    Picture { numbers: Numbers, records: u32 },
+}
 
 /// The numbers on a line of a text that belongs to the grammar.
 fn numbers(line: &[u8]) -> impl Iterator<Item = i16> + '_ {
@@ -65,11 +75,15 @@ fn is_record(line: &&[u8]) -> bool {
     matches!(line[1], b'i' | b'w' | b'm')
 }
 
-/// The text call: the geometry's numbers and the count of record lines, whose
-/// words stand first in `words`. Refusals 6, 10 by length, 9, 10 by lines.
-pub fn text(bytes: &[u8], words: &mut [i16]) -> Result<(Numbers, u32), Refusal> {
+/// The text call. The record lines' words stand first in `words`; without a
+/// picture none is written. Refusals 6, 10 by length, 9, 10 by lines; only 6
+/// for a text of no bytes.
+pub fn text(bytes: &[u8], words: &mut [i16]) -> Result<Text, Refusal> {
     if words.len() != TEXT_WORDS {
         return Err(Refusal::of(6));
+    }
+    if bytes.is_empty() {
+        return Ok(Text::NoPicture);
     }
     if bytes.len() > TEXT_LIMIT {
         return Err(Refusal::of(10));
@@ -88,5 +102,5 @@ pub fn text(bytes: &[u8], words: &mut [i16]) -> Result<(Numbers, u32), Refusal> 
     let mut eight = [0; 8];
     let heads = lines().filter(is_head).flat_map(numbers);
     eight.iter_mut().zip(heads).for_each(|(word, number)| *word = number as i32);
-    Ok((Numbers::from_array(eight), count as u32))
+    Ok(Text::Picture { numbers: Numbers::from_array(eight), records: count as u32 })
 }

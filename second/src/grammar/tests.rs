@@ -296,6 +296,7 @@ fn places() {
         let text = marked.replacen('|', "", 1);
         assert_eq!(machine().belongs(text.as_bytes()), Err(marked.find('|').unwrap()), "{marked}");
     };
+    // The text call does not ask for a text of no bytes.
     place("|");
     place("|\n");
     place("(|");
