@@ -1,8 +1,9 @@
 -- What the program refuses a text for that is read: its tests in their order, and what each gives; the verdict on a text says what its log says (specs/Log).
 -- Assumes nothing.
 use Prim.Native.Nat.{ℕ, _<_}
+use native.Mathlib.Nat.{mul-pos}
 use mathlib.Core.Path.{_≡_, refl, sym, ap, subst, _∙_}
-use mathlib.Core.Bool.{Bool, true, false, not}
+use mathlib.Core.Bool.{Bool, true, false, not, false≢true}
 use mathlib.Core.List.{List, [], _∷_, List·Memᴰ, List·Memᴰ·head, List·Memᴰ·tail, Memᴰ·append-left}
 use native.Mathlib.Omega.{arith}
 use lib.Dec.{eqb}
@@ -17,13 +18,14 @@ use Rattle.definitions.specs.declared.Verdict.the-variants.{Accepted, Re
 use Rattle.definitions.specs.Geometry.{axesOf}
 use Rattle.definitions.specs.Record.{narrow}
 use Rattle.definitions.specs.Refusals.{refusal, verdictOf, geometryTests, geometryVerdict, recordTests, allAddresses}
-use Rattle.definitions.specs.Text.{Reading, notRead, readAs, baseOf}
-use Rattle.definitions.specs.Log.{programTests, findingBy, findingOf, logFor, verdictFor, pictureLines, refusedLine, LogOf, SaidByLog}
-use Rattle.definitions.specs.Raster.{baseCount}
+use Rattle.definitions.specs.Text.{Reading, empty, notRead, readAs, baseOf}
+use Rattle.definitions.specs.Log.{programTests, Finding, findsNone, refuses, findingBy, findingOf, logFor, verdictFor, emptyFor, pictureLines, emptyLine, refusedLine, LogOf, SaidByLog}
+use Rattle.definitions.specs.Raster.{baseCount, fullCount}
 use Rattle.definitions.proofs.Choices.{yes, no}
-use Rattle.definitions.proofs.Verdicts.{then-verdict, refused-first, given-by}
+use Rattle.definitions.proofs.Verdicts.{then-verdict, refused-first, given-by, both-passed}
+use Rattle.definitions.proofs.Accepted.{accepted-axes}
 use Rattle.definitions.proofs.RecordLists.{records-give, member-index}
-use Rattle.definitions.proofs.Lines.{lines-differ}
+use Rattle.definitions.proofs.Lines.{lines-differ, empty-differs, made-differ}
 
 -- ---- The tests in their order
 module _ (n : Numbers) (lines : ℕ) (base : List ℤ) where
@@ -74,6 +76,13 @@ module _ (lines : ℕ) where
     pub refused-by : verdictOf (programTests n lines base) ≡ Refused r → RefusedBy lines r
     refused-by = by-geometry (geometryVerdict n) refl
 
+-- an accepted text has a picture of one macroblock or more
+some-made : (n : Numbers) (lines : ℕ) (base : List ℤ) → verdictOf (programTests n lines base) ≡ Accepted → 0 < fullCount (axesOf n)
+unfolding programTests
+some-made n lines base e =
+    let axes = accepted-axes n (both-passed (geometryTests n) _ e .0) in
+    mul-pos (omega (arith, axes .horizontal .full-low)) (omega (arith, axes .vertical .full-low))
+
 -- ---- The numbers of these refusals, and how large they are
 pub number-of : {lines : ℕ} {r : Refusal} → RefusedBy lines r → List·Memᴰ (r .number) (1 ∷ 2 ∷ 3 ∷ 4 ∷ 5 ∷ 8 ∷ [])
 number-of (by-number m) = Memᴰ·append-left (8 ∷ []) m
@@ -84,16 +93,39 @@ pub verdict-by : (v : Verdict) (lines : List ℕ) → verdictFor (findingBy v li
 verdict-by Accepted lines = refl
 verdict-by (Refused r) lines = refl
 
-said-refused : (q : Refusal) → SaidByLog (Refused q) (refusedLine q)
-said-refused q = record { refused = λ r e. ap refusedLine (same-refusal e); accepted = λ e r s. let z : _≡_ {A = ℕ} 0 1 = cc in omega arith }
+abbrev SaidOf : Finding → Type 0
+SaidOf f = SaidByLog (verdictFor f) (emptyFor f) (logFor f)
 
-said-by : (v : Verdict) (g : Axes) (base : List ℤ) → SaidByLog (verdictFor (findingBy v (pictureLines g base))) (logFor (findingBy v (pictureLines g base)))
-said-by Accepted g base = record { refused = λ r e. absurd (let z : _≡_ {A = ℕ} 0 1 = cc in omega arith); accepted = λ e. lines-differ g base }
-said-by (Refused q) g base = said-refused q
+said-refused : (q : Refusal) → SaidOf (refuses q)
+said-refused q =
+    record {
+      refused = λ r e. ap refusedLine (same-refusal e);
+      accepted = λ e r s. let z : _≡_ {A = ℕ} 0 1 = cc in omega arith;
+      no-picture = ((λ e. false≢true e), (λ e. absurd (empty-differs q (sym e))));
+    }
 
-said : (v : Reading) → SaidByLog (verdictFor (findingOf v)) (logFor (findingOf v))
+-- what is accepted has a picture of one macroblock or more
+said-by : (v : Verdict) (n : Numbers) (base : List ℤ) → (v ≡ Accepted → 0 < fullCount (axesOf n)) → SaidOf (findingBy v (pictureLines (axesOf n) base))
+said-by Accepted n base some =
+    record {
+      refused = λ r e. absurd (let z : _≡_ {A = ℕ} 0 1 = cc in omega arith);
+      accepted = λ e. lines-differ (axesOf n) base;
+      no-picture = ((λ e. false≢true e), (λ e. absurd (made-differ (axesOf n) base (some refl) e)));
+    }
+said-by (Refused q) n base some = said-refused q
+
+said-none : SaidOf findsNone
+said-none =
+    record {
+      refused = λ r e. absurd (let z : _≡_ {A = ℕ} 0 1 = cc in omega arith);
+      accepted = λ e. empty-differs;
+      no-picture = ((λ e. refl), (λ e. refl));
+    }
+
+said : (v : Reading) → SaidOf (findingOf v)
+said empty = said-none
 said (notRead r) = said-refused r
-said (readAs n entries) = said-by (verdictOf (programTests n (length entries) (baseOf entries))) (axesOf n) (baseOf entries)
+said (readAs n entries) = said-by (verdictOf (programTests n (length entries) (baseOf entries))) n (baseOf entries) (some-made n (length entries) (baseOf entries))
 
-pub said-by-log : {t log : List ℕ} → (found : LogOf t log) → SaidByLog (verdictFor (findingOf (found .reading))) log
-said-by-log found = subst (SaidByLog (verdictFor (findingOf (found .reading)))) (sym (found .is)) (said (found .reading))
+pub said-by-log : {t log : List ℕ} → (found : LogOf t log) → SaidByLog (verdictFor (findingOf (found .reading))) (emptyFor (findingOf (found .reading))) log
+said-by-log found = subst (SaidByLog (verdictFor (findingOf (found .reading))) (emptyFor (findingOf (found .reading)))) (sym (found .is)) (said (found .reading))

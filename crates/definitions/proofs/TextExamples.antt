@@ -9,12 +9,12 @@ use lib.ListN.{length}
 use Rattle.definitions.specs.declared.LogReply.{LogReply}
 use Rattle.definitions.specs.declared.LogReply.the-variants.{Refused as NotWritten}
 use Rattle.definitions.specs.declared.TextReply.{TextReply}
-use Rattle.definitions.specs.declared.TextReply.the-variants.{Refused as NotRead}
+use Rattle.definitions.specs.declared.TextReply.the-variants.{NoPicture, Refused as NotRead}
 use Rattle.definitions.specs.Basics.{pick, minus, allBelow, upTo}
 use Rattle.definitions.specs.Record.{recordWords, laidOut, recordAt, rule1, rule2, rule3, rule4, rule5, rule6, rule7, firstBroken}
 use Rattle.definitions.specs.Refusals.{refusal, geometryTests, recordTests}
-use Rattle.definitions.specs.Text.{Digit, none, each, valued, zeroAlone, digits, word, Number, unsigned, negative, close, item, isWord, Note, note, Part, Form, nothing, isByte, isSpaced, isEnded, numbersThen, mbLine, LineOf, Notes, noHead, head, noRecord, aRecord, Text, textRecords, Reading, notRead, readAs, Reads, tooLong, broken, tooMany, read, TextAnswer, wrongWords, refused, given}
-use Rattle.definitions.specs.Log.{digitsIn, decimal, lineOf, refusedLine, programTests, LogAnswer, tooFew, logged}
+use Rattle.definitions.specs.Text.{Digit, none, each, valued, zeroAlone, digits, word, Number, unsigned, negative, close, item, isWord, Note, note, Part, Form, nothing, isByte, isSpaced, isEnded, numbersThen, mbLine, LineOf, Notes, noHead, head, noRecord, aRecord, Text, textRecords, Reading, empty, notRead, readAs, Reads, noBytes, tooLong, broken, tooMany, read, TextAnswer, wrongWords, noPicture, refused, given}
+use Rattle.definitions.specs.Log.{digitsIn, decimal, lineOf, emptyLine, refusedLine, programTests, LogAnswer, tooFew, logged}
 use Rattle.definitions.specs.Unstarred.{zerosThen, mbLineText, mbText, mbNumbers, mbEntries, TextsHold}
 
 -- 0, numbers of two digits, 4 and −2
@@ -64,13 +64,15 @@ mb-text =
     }
 
 long : {t : List ℕ} {r : Reading} → length t ≡ 65537 → Reads t r → r ≡ notRead (refusal 10)
+long l (noBytes h) = absurd (omega arith)
 long l (tooLong h) = refl
-long l (broken h b) = absurd (omega arith)
+long l (broken p h b) = absurd (omega arith)
 long l (tooMany h x m) = refl
 long l (read h x m) = absurd (omega arith)
 
 wrong : {t : List ℕ} {words new : List ℤ} {reply : TextReply} → (length words ≡ recordWords * textRecords → ⊥) → TextAnswer t words reply new → reply ≡ NotRead (refusal 6)
 wrong n (wrongWords m) = refl
+wrong n (noPicture e x) = absurd (n e)
 wrong n (refused e x) = absurd (n e)
 wrong n (given e x) = absurd (n e)
 
@@ -82,13 +84,13 @@ letters : Note (40 ∷ 110 ∷ 111 ∷ 116 ∷ 101 ∷ 32 ∷ 97 ∷ 122 ∷ 41 
 letters = note (item (inl (isWord (word {c = 97} (omega arith, omega arith) (each {c = 122} (omega arith, omega arith) none)))) close)
 
 pub texts-hold : TextsHold
-unfolding pick allBelow upTo laidOut recordAt rule1 rule2 rule3 rule4 rule5 rule6 rule7 firstBroken geometryTests recordTests digitsIn decimal lineOf refusedLine programTests
+unfolding pick allBelow upTo laidOut recordAt rule1 rule2 rule3 rule4 rule5 rule6 rule7 firstBroken geometryTests recordTests digitsIn decimal lineOf emptyLine refusedLine programTests
 texts-hold = record {
   mb-text = mb-text;
   mb-log = record { reading = readAs _ _; reads = read (omega arith) mb-text (omega arith); is = refl };
   whole-line = isByte (isByte (isByte (isByte (isByte (isByte (isByte (isByte (zeros-form 1 (isByte (isByte (zeros-form 3 (isByte (zeros-form 0 (isByte nothing))))))))))))));
   note-line = note close;
-  most-bytes = λ t place l b. broken (omega arith) b;
+  most-bytes = λ t place l b. broken (omega arith) (omega arith) b;
   too-many-bytes = λ t r l x. long l x;
   most-lines = λ t n entries l x e. read (omega arith) x (omega arith);
   too-many-lines = λ t n entries l x e. tooMany (omega arith) x (omega arith);
@@ -99,4 +101,7 @@ texts-hold = record {
   right-bytes = λ t log out found l. logged (omega arith) found;
   few-bytes = λ t out new reply l x. few l x;
   letters = letters;
+  no-bytes = noBytes refl;
+  no-bytes-words = λ words l. noPicture (omega arith) (noBytes refl);
+  no-bytes-log = record { reading = empty; reads = noBytes refl; is = refl };
 }

@@ -12,10 +12,10 @@ use borrow.Author.Tests.{leb-true, leb-false}
 use Rattle.definitions.specs.declared.Motion.{Motion}
 use Rattle.definitions.specs.declared.Refusal.{Refusal}
 use Rattle.definitions.specs.declared.TextReply.{TextReply}
-use Rattle.definitions.specs.declared.TextReply.the-variants.{Read, Refused}
+use Rattle.definitions.specs.declared.TextReply.the-variants.{NoPicture, Read, Refused}
 use Rattle.definitions.specs.Record.{recordWords, typeOf, subTypeOf, motionOf, detailOf, allOne}
 use Rattle.definitions.specs.Answer.{unusedMotion}
-use Rattle.definitions.specs.Text.{Belongs, CanGoOn, BreaksAt, intra, whole, wordsFor, TextAnswer, wrongWords, refused, given}
+use Rattle.definitions.specs.Text.{Belongs, CanGoOn, BreaksAt, intra, whole, wordsFor, TextAnswer, wrongWords, noPicture, refused, given}
 use Rattle.definitions.proofs.Records.{laid-length, laid-type, laid-sub-type, laid-motion, laid-detail}
 
 -- ---- The place
@@ -42,16 +42,22 @@ one-place t p q h k = by-test (leb p q) (leb q p) refl refl
 
 -- ---- A refused call leaves every word.
 abbrev Kept : TextReply → List ℤ → List ℤ → Type 0
+Kept NoPicture old new = new ≡ old
 Kept (Read t) old new = Unit {0}
 Kept (Refused r) old new = new ≡ old
 
 kept : {t : List ℕ} {old : List ℤ} {r : TextReply} {new : List ℤ} → TextAnswer t old r new → Kept r old new
 kept (wrongWords n) = refl
+kept (noPicture e x) = refl
 kept (refused e x) = refl
 kept (given e x) = tt
 
 pub refused-keeps : {t : List ℕ} {old : List ℤ} {r : Refusal} {new : List ℤ} → TextAnswer t old (Refused r) new → new ≡ old
 refused-keeps h = kept h
+
+-- A text without a picture leaves them too.
+pub empty-keeps : {t : List ℕ} {old : List ℤ} {new : List ℤ} → TextAnswer t old NoPicture new → new ≡ old
+empty-keeps h = kept h
 
 -- ---- The words of (intra ..) and (whole ..): a record of a type, with no sub-types, one motion in all blocks, and this last word
 record Uniform (words : List ℤ) (type : ℕ) (m : Motion) (d : ℤ) : Type 0 where

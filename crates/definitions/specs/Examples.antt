@@ -25,7 +25,7 @@ use Rattle.definitions.specs.Fed.{blocksReading, fedAt}
 use Rattle.definitions.specs.Answer.{originAt, basisAt, answerOf, answerType, addressesOf, withoutMotion, writtenFor, madeOf}
 use Rattle.definitions.specs.Refusals.{geometryTests, recordTests, addressesRead}
 use Rattle.definitions.specs.Calls.{macroblockTests, macroblockCall, madeAt, countsOf}
-use Rattle.definitions.specs.Text.{Entry, whole, BreaksAt, baseOf}
+use Rattle.definitions.specs.Text.{Entry, whole, baseOf, notRead, Reads}
 use Rattle.definitions.specs.Log.{digitsIn, decimal, lineOf, macroblockLine, syncLine, pictureLines, programTests, judged, makes}
 use Rattle.definitions.specs.Geometry.{columnsRead}
 use Rattle.definitions.specs.Blocks.{quadrantOf, inQuadrant}
@@ -191,7 +191,8 @@ inNote t = 40 ∷ 110 ∷ 111 ∷ 116 ∷ 101 ∷ 32 ∷ t
 
 abbrev pub brokenTexts : List Broken
 brokenTexts =
-    brokenRow [] 0  -- the text ends early
+    brokenRow (10 ∷ []) 0  -- a line feed alone
+    ∷ brokenRow (40 ∷ 110 ∷ 111 ∷ 116 ∷ 101 ∷ 41 ∷ 10 ∷ []) 7  -- a note only: the text ends early
     ∷ brokenRow (40 ∷ 98 ∷ 97 ∷ []) 3  -- (ba
     ∷ brokenRow (40 ∷ 105 ∷ 110 ∷ []) 1  -- (in, before the first four lines
     ∷ brokenRow (40 ∷ 110 ∷ 111 ∷ 116 ∷ 101 ∷ 115 ∷ 41 ∷ []) 5  -- (notes)
@@ -220,4 +221,4 @@ brokenTexts =
 
 abbrev pub PlacesRight : List Broken → Type 0
 PlacesRight [] = Unit {0}
-PlacesRight (r ∷ rs) = BreaksAt (r .text) (r .place) × PlacesRight rs
+PlacesRight (r ∷ rs) = Reads (r .text) (notRead (record { number = 9; place = r .place; rule = 0 })) × PlacesRight rs

@@ -1,8 +1,9 @@
--- "Sync text and log" of document 01: the log of a text. Bytes are as in Text.
+-- "Sync text and log" of document 01: the log of a text, and that of a text of no bytes (document 02, E2). Bytes are as in Text.
 use Prim.Native.Nat.{ℕ, zero, suc, _+_, _*_, _/_, _%_, _≤_, _<_}
 use mathlib.Core.Path.{_≡_}
-use mathlib.Core.Bool.{not}
+use mathlib.Core.Bool.{Bool, true, false, not}
 use mathlib.Core.List.{List, [], _∷_, _++_, List·Memᴰ}
+use mathlib.Core.Logic.{_↔_}
 use lib.Dec.{eqb, ltb}
 use lib.IntN.{ℤ}
 use lib.ListN.{length, drop}
@@ -22,7 +23,7 @@ use Rattle.definitions.specs.Record.{narrow}
 use Rattle.definitions.specs.Answer.{answerType}
 use Rattle.definitions.specs.Refusals.{refusal, Test, test, verdictOf, geometryTests, recordTests, allAddresses, LowestMalformed}
 use Rattle.definitions.specs.Calls.{madeAt, countsOf}
-use Rattle.definitions.specs.Text.{Entry, Text, baseOf, textRecords, textBytes, Reading, notRead, readAs, Reads, Demand2Text}
+use Rattle.definitions.specs.Text.{Entry, Text, baseOf, textRecords, textBytes, Reading, empty, notRead, readAs, Reads, Demand2Text}
 use Rattle.definitions.specs.Raster.{baseCount, fullCount, columnAt, rowAt}
 
 -- ---- Lines
@@ -71,6 +72,10 @@ syncLine g base =
 unfoldable pub pictureLines : Axes → List ℤ → List ℕ
 pictureLines g base = forEach (upTo (fullCount g) (λ a. a)) (macroblockLine g base) ++ syncLine g base
 
+-- (sync 0 0 0 0): a text of no bytes means no picture (document 02, E2)
+unfoldable pub emptyLine : List ℕ
+emptyLine = lineOf syncWord (0 ∷ 0 ∷ 0 ∷ 0 ∷ [])
+
 -- (refused number place)
 unfoldable pub refusedLine : Refusal → List ℕ
 refusedLine r = lineOf refusedWord (r .number ∷ r .place ∷ [])
@@ -92,8 +97,9 @@ LowestInProgram =
     (n : Numbers) (lines : ℕ) (base : List ℤ) (r : Refusal) → verdictOf (programTests n lines base) ≡ Refused r → r .number ≡ 8
     → LowestMalformed narrow base (allAddresses (axesOf n)) r
 
--- a refusal, or the lines of the picture
+-- no picture, a refusal, or the lines of the picture
 pub data Finding : Type 0 where
+  findsNone : Finding
   refuses : Refusal → Finding
   makes : List ℕ → Finding
 
@@ -105,14 +111,16 @@ findingBy (Refused r) lines = refuses r
 abbrev pub judged : Numbers → ℕ → List ℤ → Finding
 judged n lines base = findingBy (verdictOf (programTests n lines base)) (pictureLines (axesOf n) base)
 
--- The program tests the length by 10, then 9, then the record lines by 10 (Reads of Text), then 1 to 5, then 8 on all records.
+-- A text of no bytes has no picture. Else the program tests the length by 10, then 9, then the record lines by 10 (Reads of Text), then 1 to 5, then 8 on all records.
 abbrev pub findingOf : Reading → Finding
+findingOf empty = findsNone
 findingOf (notRead r) = refuses r
 findingOf (readAs n entries) = judged n (length entries) (baseOf entries)
 
 -- ---- The log
--- A refusal writes only (refused number place).
+-- A refusal writes only (refused number place), and no picture only (sync 0 0 0 0).
 abbrev pub logFor : Finding → List ℕ
+logFor findsNone = emptyLine
 logFor (refuses r) = refusedLine r
 logFor (makes lines) = lines
 
@@ -121,14 +129,20 @@ pub record LogOf (t log : List ℕ) : Type 0 where
   pub reads : Reads t reading
   pub is : log ≡ logFor (findingOf reading)
 
--- the verdict on a text, by the same finding
+-- the verdict on a text, by the same finding; and whether it means no picture
 abbrev pub verdictFor : Finding → Verdict
+verdictFor findsNone = Accepted
 verdictFor (refuses r) = Refused r
 verdictFor (makes lines) = Accepted
 
+abbrev pub emptyFor : Finding → Bool
+emptyFor findsNone = true
+emptyFor (refuses r) = false
+emptyFor (makes lines) = false
+
 -- The log call is ours (document 01 has the program alone): the bytes of a text, and bytes to write its log into, as many as every log fits: 65,536 lines of at
 -- most 18 bytes, and a last one of at most 31. Fewer are refused by 6, tested first, and left as they are. Else the log stands first, the rest unchanged, and the
--- call gives its length and the verdict on the text.
+-- call gives its length, the verdict on the text, and whether it means no picture.
 abbrev pub logBytes : ℕ
 logBytes = 65536 * 18 + 31
 
@@ -136,12 +150,13 @@ pub data LogAnswer (t out : List ℕ) : LogReply → List ℕ → Type 0 where
   tooFew : length out < logBytes → LogAnswer t out (NotWritten (refusal 6)) out
   logged :
       {log : List ℕ} → logBytes ≤ length out → (found : LogOf t log)
-      → LogAnswer t out (Written (record { bytes = length log; verdict = verdictFor (findingOf (found .reading)) })) (log ++ drop (length log) out)
+      → LogAnswer t out (Written (record { bytes = length log; verdict = verdictFor (findingOf (found .reading)); empty = emptyFor (findingOf (found .reading)) })) (log ++ drop (length log) out)
 
--- The verdict says what the log says: refused, the log is the line of that refusal; accepted, it is that of none.
-pub record SaidByLog (verdict : Verdict) (log : List ℕ) : Type 0 where
+-- The verdict says what the log says: refused, the log is the line of that refusal; accepted, it is that of none. And the log is (sync 0 0 0 0) exactly where there is no picture.
+pub record SaidByLog (verdict : Verdict) (none : Bool) (log : List ℕ) : Type 0 where
   pub refused : (r : Refusal) → verdict ≡ Refused r → log ≡ refusedLine r
   pub accepted : verdict ≡ Accepted → (r : Refusal) → log ≡ refusedLine r → ⊥
+  pub no-picture : (none ≡ true) ↔ (log ≡ emptyLine)
 
 -- ---- Demand 2: "it is then refused only for what refusals 1 to 5 and 8 say of its numbers and its count of record lines"
 -- Of a text that belongs to the grammar and keeps the limits: its log is a refusal exactly where one of these applies, and is then the first of them; and a log
@@ -158,7 +173,14 @@ Demand2Log =
     (t : List ℕ) (n : Numbers) (entries : List Entry) → Text n entries t → length t ≤ textBytes → length entries ≤ textRecords
     → (log : List ℕ) → LogOf t log → RefusedOnly n (length entries) (baseOf entries) log
 
--- Demand 2 of texts: both halves
+-- The empty text is refused for none (document 02, E2): its log is (sync 0 0 0 0), which is no refusal's, and no other text's.
+pub record Demand2Empty : Type 0 where
+  pub log : (log : List ℕ) → LogOf [] log → log ≡ emptyLine
+  pub no-refusal : (r : Refusal) → emptyLine ≡ refusedLine r → ⊥
+  pub alone : (t : List ℕ) → LogOf t emptyLine → t ≡ []
+
+-- Demand 2 of texts: both halves, and of the empty text
 pub record Demand2Entire : Type 0 where
   pub text : Demand2Text
   pub log : Demand2Log
+  pub empty : Demand2Empty

@@ -1,4 +1,5 @@
--- "Sync text and log" of document 01: the grammar of the text, with the last number that document 02's E7 gives record lines, and the text call.
+-- "Sync text and log" of document 01: the grammar of the text, with the last number that document 02's E7 gives record lines, and the text call, for which a text of no bytes
+-- means no picture (E2).
 -- A text is a list of bytes. The grammar says of a list of bytes what it is, and which numbers stand in it; no reader is described here.
 -- Bytes: 10 is a line feed, 32 a space, 40 and 41 the brackets, 45 a minus, 48 to 57 the digits, 97 to 122 the letters a to z.
 use Prim.Native.Nat.{ℕ, zero, suc, _+_, _-_, _*_, _≤_, _<_}
@@ -12,7 +13,7 @@ use Rattle.definitions.specs.declared.Numbers.{Numbers}
 use Rattle.definitions.specs.declared.Refusal.{Refusal}
 use Rattle.definitions.specs.declared.TextRead.{TextRead}
 use Rattle.definitions.specs.declared.TextReply.{TextReply}
-use Rattle.definitions.specs.declared.TextReply.the-variants.{Read, Refused}
+use Rattle.definitions.specs.declared.TextReply.the-variants.{NoPicture, Read, Refused}
 use Rattle.definitions.specs.Basics.{forEach}
 use Rattle.definitions.specs.Record.{recordWords, wordOf, laidOut, allOne}
 use Rattle.definitions.specs.Answer.{withoutMotion}
@@ -211,7 +212,7 @@ wordsOf e = wordsFor (e .kind) (e .fields)
 abbrev pub baseOf : List Entry → List ℤ
 baseOf entries = forEach entries wordsOf
 
--- ---- What becomes of a text: it is refused, or it is read as the geometry's numbers and its record lines
+-- ---- What becomes of a text: it means no picture, it is refused, or it is read as the geometry's numbers and its record lines
 -- 10: text above 65,536 bytes, tested before 9, or more than 99 record lines, tested after 9
 abbrev pub textRecords : ℕ
 textRecords = 99
@@ -220,27 +221,31 @@ abbrev pub textBytes : ℕ
 textBytes = 65536
 
 pub data Reading : Type 0 where
+  empty : Reading
   notRead : Refusal → Reading
   readAs : Numbers → List Entry → Reading
 
--- 10 by length, then 9, then 10 by lines: the text call and the program both test in this order.
+-- A text of no bytes means no picture (document 02, E2). Else 10 by length, then 9, then 10 by lines: the text call and the program both test in this order.
 pub data Reads (t : List ℕ) : Reading → Type 0 where
+  noBytes : length t ≡ 0 → Reads t empty
   tooLong : textBytes < length t → Reads t (notRead (refusal 10))
-  broken : {place : ℕ} → length t ≤ textBytes → BreaksAt t place → Reads t (notRead (record { number = 9; place = place; rule = 0 }))
+  broken : {place : ℕ} → 0 < length t → length t ≤ textBytes → BreaksAt t place → Reads t (notRead (record { number = 9; place = place; rule = 0 }))
   tooMany : {n : Numbers} {entries : List Entry} → length t ≤ textBytes → Text n entries t → textRecords < length entries → Reads t (notRead (refusal 10))
   read : {n : Numbers} {entries : List Entry} → length t ≤ textBytes → Text n entries t → length entries ≤ textRecords → Reads t (readAs n entries)
 
 -- ---- Text: the bytes, and the words of 99 records to write
--- What the call hands back, and the words afterwards. It tests 6 first, and refused leaves every word; else it gives the geometry's numbers and the count of
--- record lines, whose words stand first, the rest unchanged.
+-- What the call hands back, and the words afterwards. It tests 6 first, and refused leaves every word. A text of no bytes it answers with no picture, and leaves every word too; else
+-- it gives the geometry's numbers and the count of record lines, whose words stand first, the rest unchanged.
 pub data TextAnswer (t : List ℕ) (words : List ℤ) : TextReply → List ℤ → Type 0 where
   wrongWords : (length words ≡ recordWords * textRecords → ⊥) → TextAnswer t words (Refused (refusal 6)) words
+  noPicture : length words ≡ recordWords * textRecords → Reads t empty → TextAnswer t words NoPicture words
   refused : {r : Refusal} → length words ≡ recordWords * textRecords → Reads t (notRead r) → TextAnswer t words (Refused r) words
   given :
       {n : Numbers} {entries : List Entry} → length words ≡ recordWords * textRecords → Reads t (readAs n entries)
       → TextAnswer t words (Read (record { numbers = n; lines = length entries })) (baseOf entries ++ drop (recordWords * length entries) words)
 
--- ---- Demand 2: "With words for 99 records lent, a text is read exactly when it belongs to document 01's grammar and keeps its limits"
+-- ---- Demand 2: "With words for 99 records lent, a text is read exactly when it belongs to document 01's grammar and keeps its limits", and document 02's E2: "covers the empty
+-- text as accepted"
 -- t belongs to the grammar with the numbers and the count of record lines of u, and keeps the limits
 pub record BelongsAs (t : List ℕ) (u : TextRead) : Type 0 where
   pub entries : List Entry
@@ -249,11 +254,16 @@ pub record BelongsAs (t : List ℕ) (u : TextRead) : Type 0 where
   pub bytes-kept : length t ≤ textBytes
   pub records-kept : length entries ≤ textRecords
 
+-- It is accepted exactly when it is empty, or belongs and keeps the limits; and the reply says which.
 pub record ReadExactly (t : List ℕ) (words : List ℤ) (reply : TextReply) (new : List ℤ) : Type 0 where
   pub then-read :
       (n : Numbers) (entries : List Entry) → Text n entries t → length t ≤ textBytes → length entries ≤ textRecords
       → (reply ≡ Read (record { numbers = n; lines = length entries })) × (new ≡ baseOf entries ++ drop (recordWords * length entries) words)
   pub read-then : (u : TextRead) → reply ≡ Read u → BelongsAs t u
+  pub then-empty : length t ≡ 0 → (reply ≡ NoPicture) × (new ≡ words)
+  pub empty-then : reply ≡ NoPicture → length t ≡ 0
+  -- refusal 9 never has place 0 with length 0
+  pub nine : (r : Refusal) → reply ≡ Refused r → r .number ≡ 9 → 0 < length t
 
 abbrev pub Demand2Text : Type 0
 Demand2Text =

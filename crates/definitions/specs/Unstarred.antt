@@ -23,7 +23,7 @@ use Rattle.definitions.specs.declared.Verdict.{Verdict}
 use Rattle.definitions.specs.declared.Verdict.the-variants.{Accepted, Refused}
 use Rattle.definitions.specs.declared.Refusal.{Refusal}
 use Rattle.definitions.specs.declared.TextReply.{TextReply}
-use Rattle.definitions.specs.declared.TextReply.the-variants.{Read, Refused as NotRead}
+use Rattle.definitions.specs.declared.TextReply.the-variants.{NoPicture, Read, Refused as NotRead}
 use Rattle.definitions.specs.declared.AxisStep.{AxisStep}
 use Rattle.definitions.specs.declared.PictureReply.{PictureReply}
 use Rattle.definitions.specs.declared.PictureReply.the-variants.{Refused as NotMade}
@@ -43,8 +43,8 @@ use Rattle.definitions.specs.Fed.{Fed, blocksReading, fedAt}
 use Rattle.definitions.specs.Answer.{originAt, basisAt, answerOf, columnsNamed, rowsNamed, addressesNamed, addressesOf, writtenFor, madeOf}
 use Rattle.definitions.specs.Refusals.{refusal, geometryTests, geometryVerdict, recordTests, addressesRead}
 use Rattle.definitions.specs.Calls.{Outcome, macroblockTests, macroblockCall, pictureTests, pictureCall, madeAt, countsOf}
-use Rattle.definitions.specs.Text.{RecordKind, Entry, intra, whole, mb, wholeLine, LineOf, Note, Text, BreaksAt, baseOf, Reading, notRead, readAs, Reads, TextAnswer}
-use Rattle.definitions.specs.Log.{digitsIn, decimal, lineOf, macroblockLine, syncLine, pictureLines, refusedLine, programTests, judged, logFor, findingOf, verdictFor, LogOf, LogAnswer}
+use Rattle.definitions.specs.Text.{RecordKind, Entry, intra, whole, mb, wholeLine, LineOf, Note, Text, BreaksAt, baseOf, Reading, empty, notRead, readAs, Reads, TextAnswer}
+use Rattle.definitions.specs.Log.{digitsIn, decimal, lineOf, macroblockLine, syncLine, pictureLines, refusedLine, programTests, judged, logFor, findingOf, verdictFor, emptyFor, LogOf, LogAnswer}
 
 -- ---- What is expected
 pub data Instance : Type 0 where
@@ -538,7 +538,11 @@ pub record TextsHold : Type 0 where
       → TextAnswer t words (Read (record { numbers = n; lines = length entries })) (baseOf entries ++ drop (78 * length entries) words)
   -- The log call: 1,179,679 bytes serve, and the log stands first, the rest unchanged; with one fewer it is refused by 6, and the bytes are as they were.
   pub right-bytes : (t log out : List ℕ) (found : LogOf t log) → length out ≡ 1179679
-      → LogAnswer t out (Written (record { bytes = length log; verdict = verdictFor (findingOf (found .reading)) })) (log ++ drop (length log) out)
+      → LogAnswer t out (Written (record { bytes = length log; verdict = verdictFor (findingOf (found .reading)); empty = emptyFor (findingOf (found .reading)) })) (log ++ drop (length log) out)
   pub few-bytes : (t out new : List ℕ) (reply : LogReply) → length out ≡ 1179678 → LogAnswer t out reply new → (reply ≡ NotWritten (refusal 6)) × (new ≡ out)
   -- a note of the letters a and z
   pub letters : Note (40 ∷ 110 ∷ 111 ∷ 116 ∷ 101 ∷ 32 ∷ 97 ∷ 122 ∷ 41 ∷ 10 ∷ [])
+  -- A text of no bytes means no picture, leaves the words, and has the log (sync 0 0 0 0).
+  pub no-bytes : Reads [] empty
+  pub no-bytes-words : (words : List ℤ) → length words ≡ 7722 → TextAnswer [] words NoPicture words
+  pub no-bytes-log : LogOf [] (40 ∷ 115 ∷ 121 ∷ 110 ∷ 99 ∷ 32 ∷ 48 ∷ 32 ∷ 48 ∷ 32 ∷ 48 ∷ 32 ∷ 48 ∷ 41 ∷ 10 ∷ [])

@@ -155,6 +155,7 @@ pub struct TextRead {
 }
 
 pub enum TextReply {
+    NoPicture,
     Read(TextRead),
     Refused(Refusal),
 }
@@ -163,6 +164,7 @@ pub enum TextReply {
 pub struct Logged {
     pub bytes: usize,
     pub verdict: Verdict,
+    pub empty: bool,
 }
 
 pub enum LogReply {

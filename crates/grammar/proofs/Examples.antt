@@ -10,7 +10,7 @@ use lib.IntN.{ℤ, pos}
 use lib.ListN.{length}
 use borrow.Author.Tests.{ltb-true, ltb-false, leb-true}
 use Rattle.definitions.specs.Basics.{allOf}
-use Rattle.definitions.specs.Text.{none, each, digits, Number, unsigned, readAs, read}
+use Rattle.definitions.specs.Text.{none, each, digits, Number, unsigned, textBytes, readAs, broken, read}
 use Rattle.definitions.specs.Log.{logFor, LogOf}
 use Rattle.definitions.specs.Examples.{wholeCase, wholeEntries, wholeText, notedText, wholeLog, whole-holds, Broken, brokenTexts, PlacesRight}
 use Rattle.definitions.proofs.Choices.{both-true}
@@ -62,12 +62,18 @@ ended-by s p false e h =
     let w = waiting-is (stateAt s p) (both .1) in
     record { within = leb-true p (length s) (both .0); alive = waiting-alive (stateAt s p) w; stuck = λ q. absurd (omega arith); asks = λ q. w }
 
-all-right : (rs : List Broken) → allOf (λ r. endsAt (r .text) (r .place)) rs ≡ true → PlacesRight rs
+-- a text that has bytes, and not too many
+abbrev fits : List ℕ → Bool
+fits t = ltb 0 (length t) && leb (length t) textBytes
+
+all-right : (rs : List Broken) → allOf (λ r. fits (r .text) && endsAt (r .text) (r .place)) rs ≡ true → PlacesRight rs
 unfolding allOf
 all-right [] h = tt
 all-right (r ∷ rs) h =
-    let both = both-true (endsAt (r .text) (r .place)) (allOf (λ r. endsAt (r .text) (r .place)) rs) h in
-    (ended-breaks (r .text) (r .place) (ended-by (r .text) (r .place) _ refl (both .0)), all-right rs (both .1))
+    let both = both-true (fits (r .text) && endsAt (r .text) (r .place)) (allOf (λ r. fits (r .text) && endsAt (r .text) (r .place)) rs) h in
+    let ended = both-true (fits (r .text)) (endsAt (r .text) (r .place)) (both .0) in
+    let lengths = both-true (ltb 0 (length (r .text))) (leb (length (r .text)) textBytes) (ended .0) in
+    (broken (ltb-true _ _ (lengths .0)) (leb-true _ _ (lengths .1)) (ended-breaks (r .text) (r .place) (ended-by (r .text) (r .place) _ refl (ended .1))), all-right rs (both .1))
 
 pub places-right : PlacesRight brokenTexts
 unfolding allOf stateAt runs step stepK δ byteClassOf

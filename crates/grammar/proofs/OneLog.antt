@@ -2,25 +2,30 @@
 -- theorem, both halves (specs/Log). Assumes nothing.
 use Prim.Native.Nat.{ℕ, _<_}
 use mathlib.Core.Path.{_≡_, refl, sym, ap, subst, _∙_}
-use mathlib.Core.List.{List, List·Memᴰ}
+use mathlib.Core.Bool.{true, false, false≢true}
+use mathlib.Core.List.{List, [], _∷_, List·Memᴰ}
 use native.Mathlib.Omega.{arith}
 use lib.ListN.{length, take, length-take}
+use Rattle.definitions.specs.declared.Numbers.{Numbers}
 use Rattle.definitions.specs.declared.Refusal.{Refusal}
 use Rattle.definitions.specs.declared.Verdict.{Verdict}
 use Rattle.definitions.specs.declared.Verdict.the-variants.{Accepted, Refused}
 use Rattle.definitions.specs.Geometry.{axesOf}
 use Rattle.definitions.specs.Refusals.{refusal, verdictOf}
-use Rattle.definitions.specs.Text.{textBytes, baseOf, Reading, notRead, readAs, tooLong, read}
-use Rattle.definitions.specs.Log.{findingBy, findingOf, LogOf, logFor, verdictFor, programTests, pictureLines, refusedLine, Demand2Log, Demand2Entire}
-use Rattle.definitions.proofs.Lines.{lines-differ, refused-number}
-use Rattle.definitions.proofs.Findings.{refused-by, number-of}
-use Rattle.grammar.proofs.Once.{reads-once, demand2-text}
+use Rattle.definitions.specs.Text.{Entry, textBytes, baseOf, Reading, empty, notRead, readAs, Reads, noBytes, tooLong, read}
+use Rattle.definitions.specs.Log.{findingBy, findingOf, LogOf, logFor, verdictFor, emptyFor, programTests, pictureLines, emptyLine, refusedLine, Demand2Log, Demand2Empty, Demand2Entire}
+use Rattle.definitions.proofs.Lines.{lines-differ, empty-differs, refused-number}
+use Rattle.definitions.proofs.Findings.{refused-by, number-of, said-by-log}
+use Rattle.grammar.proofs.Once.{Had, had, reads-once, demand2-text}
 
 pub one-log : {t v w : List ℕ} → LogOf t v → LogOf t w → v ≡ w
 one-log x y = x .is ∙ (ap (λ (r : Reading). logFor (findingOf r)) (reads-once (x .reads) (y .reads)) ∙ sym (y .is))
 
 pub one-verdict : {t v w : List ℕ} (x : LogOf t v) (y : LogOf t w) → verdictFor (findingOf (x .reading)) ≡ verdictFor (findingOf (y .reading))
 one-verdict x y = ap (λ (r : Reading). verdictFor (findingOf r)) (reads-once (x .reads) (y .reads))
+
+pub one-empty : {t v w : List ℕ} (x : LogOf t v) (y : LogOf t w) → emptyFor (findingOf (x .reading)) ≡ emptyFor (findingOf (y .reading))
+one-empty x y = ap (λ (r : Reading). emptyFor (findingOf r)) (reads-once (x .reads) (y .reads))
 
 -- The program needs no more than the first bytes of a longer input: too many for a text already, they have the log of all, which is refusal 10.
 pub long-refused : (t l : List ℕ) → textBytes < length t → LogOf t l → l ≡ refusedLine (refusal 10)
@@ -53,6 +58,31 @@ demand2-log t n entries x l k log found =
       only = number-only (verdictOf tests) (is _ refl) (λ r e. number-of (refused-by (length entries) n base r e)) (lines-differ (axesOf n) base);
     }
 
+-- and of the empty text
+none-found : {t : List ℕ} (v : Reading) → Reads t v → emptyFor (findingOf v) ≡ true → length t ≡ 0
+none-found empty x e = had x
+none-found (notRead r) x e = absurd (false≢true e)
+none-found (readAs n entries) x e = absurd (false≢true (sym (never n entries) ∙ e))
+  where
+    never : (n : Numbers) (entries : List Entry) → emptyFor (findingOf (readAs n entries)) ≡ false
+    never n entries = by (verdictOf (programTests n (length entries) (baseOf entries)))
+      where
+        by : (v : Verdict) → emptyFor (findingBy v (pictureLines (axesOf n) (baseOf entries))) ≡ false
+        by Accepted = refl
+        by (Refused r) = refl
+
+no-length : (t : List ℕ) → length t ≡ 0 → t ≡ []
+no-length [] e = refl
+no-length (c ∷ t) e = absurd (omega (arith, e))
+
+pub demand2-empty : Demand2Empty
+demand2-empty =
+    record {
+      log = λ log found. one-log found (record { reading = empty; reads = noBytes refl; is = refl });
+      no-refusal = empty-differs;
+      alone = λ t found. no-length t (none-found (found .reading) (found .reads) (said-by-log found .no-picture .1 refl));
+    }
+
 -- demand 2 of texts, entire
 pub demand2 : Demand2Entire
-demand2 = record { text = demand2-text; log = demand2-log }
+demand2 = record { text = demand2-text; log = demand2-log; empty = demand2-empty }

@@ -1,10 +1,14 @@
 -- Demand 2 of what the log call writes and hands back, as its contract says it.
-use Prim.Native.Nat.{ℕ, _≤_}
+use Prim.Native.Nat.{ℕ, _≤_, _<_}
 use mathlib.Core.Path.{_≡_}
+use mathlib.Core.Bool.{Bool, true}
+use mathlib.Core.Logic.{_↔_}
 use mathlib.Core.List.{List}
 use lib.ListN.{length, take}
 use Rattle.definitions.specs.declared.Numbers.{Numbers}
+use Rattle.definitions.specs.declared.Refusal.{Refusal}
 use Rattle.definitions.specs.declared.Verdict.{Verdict}
+use Rattle.definitions.specs.declared.Verdict.the-variants.{Refused}
 use Rattle.definitions.specs.declared.LogReply.{LogReply}
 use Rattle.definitions.specs.declared.LogReply.the-variants.{Written, Refused as NotWritten}
 use Rattle.definitions.specs.Refusals.{verdictOf}
@@ -16,12 +20,14 @@ pub record AsJudged (n : Numbers) (entries : List Entry) (verdict : Verdict) (lo
   pub verdict-is : verdict ≡ verdictOf (programTests n (length entries) (baseOf entries))
   pub refused-only : RefusedOnly n (length entries) (baseOf entries) log
 
--- of every text: the verdict says what the log says
-pub record Promised (t : List ℕ) (verdict : Verdict) (log : List ℕ) : Type 0 where
-  pub said : SaidByLog verdict log
+-- of every text: the verdict says what the log says; there is no picture exactly where it has no bytes, and refusal 9 never of such
+pub record Promised (t : List ℕ) (verdict : Verdict) (none : Bool) (log : List ℕ) : Type 0 where
+  pub said : SaidByLog verdict none log
+  pub no-bytes : (none ≡ true) ↔ (length t ≡ 0)
+  pub nine : (r : Refusal) → verdict ≡ Refused r → r .number ≡ 9 → 0 < length t
   pub as-judged : (n : Numbers) (entries : List Entry) → Text n entries t → length t ≤ textBytes → length entries ≤ textRecords → AsJudged n entries verdict log
 
 -- the log stands in the first bytes; refused, the bytes lent are too few for it
 abbrev pub LogPromised : List ℕ → LogReply → List ℕ → Type 0
-LogPromised t (Written l) out = Promised t (l .verdict) (take (l .bytes) out)
+LogPromised t (Written l) out = Promised t (l .verdict) (l .empty) (take (l .bytes) out)
 LogPromised t (NotWritten r) out = logBytes ≤ length out → ⊥

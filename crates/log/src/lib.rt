@@ -1,6 +1,6 @@
 // The log of a sync text, from bytes to bytes.
 ghost use Prim.Native.Nat.{_*_, _≤_, _<_};
-ghost use Rattle.definitions.specs.Log.{LogAnswer, judged, logBytes, refusedLine};
+ghost use Rattle.definitions.specs.Log.{LogAnswer, emptyLine, judged, logBytes, refusedLine};
 ghost use Rattle.definitions.specs.Record.{recordWords};
 ghost use Rattle.log_lines.specs.Put.{Put};
 ghost use Rattle.log.specs.Given.{Given, LinesGiven};
@@ -29,8 +29,9 @@ use sync_text::read_text;
 // The bytes that every log fits: 65,536 lines of at most 18, and a last one of at most 31.
 pub const LOG_BYTES: usize = 1179679;
 
-// What is found of a text: its picture, whose lines have so many bytes, or its refusal.
+// What is found of a text: that it means no picture; its picture, whose lines have so many bytes; or its refusal.
 enum Found {
+    NoPicture,
     Made(usize),
     Refused(Refusal),
 }
@@ -57,13 +58,14 @@ fn read_lines(t: TextRead, base: &[i16], out: &mut [u8]) -> Found
     }
 }
 
-// The lines of a text's picture, or its refusal, and then no byte is written.
+// The lines of a text's picture; or its refusal, or that it means none, and then no byte is written.
 fn text_lines(text: &[u8], out: &mut [u8]) -> Found
     requires { ⌜ logBytes ≤ length (now out) ⌝ }
     ensures { λ r. ⌜ LinesGiven (now (text .entry)) (now (out .entry)) r (now (out .exit)) ⌝ }
 {
     let mut words = [0i16; TEXT_WORDS];
     match read_text(text, &mut words) {
+        TextReply::NoPicture => Found::NoPicture,
         TextReply::Read(t) => {
             let end = RECORD_WORDS * t.lines as usize;
             read_lines(t, &words[..end], out)
@@ -81,8 +83,17 @@ fn refused_line(out: &mut [u8], r: Refusal) -> usize
     put_line(out, 0, b"refused", &numbers)
 }
 
-// The log call: the bytes of a text, and bytes to write its log into. It gives the length of the log, and the refusal that the log says, with its rule, or none;
-// refused for too few bytes, it writes none.
+// (sync 0 0 0 0)
+fn empty_line(out: &mut [u8]) -> usize
+    requires { ⌜ 31 ≤ length (now out) ⌝ }
+    ensures { λ n. ⌜ Put (now (out .entry)) 0 emptyLine (now (out .exit)) n ⌝ }
+{
+    let numbers = [0; 4];
+    put_line(out, 0, b"sync", &numbers)
+}
+
+// The log call: the bytes of a text, and bytes to write its log into. It gives the length of the log, and the refusal that the log says, with its rule, or none, and
+// whether the text means no picture; refused for too few bytes, it writes none.
 pub fn log(text: &[u8], out: &mut [u8]) -> LogReply
     ensures answer { λ r. ⌜ LogAnswer (now (text .entry)) (now (out .entry)) r (now (out .exit)) ⌝ }
     ensures demand2 { λ r. ⌜ LogPromised (now (text .entry)) r (now (out .exit)) ⌝ }
@@ -91,13 +102,20 @@ pub fn log(text: &[u8], out: &mut [u8]) -> LogReply
         return LogReply::Refused(refused(refusals::OUTPUT_LENGTH));
     }
     match text_lines(text, out) {
+        Found::NoPicture => LogReply::Written(Logged {
+            bytes: empty_line(out),
+            verdict: Verdict::Accepted,
+            empty: true,
+        }),
         Found::Made(n) => LogReply::Written(Logged {
             bytes: n,
             verdict: Verdict::Accepted,
+            empty: false,
         }),
         Found::Refused(r) => LogReply::Written(Logged {
             bytes: refused_line(out, r),
             verdict: Verdict::Refused(r),
+            empty: false,
         }),
     }
 }

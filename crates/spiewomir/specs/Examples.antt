@@ -130,11 +130,13 @@ examples =
     ∷ record { given = advanced (advancedResult before (Answered Outside) begun); expected = advanced (record { session = begunNumbers; macroblock = answer 5 0 0 0 0 0 0 0 0 0 0 0 0 }) }
     ∷ record { given = advanced (advancedResult before (Declined refused) begun); expected = advanced (record { session = before; macroblock = noAnswer }) }
     ∷ record { given = told (totalsResult before counts); expected = told (record { session = before; inherited = 4; intra = 9; outside = 2 }) }
-    ∷ record { given = text (textResult (Read (record { numbers = numbers; lines = 3 }))); expected = text (record { refusal = 0; place = 0; rule = 0; geometry = geometry; lines = 3 }) }
-    ∷ record { given = text (textResult (NotRead refused)); expected = text (record { refusal = 8; place = 41; rule = 6; geometry = nothing; lines = 0 }) }
-    ∷ record { given = log (logResult (Written (record { bytes = 93; verdict = Accepted }))); expected = log (record { refusal = 0; text = 0; place = 0; rule = 0; bytes = 93 }) }
-    ∷ record { given = log (logResult (Written (record { bytes = 15; verdict = Refused refused }))); expected = log (record { refusal = 0; text = 8; place = 41; rule = 6; bytes = 15 }) }
-    ∷ record { given = log (logResult (NotWritten (record { number = 6; place = 0; rule = 0 }))); expected = log (record { refusal = 6; text = 0; place = 0; rule = 0; bytes = 0 }) }
+    ∷ record { given = text (textResult (Read (record { numbers = numbers; lines = 3 }))); expected = text (record { refusal = 0; place = 0; rule = 0; geometry = geometry; lines = 3; empty = 0 }) }
+    ∷ record { given = text (textResult NoPicture); expected = text (record { refusal = 0; place = 0; rule = 0; geometry = nothing; lines = 0; empty = 1 }) }
+    ∷ record { given = text (textResult (NotRead refused)); expected = text (record { refusal = 8; place = 41; rule = 6; geometry = nothing; lines = 0; empty = 0 }) }
+    ∷ record { given = log (logResult (Written (record { bytes = 93; verdict = Accepted; empty = false }))); expected = log (record { refusal = 0; text = 0; place = 0; rule = 0; bytes = 93; empty = 0 }) }
+    ∷ record { given = log (logResult (Written (record { bytes = 15; verdict = Accepted; empty = true }))); expected = log (record { refusal = 0; text = 0; place = 0; rule = 0; bytes = 15; empty = 1 }) }
+    ∷ record { given = log (logResult (Written (record { bytes = 15; verdict = Refused refused; empty = false }))); expected = log (record { refusal = 0; text = 8; place = 41; rule = 6; bytes = 15; empty = 0 }) }
+    ∷ record { given = log (logResult (NotWritten (record { number = 6; place = 0; rule = 0 }))); expected = log (record { refusal = 6; text = 0; place = 0; rule = 0; bytes = 0; empty = 0 }) }
     ∷ []
 
 -- They hold.

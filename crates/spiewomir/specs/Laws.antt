@@ -2,7 +2,8 @@
 -- of calls.
 use Prim.Native.Nat.{ℕ, _≤_}
 use mathlib.Core.Path.{_≡_}
-use mathlib.Core.Logic.{_↔_}
+use mathlib.Core.Logic.{_↔_, _⊎_}
+use mathlib.Core.Bool.{true}
 use mathlib.Core.List.{List, [], _∷_}
 use lib.IntN.{ℤ}
 use lib.ListN.{length}
@@ -16,7 +17,7 @@ use Rattle.definitions.specs.declared.MacroblockReply.the-variants.{Answered}
 use Rattle.definitions.specs.declared.PictureReply.the-variants.{Counted}
 use Rattle.definitions.specs.declared.TextRead.{TextRead}
 use Rattle.definitions.specs.declared.TextReply.{TextReply}
-use Rattle.definitions.specs.declared.TextReply.the-variants.{Read}
+use Rattle.definitions.specs.declared.TextReply.the-variants.{NoPicture, Read}
 use Rattle.definitions.specs.declared.Logged.{Logged}
 use Rattle.definitions.specs.declared.LogReply.{LogReply}
 use Rattle.definitions.specs.declared.LogReply.the-variants.{Written}
@@ -61,17 +62,22 @@ pub record ZeroWhenAnswered : Type 0 where
       → (nextGives s base words .macroblock .refusal ≡ 0) ↔ ((a : Answer) × (nextCall (stateOf (sessionFromC s)) base words .reply ≡ Answered a))
   pub abandons : (s : SessionNumbers) → (abandonGives s .refusal ≡ 0) ↔ (abandonVerdict (stateOf (sessionFromC s)) ≡ Accepted)
   pub text : (t : List ℕ) (words : List ℤ) (reply : TextReply) (new : List ℤ) → TextAnswer t words reply new
-      → (textResult reply .refusal ≡ 0) ↔ ((u : TextRead) × (reply ≡ Read u))
+      → (textResult reply .refusal ≡ 0) ↔ ((reply ≡ NoPicture) ⊎ ((u : TextRead) × (reply ≡ Read u)))
   pub log : (t out : List ℕ) (reply : LogReply) (new : List ℕ) → LogAnswer t out reply new
       → (logResult reply .refusal ≡ 0) ↔ ((l : Logged) × (reply ≡ Written l))
   pub log-text : (t out : List ℕ) (l : Logged) (new : List ℕ) → LogAnswer t out (Written l) new
       → (logResult (Written l) .text ≡ 0) ↔ (l .verdict ≡ Accepted)
 
+-- empty is 1 exactly where there is no picture (document 02, E2)
+pub record EmptyWhenNoPicture : Type 0 where
+  pub text : (reply : TextReply) → (textResult reply .empty ≡ 1) ↔ (reply ≡ NoPicture)
+  pub log : (l : Logged) → (logResult (Written l) .empty ≡ 1) ↔ (l .empty ≡ true)
+
 -- A refused text's log is the line of the number and place handed back, and the rule is the refusal's. (SaidByLog is what the log call promises of the verdict
 -- and the log's bytes.)
 abbrev pub LogLine : Type 0
 LogLine =
-    (l : Logged) (log : List ℕ) → SaidByLog (l .verdict) log → (r : Refusal) → l .verdict ≡ Refused r
+    (l : Logged) (log : List ℕ) → SaidByLog (l .verdict) (l .empty) log → (r : Refusal) → l .verdict ≡ Refused r
     → (log ≡ lineOf refusedWord (logResult (Written l) .text ∷ logResult (Written l) .place ∷ [])) × (logResult (Written l) .rule ≡ r .rule)
 
 -- ---- The session over every list of calls

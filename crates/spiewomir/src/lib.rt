@@ -108,7 +108,7 @@ pub struct TotalsResult {
     pub outside: u32,
 }
 
-// A refusal's number, place and rule, or 0, 0, 0, the geometry's numbers and the count of record lines.
+// A refusal's number, place and rule, or 0, 0, 0, the geometry's numbers and the count of record lines; `empty` is 1 where the text means no picture, and then all else is 0.
 #[repr(C)]
 pub struct TextResult {
     pub refusal: u32,
@@ -116,10 +116,11 @@ pub struct TextResult {
     pub rule: u32,
     pub geometry: GeometryNumbers,
     pub lines: u32,
+    pub empty: u32,
 }
 
-// The call's own refusal, 6 or 0; and, with 0, the log's count of bytes and the text's refusal that it says, with its place and rule, or 0, 0, 0.
-// (The header's `text_refusal` is `text` here.)
+// The call's own refusal, 6 or 0; and, with 0, the log's count of bytes and the text's refusal that it says, with its place and rule, or 0, 0, 0;
+// `empty` is 1 where the text means no picture. (The header's `text_refusal` is `text` here.)
 #[repr(C)]
 pub struct LogResult {
     pub refusal: u32,
@@ -127,6 +128,7 @@ pub struct LogResult {
     pub place: u32,
     pub rule: u32,
     pub bytes: usize,
+    pub empty: u32,
 }
 
 // The numbers of the axes.
@@ -456,11 +458,30 @@ pub extern "C" fn spiewomir_session_totals(s: SessionNumbers) -> TotalsResult
 }
 
 // ---- The sync text and its log
+const NO_GEOMETRY: GeometryNumbers = GeometryNumbers {
+    bw: 0,
+    bh: 0,
+    sw: 0,
+    sh: 0,
+    x: 0,
+    y: 0,
+    fw: 0,
+    fh: 0,
+};
+
 #[no_mangle]
 pub extern "C" fn spiewomir_text(text: &[u8], words: &mut [i16]) -> TextResult
     ensures { λ r. ⌜ TextGiven (now (text .entry)) (now (words .entry)) r (now (words .exit)) ⌝ }
 {
     match read_text(text, words) {
+        TextReply::NoPicture => TextResult {
+            refusal: 0,
+            place: 0,
+            rule: 0,
+            geometry: NO_GEOMETRY,
+            lines: 0,
+            empty: 1,
+        },
         TextReply::Read(t) => {
             let numbers = t.numbers;
             TextResult {
@@ -469,32 +490,26 @@ pub extern "C" fn spiewomir_text(text: &[u8], words: &mut [i16]) -> TextResult
                 rule: 0,
                 geometry: numbers_to_c(numbers),
                 lines: t.lines,
+                empty: 0,
             }
         }
         TextReply::Refused(r) => TextResult {
             refusal: r.number,
             place: r.place,
             rule: r.rule,
-            geometry: GeometryNumbers {
-                bw: 0,
-                bh: 0,
-                sw: 0,
-                sh: 0,
-                x: 0,
-                y: 0,
-                fw: 0,
-                fh: 0,
-            },
+            geometry: NO_GEOMETRY,
             lines: 0,
+            empty: 0,
         },
     }
 }
 
-// A written log, with the text's refusal.
+// A written log, with the text's refusal, and whether there is no picture.
 fn written_result(l: Logged) -> LogResult
-    ensures { λ r. ⌜ r ≡ writtenResult (l .bytes) (l .verdict) ⌝ }
+    ensures { λ r. ⌜ r ≡ writtenResult (l .bytes) (l .verdict) (l .empty) ⌝ }
 {
     let bytes = l.bytes;
+    let empty = flag(l.empty);
     let verdict = l.verdict;
     match verdict {
         Verdict::Accepted => LogResult {
@@ -503,6 +518,7 @@ fn written_result(l: Logged) -> LogResult
             place: 0,
             rule: 0,
             bytes,
+            empty,
         },
         Verdict::Refused(r) => LogResult {
             refusal: 0,
@@ -510,6 +526,7 @@ fn written_result(l: Logged) -> LogResult
             place: r.place,
             rule: r.rule,
             bytes,
+            empty,
         },
     }
 }
@@ -526,6 +543,7 @@ pub extern "C" fn spiewomir_log(text: &[u8], out: &mut [u8]) -> LogResult
             place: 0,
             rule: 0,
             bytes: 0,
+            empty: 0,
         },
     }
 }

@@ -55,6 +55,7 @@ fn log_of(text: &[u8], out: &mut [u8]) -> Logged
         LogReply::Refused(_) => Logged {
             bytes: 0,
             verdict: Verdict::Accepted,
+            empty: false,
         },
     }
 }
