@@ -23,7 +23,7 @@ pub belongs : {t : List ℕ} (n : Numbers) (es : List Entry) → Text n es t →
 belongs n es h = record { numbers = n; entries = es; text = h }
 
 -- a text of the grammar has bytes: its first line, behind notes
-has-bytes : {t : List ℕ} {n : Numbers} {es : List Entry} → Text n es t → 0 < length t
+pub has-bytes : {t : List ℕ} {n : Numbers} {es : List Entry} → Text n es t → 0 < length t
 has-bytes x = by (x .heads) (x .parts)
   where
     by : {k : Kind} {ks : List Kind} {vs : List ℤ} {top bottom t : List ℕ} → Heads (k ∷ ks) vs top → t ≡ top ++ bottom → 0 < length t
@@ -98,12 +98,12 @@ same-read : {u v : TextRead} → Read u ≡ Read v → u ≡ v
 same-read e = cc
 
 -- what a reading says of its text
-abbrev Had : List ℕ → Reading → Type 0
+abbrev pub Had : List ℕ → Reading → Type 0
 Had t empty = length t ≡ 0
 Had t (notRead r) = r .number ≡ 9 → 0 < length t
 Had t (readAs n entries) = BelongsAs t (record { numbers = n; lines = length entries })
 
-had : {t : List ℕ} {v : Reading} → Reads t v → Had t v
+pub had : {t : List ℕ} {v : Reading} → Reads t v → Had t v
 had (noBytes l) = l
 had (tooLong l) = λ e. omega arith
 had (broken p l b) = λ e. p
