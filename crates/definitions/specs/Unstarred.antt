@@ -545,4 +545,7 @@ pub record TextsHold : Type 0 where
   -- A text of no bytes means no picture, leaves the words, and has the log (sync 0 0 0 0).
   pub no-bytes : Reads [] empty
   pub no-bytes-words : (words : List ℤ) → length words ≡ 7722 → TextAnswer [] words NoPicture words
+  -- A line feed alone, or a note, does not mean it.
+  pub line-feed : Reads (10 ∷ []) empty → ⊥
+  pub note-only : Reads (40 ∷ 110 ∷ 111 ∷ 116 ∷ 101 ∷ 41 ∷ 10 ∷ []) empty → ⊥
   pub no-bytes-log : LogOf [] (40 ∷ 115 ∷ 121 ∷ 110 ∷ 99 ∷ 32 ∷ 48 ∷ 32 ∷ 48 ∷ 32 ∷ 48 ∷ 32 ∷ 48 ∷ 41 ∷ 10 ∷ [])
