@@ -221,7 +221,7 @@ said-zero {l = l} (logged {log = log} room found) e r v =
 -- no picture
 flag-one : (b : Bool) → (flag b ≡ 1) ↔ (b ≡ true)
 flag-one true = (λ e. refl, λ e. refl)
-flag-one false = (λ e. absurd (omega (arith, e)), λ e. false≢true e)
+flag-one false = (λ e. absurd (omega (arith, e)), λ e. absurd (false≢true e))
 
 written-empty : (n : ℕ) (v : Verdict) (b : Bool) → (writtenResult n v b .empty ≡ 1) ↔ (b ≡ true)
 written-empty n Accepted b = flag-one b
