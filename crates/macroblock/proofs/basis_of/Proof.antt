@@ -17,7 +17,7 @@ use borrow.Author.Needs.{needs}
 use Rattle.macroblock.proofs.basis_of.Statement.{statement}
 use Rattle.macroblock.proofs.basis_of.Tie as tie
 
--- a product of two numbers of at most four is no more than sixteen
+-- a product of two numbers of at most four fits eight bits
 low : (m n : ℕ) → m ≤ 4 → n ≤ 4 → m * n < 256
 low m n p q = omega (arith, mul-le-mul p q)
 
