@@ -7,7 +7,7 @@
  * input: a refused call leaves every lent word and byte, and what is only read stays;
  * a text's log, its picture, its macroblocks one by one and its session say the same;
  * an answer says what its record says, and names base macroblocks that are there, from
- * which its detail comes. The last line says how many inputs were tried, how often each
+ * which its detail comes and which its four counts are of. The last line says how many inputs were tried, how often each
  * refusal and rule came, and details; the exit status is 0 if all held. */
 #define _DEFAULT_SOURCE
 #include "spiewomir.h"
