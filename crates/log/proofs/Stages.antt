@@ -251,8 +251,8 @@ refusal-logged {t} {out} {mid} {new} {r} {n} room k p =
     by-finding (refuses r) room (k .reads) (k .finding) (λ i. record { bytes = sym (h .0) i; verdict = Refused r; empty = false }) (sym (h .1))
 
 -- there is no picture, and its line is put
-pub empty-kept : {t out mid : List ℕ} {v : Reading} {reply : Found} → Given out (findingOf v) reply mid → reply ≡ NoneFound → (findingOf v ≡ findsNone) × (mid ≡ out)
-empty-kept {v = v} g e = by (findingOf v) g e
+pub empty-kept : {out mid : List ℕ} {reply : Found} (v : Reading) → Given out (findingOf v) reply mid → reply ≡ NoneFound → (findingOf v ≡ findsNone) × (mid ≡ out)
+empty-kept v g e = by (findingOf v) g e
   where
     by : {out mid : List ℕ} {reply : Found} (f : Finding) → Given out f reply mid → reply ≡ NoneFound → (f ≡ findsNone) × (mid ≡ out)
     by findsNone none e = (refl, refl)

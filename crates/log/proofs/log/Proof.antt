@@ -3,7 +3,7 @@ use native.Mathlib.Omega.{arith}
 use mathlib.Core.Path.{refl, ap}
 use lib.ListN.{length}
 use Rattle.definitions.specs.Log.{tooFew}
-use Rattle.log.proofs.Stages.{answered, lines-logged, refusal-kept, refusal-logged}
+use Rattle.log.proofs.Stages.{answered, empty-kept, empty-logged, lines-logged, refusal-kept, refusal-logged}
 use borrow.Author.Needs.{needs}
 use Rattle.log.proofs.log.Statement.{statement}
 use Rattle.log.proofs.log.Tie as tie
@@ -16,6 +16,16 @@ returns c = rw (c .refused .ensures) (answered (tooFew (c .before .if1 .taken)))
 
 text-lines-requires : tie.Need-text-lines-requires
 text-lines-requires c κs = search needs
+
+enum-told : tie.Need-enum-told
+enum-told c = search needs
+
+empty-line-requires : tie.Need-empty-line-requires
+empty-line-requires c κs =
+    let t = c .before .before .before .before .before .text-lines .ensures in
+    let k = empty-kept (t .reading) (t .given) (c .before .enum-told .given .1) in
+    let same = ap length (k .1) in
+    omega arith
 
 enum-known-n : tie.Need-enum-known-n
 enum-known-n c = search needs
@@ -35,14 +45,22 @@ same-length c = search needs
 
 returns-2 : tie.Need-returns-2
 returns-2 c =
-    let t = c .before .before .before .before .before .text-lines .ensures in
-    answered (lines-logged (c .before .before .before .before .before .before .before .if1 .left) (t .reads) refl (t .given) (c .before .n .given .1))
+    let t = c .before .before .before .before .before .before .before .before .text-lines .ensures in
+    answered (empty-logged (c .before .before .before .before .before .before .before .before .before .before .if1 .left) (t .reads) (empty-kept (t .reading) (t .given) (c .before .before .before .before .enum-told .given .1)) (c .before .before .empty-line .ensures))
 
 same-length-2 : tie.Need-same-length-2
 same-length-2 c = search needs
 
 returns-3 : tie.Need-returns-3
 returns-3 c =
+    let t = c .before .before .before .before .before .text-lines .ensures in
+    answered (lines-logged (c .before .before .before .before .before .before .before .if1 .left) (t .reads) refl (t .given) (c .before .n .given .1))
+
+same-length-3 : tie.Need-same-length-3
+same-length-3 c = search needs
+
+returns-4 : tie.Need-returns-4
+returns-4 c =
     let t = c .before .before .before .before .before .before .before .before .before .text-lines .ensures in
     answered (refusal-logged (c .before .before .before .before .before .before .before .before .before .before .before .if1 .left) (refusal-kept (t .reads) refl (t .given) (c .before .before .before .before .before .r .given .1)) (c .before .before .refused-line .ensures))
 
@@ -53,10 +71,14 @@ log-spec =
     refused-requires
     returns
     text-lines-requires
+    enum-told
+    empty-line-requires
     enum-known-n
     enum-known-r
     refused-line-requires
     same-length
     returns-2
     same-length-2
-    returns-3)
+    returns-3
+    same-length-3
+    returns-4)

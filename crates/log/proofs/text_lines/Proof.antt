@@ -18,6 +18,9 @@ slice-aggregate-read-text c = search needs
 read-text-requires : tie.Need-read-text-requires
 read-text-requires c κs = search needs
 
+enum-told : tie.Need-enum-told
+enum-told c = search needs
+
 enum-known-t : tie.Need-enum-known-t
 enum-known-t c = search needs
 
@@ -39,16 +42,19 @@ read-lines-requires c κs = (words-of (c .before .before .before .before) .long,
 enum-known-r : tie.Need-enum-known-r
 enum-known-r c = search needs
 
+returns : tie.Need-returns
+returns c = record { reading = _; reads = empty-read (length-replicate 7722 (pos 0)) (c .before .before .before .read-text .ensures .0) (c .enum-told .given .1); given = none }
+
 same-length : tie.Need-same-length
 same-length c = search needs
 
-returns : tie.Need-returns
-returns c =
+returns-2 : tie.Need-returns-2
+returns-2 c =
     let w = words-of (c .before .before .before .before .before .before .before) in
     record { reading = _; reads = w .reads; given = rw (w .finding) (c .before .before .read-lines .ensures) }
 
-returns-2 : tie.Need-returns-2
-returns-2 c = record { reading = _; reads = refused-read (length-replicate 7722 (pos 0)) (c .before .before .before .before .read-text .ensures .0) (c .before .r .given .1); given = kept }
+returns-3 : tie.Need-returns-3
+returns-3 c = record { reading = _; reads = refused-read (length-replicate 7722 (pos 0)) (c .before .before .before .before .read-text .ensures .0) (c .before .r .given .1); given = kept }
 
 pub text-lines-spec : {M : Type 1} → statement M
 text-lines-spec =
@@ -56,6 +62,7 @@ text-lines-spec =
     (tie.spec
     slice-aggregate-read-text
     read-text-requires
+    enum-told
     enum-known-t
     cast-end
     mul-end
@@ -63,6 +70,7 @@ text-lines-spec =
     slice-aggregate-read-lines
     read-lines-requires
     enum-known-r
-    same-length
     returns
-    returns-2)
+    same-length
+    returns-2
+    returns-3)
