@@ -271,10 +271,10 @@ pub struct Log {
 }
 
 /// The log of a sync text: a line `(mb column row type pieces)` for each
-/// macroblock, then `(sync macroblocks inherited intra outside)`; or only `(sync 0 0
-/// 0 0)` for a text of no bytes; or only `(refused number place)`, by the first of 10
-/// by length, 9, 10 by lines, 1 to 5, and 8 on all records. A refused text has a log
-/// too, so that this is no `Result`.
+/// macroblock, then `(sync macroblocks inherited intra outside)`; or only
+/// `(sync 0 0 0 0)` for a text of no bytes; or only `(refused number place)`, by the
+/// first of 10 by length, 9, 10 by lines, 1 to 5, and 8 on all records. A refused text
+/// has a log too, so that this is no `Result`.
 pub fn log(text: &[u8]) -> Log {
     let mut bytes = vec![0; LOG_BYTES];
     let written = numbers::log(text, &mut bytes);
