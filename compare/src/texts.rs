@@ -231,7 +231,7 @@ impl Texts<'_> {
         let (second, result) = second::log_with_result(text);
         let verdict = log_verdict(result);
         let written = log_numbers(second.len(), verdict);
-        if library != written || library.text_verdict() != verdict {
+        if library != written || library.verdict() != verdict {
             let what = format!("log: library {library:?}, second {written:?}");
             self.differs(text, &what);
         }
@@ -604,7 +604,7 @@ pub fn empty(calls: &mut Calls) {
         }
     }
     let random = &mut Random::new(23);
-    for count in 1..=20 {
+    for count in 1..=8 {
         let notes: String = (0..count).map(|_| note(random)).collect();
         for end in 1..=notes.len() {
             texts.compare(&notes[..end]);

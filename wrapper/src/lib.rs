@@ -281,7 +281,7 @@ pub fn log(text: &[u8]) -> Log {
     Log {
         // Copied, so that the whole block is given back: shrunk, it would keep a page and a mapping of its own.
         bytes: bytes[..written.bytes].to_vec(),
-        verdict: written.text_verdict(),
+        verdict: written.verdict(),
     }
 }
 
@@ -414,9 +414,10 @@ impl numbers::Text {
 }
 
 impl numbers::Log {
-    /// What the log tells of, or the text's refusal. (Where `refusal` is 6 nothing was
-    /// judged.) Panics on numbers that the library's contract excludes.
-    pub fn text_verdict(self) -> Result<Logged, Refusal> {
+    /// What the log tells of, or the refusal: the call's own, with which nothing was
+    /// judged, else the text's. Panics on numbers that the library's contract excludes.
+    pub fn verdict(self) -> Result<Logged, Refusal> {
+        verdict(self.refusal, 0, 0)?;
         verdict(self.text_refusal, self.place, self.rule)?;
         Ok(match self.empty {
             0 => Logged::Picture,

@@ -72,6 +72,7 @@ fn its_log() {
         ..numbers::Log::default()
     };
     assert_eq!(written, expected);
+    assert_eq!(written.verdict(), made.verdict);
     assert_eq!(bytes[..15], *b"(sync 0 0 0 0)\n");
     assert!(bytes[15..].iter().all(|&byte| byte == b'#'));
 }
@@ -85,7 +86,9 @@ fn too_few_bytes() {
             refusal: refused::OUTPUT_LENGTH,
             ..numbers::Log::default()
         };
-        assert_eq!(numbers::log(b"", &mut bytes), expected);
+        let given = numbers::log(b"", &mut bytes);
+        assert_eq!(given, expected);
+        assert_eq!(given.verdict(), Err(refusal(refused::OUTPUT_LENGTH, 0)));
         assert!(bytes.iter().all(|&byte| byte == b'#'));
     }
 }
