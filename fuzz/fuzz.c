@@ -7,9 +7,10 @@
  * input: a refused call leaves every lent word and byte, and what is only read stays;
  * a text's log, its picture, its macroblocks one by one and its session say the same;
  * an answer says what its record says, and names base macroblocks that are there, from
- * which its detail comes. A text of no bytes, and no other, is answered with no picture,
- * whatever is lent with it. The last line says how many inputs were tried, how often each
- * refusal and rule came, and no picture, and details; the exit status is 0 if all held. */
+ * which its detail comes and which its four counts are of. A text of no bytes, and no
+ * other, is answered with no picture, whatever is lent with it. The last line says how
+ * many inputs were tried, how often each refusal and rule came, and no picture, and
+ * details; the exit status is 0 if all held. */
 #define _DEFAULT_SOURCE
 #include "spiewomir.h"
 #include <stdio.h>

@@ -145,8 +145,9 @@ typedef struct {
     uint32_t detail;                 /* word 77 of the written record; 0 outside */
     uint32_t first, right, below, diagonal; /* how many of the sixteen blocks read the base macroblock at
                                                `column` and `row`, the one to its right, the one below it
-                                               and the one below that to the right, before any filling
-                                               from neighbours: 16 together; 0 outside */
+                                               and the one below and to the right, before any filling
+                                               from neighbours: 16 together, 0 for one that the class
+                                               leaves out; all 0 outside */
 } SpiewomirMacroblock;
 
 typedef struct {

@@ -193,7 +193,7 @@ pub struct Fed {
     pub right: u8,
     /// The one below it; 0 where one row is read.
     pub below: u8,
-    /// The one to the right of that below.
+    /// The one below and to the right; 0 unless two columns and two rows are read.
     pub diagonal: u8,
 }
 

@@ -60,7 +60,8 @@ pub struct Macroblock {
     pub right: u32,
     /// The one below it.
     pub below: u32,
-    /// The one below that to the right. Outside all four are 0.
+    /// The one below and to the right. A macroblock that the class leaves out has 0; outside
+    /// all four are 0.
     pub diagonal: u32,
 }
 

@@ -17,11 +17,11 @@ use Rattle.definitions.specs.declared.AxisStep.{AxisStep}
 use Rattle.definitions.specs.Accepted.{AcceptedAxis, AcceptedAxes, Inside}
 use Rattle.definitions.specs.Basics.{pick, howMany, four}
 use Rattle.definitions.specs.Geometry.{baseSize, scaledSize, insideAxis, inside, cOf, fOf, twoOf, columnsRead, sampleOf}
-use Rattle.definitions.specs.BlockMap.{coordinateOf, columnOf, across, down, addressRead, stepOf}
+use Rattle.definitions.specs.BlockMap.{coordinateOf, columnOf, fallsIn, across, down, addressRead, stepOf}
 use Rattle.definitions.specs.Raster.{baseAddress}
 use Rattle.definitions.specs.Record.{recordAt, isIntra}
 use Rattle.definitions.specs.Inheriting.{readsIntra, blocksReadingIntra}
-use Rattle.definitions.specs.Fed.{readsAt, blocksReading, fedAt, sumFed, firstColumn, firstRow, fallsIn, FallsRight, intraAt, FedRight, FedEntire}
+use Rattle.definitions.specs.Fed.{readsAt, blocksReading, fedAt, sumFed, firstColumn, firstRow, FallsRight, intraAt, FedRight, FedEntire}
 use Rattle.definitions.proofs.Choices.{both-true, four-at}
 use Rattle.definitions.proofs.Accepted.{inside-axis, across-inside, down-inside}
 use Rattle.definitions.proofs.Map.{read-column, read-named, named-read}
@@ -160,38 +160,18 @@ module _ (a : Axis) (x : ℕ) (accepted : AcceptedAxis a) (within : insideAxis a
   abbrev in-column : ℕ → ℕ → Bool
   in-column y i = eqb (columnOf (coordinateOf b s c i)) y
 
-  falls-is : (y : ℕ) → fallsIn (stepOf a (sampleOf x)) y ≡ howMany 4 (in-column y)
+  falls-is : (y : ℕ) → fallsIn (stepOf a (sampleOf x) .reads) y ≡ howMany 4 (in-column y)
   unfolding howMany stepOf
   falls-is y = refl
 
-  pub falls-right : FallsRight a x
-  unfolding stepOf columnsRead pick
-  falls-right =
-      record {
-        first = sym (falls-is (fOf b s c));
-        one = λ t. all-many 4 (in-column (fOf b s c)) (λ i h. eq-eqb _ _ (⊎-elim (λ e. e) (λ e. cc (sym t ∙ e .0)) (read-column b s c inside-here i h)));
-        two = λ t. (
-          let r = named-read b s c inside-here (first-named t) in
-              some-low 4 (in-column (fOf b s c)) (r .0) (r .1) (eq-eqb _ _ (r .2)),
-          let r = named-read b s c inside-here (second-named t) in
-              omega (arith, some-missing 4 (in-column (fOf b s c)) (r .0) (r .1) (ne-eqb (columnOf (coordinateOf b s c (r .0))) (fOf b s c) (λ e. absurd (omega (arith, r .2))))),
-        );
-      }
-    where
-      first-named : twoOf b s c ≡ true → List·Memᴰ (fOf b s c) (columnsRead (fOf b s c) (twoOf b s c))
-      first-named t = rw t (List·Memᴰ·head refl)
-
-      second-named : twoOf b s c ≡ true → List·Memᴰ (fOf b s c + 1) (columnsRead (fOf b s c) (twoOf b s c))
-      second-named t = rw t (List·Memᴰ·tail (List·Memᴰ·head refl))
-
   -- a column is named where some block falls in it
-  falls-named : (y : ℕ) → 1 ≤ fallsIn (stepOf a (sampleOf x)) y → List·Memᴰ y (columnsRead (stepOf a (sampleOf x) .first) (stepOf a (sampleOf x) .two))
+  falls-named : (y : ℕ) → 1 ≤ fallsIn (stepOf a (sampleOf x) .reads) y → List·Memᴰ y (columnsRead (stepOf a (sampleOf x) .first) (stepOf a (sampleOf x) .two))
   unfolding stepOf
   falls-named y h =
       let r = some-at 4 (in-column y) (omega (arith, falls-is y)) in
       subst (λ (z : ℕ). List·Memᴰ z (columnsRead (fOf b s c) (twoOf b s c))) (eqb-true _ _ (r .2)) (read-named b s c inside-here (r .0) (r .1))
 
-  named-falls : (y : ℕ) → List·Memᴰ y (columnsRead (stepOf a (sampleOf x) .first) (stepOf a (sampleOf x) .two)) → 1 ≤ fallsIn (stepOf a (sampleOf x)) y
+  named-falls : (y : ℕ) → List·Memᴰ y (columnsRead (stepOf a (sampleOf x) .first) (stepOf a (sampleOf x) .two)) → 1 ≤ fallsIn (stepOf a (sampleOf x) .reads) y
   unfolding stepOf
   named-falls y m =
       let r = named-read b s c inside-here m in
@@ -205,7 +185,7 @@ module _ (a : Axis) (x : ℕ) (accepted : AcceptedAxis a) (within : insideAxis a
       ⊎-elim (λ q. inl (ap columnOf e ∙ q)) (λ q. inr (ap columnOf e ∙ q .1)) (read-column b s c inside-here i h)
 
   -- so each block falls in one of the two
-  falls-all : fallsIn (stepOf a (sampleOf x)) (stepOf a (sampleOf x) .first) + fallsIn (stepOf a (sampleOf x)) (stepOf a (sampleOf x) .first + 1) ≡ 4
+  falls-all : fallsIn (stepOf a (sampleOf x) .reads) (stepOf a (sampleOf x) .first) + fallsIn (stepOf a (sampleOf x) .reads) (stepOf a (sampleOf x) .first + 1) ≡ 4
   unfolding stepOf pick
   falls-all =
       let p = one-of-two 4 (in-column (fOf b s c)) (in-column (fOf b s c + 1)) (λ i h. either i (⊎-elim (λ e. inl e) (λ e. inr (e .1)) (read-column b s c inside-here i h))) in
@@ -215,16 +195,40 @@ module _ (a : Axis) (x : ℕ) (accepted : AcceptedAxis a) (within : insideAxis a
       either i (inl e) = rw (eq-eqb _ _ e, ne-eqb (columnOf (coordinateOf b s c i)) (fOf b s c + 1) (λ q. absurd (omega arith)))
       either i (inr e) = rw (eq-eqb _ _ e, ne-eqb (columnOf (coordinateOf b s c i)) (fOf b s c) (λ q. absurd (omega arith)))
 
+  pub falls-right : FallsRight (stepOf a (sampleOf x))
+  unfolding stepOf columnsRead howMany pick
+  falls-right =
+      record {
+        one = λ t. all-many 4 (in-column (fOf b s c)) (λ i h. eq-eqb _ _ (⊎-elim (λ e. e) (λ e. cc (sym t ∙ e .0)) (read-column b s c inside-here i h)));
+        two = λ t. (
+          let r = named-read b s c inside-here (first-named t) in
+              some-low 4 (in-column (fOf b s c)) (r .0) (r .1) (eq-eqb _ _ (r .2)),
+          let r = named-read b s c inside-here (second-named t) in
+              omega (arith, some-missing 4 (in-column (fOf b s c)) (r .0) (r .1) (ne-eqb (columnOf (coordinateOf b s c (r .0))) (fOf b s c) (λ e. absurd (omega (arith, r .2))))),
+        );
+        rest = falls-all;
+      }
+    where
+      first-named : twoOf b s c ≡ true → List·Memᴰ (fOf b s c) (columnsRead (fOf b s c) (twoOf b s c))
+      first-named t = rw t (List·Memᴰ·head refl)
+
+      second-named : twoOf b s c ≡ true → List·Memᴰ (fOf b s c + 1) (columnsRead (fOf b s c) (twoOf b s c))
+      second-named t = rw t (List·Memᴰ·tail (List·Memᴰ·head refl))
+
 -- the step's count, by which it says whether two columns are read
 module _ (a : Axis) (x : ℕ) (accepted : AcceptedAxis a) (within : insideAxis a (sampleOf x) ≡ true) where
   abbrev step : AxisStep
   step = stepOf a (sampleOf x)
 
-  pub falls-next : fallsIn step (step .first + 1) ≡ 4 - step .falls
-  falls-next = omega (arith, falls-all a x accepted within, falls-right a x accepted within .first)
+  pub falls-first : step .falls ≡ fallsIn (step .reads) (step .first)
+  unfolding stepOf
+  falls-first = refl
+
+  pub falls-next : fallsIn (step .reads) (step .first + 1) ≡ 4 - step .falls
+  falls-next = omega (arith, falls-right a x accepted within .rest)
 
   pub falls-low : step .falls ≤ 4
-  falls-low = omega (arith, falls-all a x accepted within, falls-right a x accepted within .first)
+  falls-low = omega (arith, falls-right a x accepted within .rest)
 
   pub two-by-falls : step .two ≡ not (eqb (step .falls) 4)
   two-by-falls = go (step .two) refl
@@ -256,7 +260,7 @@ module _ (g : Axes) (column row : ℕ) where
   abbrev v : AxisStep
   v = stepOf (g .vertical) (sampleOf row)
 
-  pub reading-product : (x y : ℕ) → blocksReading g column row x y ≡ fallsIn h x * fallsIn v y
+  pub reading-product : (x y : ℕ) → blocksReading g column row x y ≡ fallsIn (h .reads) x * fallsIn (v .reads) y
   unfolding blocksReading
   reading-product x y = product-is (λ i. eqb (columnOf (getD (h .reads) i 0)) x) (λ i. eqb (columnOf (getD (v .reads) i 0)) y)
 
@@ -270,7 +274,7 @@ module _ (g : Axes) (column row : ℕ) where
         let p = falls-all (g .horizontal) column (accepted .horizontal) (both .0) in
         let q = falls-all (g .vertical) row (accepted .vertical) (both .1) in
         (λ i. reading-product (h .first) (v .first) i + reading-product (h .first + 1) (v .first) i + reading-product (h .first) (v .first + 1) i + reading-product (h .first + 1) (v .first + 1) i)
-        ∙ sixteen (fallsIn h (h .first)) (fallsIn h (h .first + 1)) (fallsIn v (v .first)) (fallsIn v (v .first + 1)) p q
+        ∙ sixteen (fallsIn (h .reads) (h .first)) (fallsIn (h .reads) (h .first + 1)) (fallsIn (v .reads) (v .first)) (fallsIn (v .reads) (v .first + 1)) p q
       where
         sixteen : (a b c d : ℕ) → a + b ≡ 4 → c + d ≡ 4 → a * c + b * c + a * d + b * d ≡ 16
         sixteen a b c d p q =
@@ -279,10 +283,10 @@ module _ (g : Axes) (column row : ℕ) where
 
     fed-named : (x y : ℕ) → (1 ≤ blocksReading g column row x y) ↔ (List·Memᴰ x (columnsRead (h .first) (h .two)) × List·Memᴰ y (columnsRead (v .first) (v .two)))
     fed-named x y = (
-      λ l. let p = both-low (fallsIn h x) (fallsIn v y) (subst (λ (n : ℕ). 1 ≤ n) (reading-product x y) l) in
+      λ l. let p = both-low (fallsIn (h .reads) x) (fallsIn (v .reads) y) (subst (λ (n : ℕ). 1 ≤ n) (reading-product x y) l) in
           (falls-named (g .horizontal) column (accepted .horizontal) (both .0) x (p .0), falls-named (g .vertical) row (accepted .vertical) (both .1) y (p .1)),
       λ m. subst (λ (n : ℕ). 1 ≤ n) (sym (reading-product x y))
-          (product-low (fallsIn h x) (fallsIn v y) (named-falls (g .horizontal) column (accepted .horizontal) (both .0) x (m .0)) (named-falls (g .vertical) row (accepted .vertical) (both .1) y (m .1))),
+          (product-low (fallsIn (h .reads) x) (fallsIn (v .reads) y) (named-falls (g .horizontal) column (accepted .horizontal) (both .0) x (m .0)) (named-falls (g .vertical) row (accepted .vertical) (both .1) y (m .1))),
     )
 
     fed-intra : (base : List ℤ)

@@ -101,7 +101,7 @@ said-refused q =
     record {
       refused = λ r e. ap refusedLine (same-refusal e);
       accepted = λ e r s. let z : _≡_ {A = ℕ} 0 1 = cc in omega arith;
-      no-picture = ((λ e. false≢true e), (λ e. absurd (empty-differs q (sym e))));
+      no-picture = ((λ e. absurd (false≢true e)), (λ e. absurd (empty-differs q (sym e))));
     }
 
 -- what is accepted has a picture of one macroblock or more
@@ -110,7 +110,7 @@ said-by Accepted n base some =
     record {
       refused = λ r e. absurd (let z : _≡_ {A = ℕ} 0 1 = cc in omega arith);
       accepted = λ e. lines-differ (axesOf n) base;
-      no-picture = ((λ e. false≢true e), (λ e. absurd (made-differ (axesOf n) base (some refl) e)));
+      no-picture = ((λ e. absurd (false≢true e)), (λ e. absurd (made-differ (axesOf n) base (some refl) e)));
     }
 said-by (Refused q) n base some = said-refused q
 

@@ -159,7 +159,7 @@ lines-differ g base r e = no-r g base (upTo (fullCount g) (λ a. a)) (ap (λ (l 
 -- nor that of no picture, which is the line of no picture made
 pub empty-differs : (r : Refusal) → emptyLine ≡ refusedLine r → ⊥
 unfolding emptyLine refusedLine lineOf
-empty-differs r e = let z : 115 ≡ 114 = ap (λ (l : List ℕ). getD l 1 0) e in omega (arith, z)
+empty-differs r e = let z : _≡_ {A = ℕ} 115 114 = ap (λ (l : List ℕ). getD l 1 0) e in omega (arith, z)
 
 no-s : (g : Axes) (base : List ℤ) (l : List ℕ) → 0 < length l → getD (forEach l (macroblockLine g base) ++ syncLine g base) 1 0 ≡ 115 → ⊥
 unfolding macroblockLine lineOf

@@ -70,6 +70,9 @@ long l (broken p h b) = absurd (omega arith)
 long l (tooMany h x m) = refl
 long l (read h x m) = absurd (omega arith)
 
+no-more : {c : ℕ} {t : List ℕ} → Reads (c ∷ t) empty → ⊥
+no-more (noBytes h) = omega (arith, h)
+
 wrong : {t : List ℕ} {words new : List ℤ} {reply : TextReply} → (length words ≡ recordWords * textRecords → ⊥) → TextAnswer t words reply new → reply ≡ NotRead (refusal 6)
 wrong n (wrongWords m) = refl
 wrong n (noPicture e x) = absurd (n e)
@@ -101,7 +104,9 @@ texts-hold = record {
   right-bytes = λ t log out found l. logged (omega arith) found;
   few-bytes = λ t out new reply l x. few l x;
   letters = letters;
-  no-bytes = noBytes refl;
-  no-bytes-words = λ words l. noPicture (omega arith) (noBytes refl);
-  no-bytes-log = record { reading = empty; reads = noBytes refl; is = refl };
+  no-bytes = noBytes (omega arith);
+  no-bytes-words = λ words l. noPicture (omega arith) (noBytes (omega arith));
+  line-feed = λ x. no-more x;
+  note-only = λ x. no-more x;
+  no-bytes-log = record { reading = empty; reads = noBytes (omega arith); is = refl };
 }

@@ -72,10 +72,11 @@ answerDetail a = answerBasis a .detail
 abbrev pub answerFed : Answer → Fed
 answerFed a = record { first = answerBasis a .first; right = answerBasis a .right; below = answerBasis a .below; diagonal = answerBasis a .diagonal }
 
--- the same answer with other bits; outside there are none
+-- the same with other bits
 abbrev withDetail : ℕ → Basis → Basis
 withDetail d b = record { origin = b .origin; detail = d; first = b .first; right = b .right; below = b .below; diagonal = b .diagonal }
 
+-- the same answer with other bits; outside there are none
 abbrev pub withBits : ℕ → Answer → Answer
 withBits d Outside = Outside
 withBits d (Intra b) = Intra (withDetail d b)

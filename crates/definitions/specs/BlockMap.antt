@@ -84,7 +84,11 @@ columnOf q = q / 4
 abbrev pub blockIn : ℕ → ℕ
 blockIn q = q % 4
 
--- all that an axis gives for the macroblock at sample P (falls, of document 02's E5: how many of its four blocks fall in the first column or row)
+-- how many of the four blocks along an axis, by the coordinates that they read, fall in column (row) x (document 02, E5)
+abbrev pub fallsIn : List ℕ → ℕ → ℕ
+fallsIn reads x = howMany 4 (λ i. eqb (columnOf (getD reads i 0)) x)
+
+-- all that an axis gives for the macroblock at sample P, and with E5 how many of its four blocks fall in the first column or row
 unfoldable pub stepOf : Axis → ℕ → AxisStep
 stepOf a p =
     let b = baseSize a in
@@ -97,7 +101,7 @@ stepOf a p =
       first = fOf b s c;
       two = twoOf b s c;
       reads = four (coordinateOf b s c);
-      falls = howMany 4 (λ i. eqb (columnOf (coordinateOf b s c i)) (fOf b s c));
+      falls = fallsIn (four (coordinateOf b s c)) (fOf b s c);
     }
 
 -- Both axes: block i of 0..15 of the macroblock at a column and row, in raster order. The coordinates that it reads

@@ -7,20 +7,19 @@ use mathlib.Core.List.{List, List·Memᴰ}
 use mathlib.Core.Logic.{_↔_}
 use lib.Dec.{eqb}
 use lib.IntN.{ℤ}
-use lib.ListN.{getD}
 use Rattle.definitions.specs.declared.Axis.{Axis}
 use Rattle.definitions.specs.declared.Axes.{Axes}
 use Rattle.definitions.specs.declared.AxisStep.{AxisStep}
 use Rattle.definitions.specs.Basics.{pick, howMany}
 use Rattle.definitions.specs.Geometry.{columnsRead, insideAxis, inside, sampleOf}
 use Rattle.definitions.specs.Accepted.{AcceptedAxis, AcceptedAxes}
-use Rattle.definitions.specs.BlockMap.{columnOf, across, down, stepOf}
+use Rattle.definitions.specs.BlockMap.{columnOf, fallsIn, across, down, stepOf}
 use Rattle.definitions.specs.Raster.{baseAddress}
 use Rattle.definitions.specs.Record.{recordAt, isIntra}
 use Rattle.definitions.specs.Inheriting.{blocksReadingIntra}
 
 -- Block i reads the base macroblock at column x and row y: its coordinates divided by 4 are x and y. (Not by address: in a base one macroblock wide those to the right and
--- below are the same.)
+-- below have one address.)
 abbrev pub readsAt : Axes → ℕ → ℕ → ℕ → ℕ → ℕ → Bool
 readsAt g column row x y i = eqb (columnOf (across g column i)) x && eqb (columnOf (down g row i)) y
 
@@ -55,15 +54,11 @@ fedAt g column row =
 abbrev pub sumFed : Fed → ℕ
 sumFed f = f .first + f .right + f .below + f .diagonal
 
--- How many of an axis' four blocks fall in column (row) x; its step says it of the first.
-abbrev pub fallsIn : AxisStep → ℕ → ℕ
-fallsIn s x = howMany 4 (λ i. eqb (columnOf (getD (s .reads) i 0)) x)
-
-pub record FallsRight (a : Axis) (x : ℕ) : Type 0 where
-  pub first : stepOf a (sampleOf x) .falls ≡ fallsIn (stepOf a (sampleOf x)) (stepOf a (sampleOf x) .first)
-  -- 4 where one is read, 1 to 3 where two are
-  pub one : stepOf a (sampleOf x) .two ≡ false → stepOf a (sampleOf x) .falls ≡ 4
-  pub two : stepOf a (sampleOf x) .two ≡ true → (1 ≤ stepOf a (sampleOf x) .falls) × (stepOf a (sampleOf x) .falls ≤ 3)
+-- What holds of an axis step's count: 4 where one column (row) is read, 1 to 3 where two are, and the rest fall in the next
+pub record FallsRight (s : AxisStep) : Type 0 where
+  pub one : s .two ≡ false → s .falls ≡ 4
+  pub two : s .two ≡ true → (1 ≤ s .falls) × (s .falls ≤ 3)
+  pub rest : s .falls + fallsIn (s .reads) (s .first + 1) ≡ 4
 
 -- 1 where the base macroblock at column x and row y is intra, else 0
 abbrev pub intraAt : Axes → List ℤ → ℕ → ℕ → ℕ
@@ -73,13 +68,13 @@ intraAt g base x y = pick (isIntra (recordAt base (baseAddress g x y))) 1 0
 pub record FedRight (g : Axes) (column row : ℕ) : Type 0 where
   -- they sum to sixteen;
   pub sum : sumFed (fedAt g column row) ≡ 16
-  -- a macroblock that the class leaves out has 0, and one that it names at least 1;
+  -- a macroblock that the class leaves out has 0, and one that it names at least 1 (the class says which columns and rows are read: proofs/Map: `class-columns`, `class-rows`);
   pub named : (x y : ℕ)
       → (1 ≤ blocksReading g column row x y)
       ↔ (List·Memᴰ x (columnsRead (firstColumn g column) (stepOf (g .horizontal) (sampleOf column) .two)) × List·Memᴰ y (columnsRead (firstRow g row) (stepOf (g .vertical) (sampleOf row) .two)))
   -- each is the product of what falls in its column and in its row;
   pub products : (x y : ℕ)
-      → blocksReading g column row x y ≡ fallsIn (stepOf (g .horizontal) (sampleOf column)) x * fallsIn (stepOf (g .vertical) (sampleOf row)) y
+      → blocksReading g column row x y ≡ fallsIn (stepOf (g .horizontal) (sampleOf column) .reads) x * fallsIn (stepOf (g .vertical) (sampleOf row) .reads) y
   -- the number of blocks that read intra macroblocks is the sum of the counts of the intra ones among the four.
   pub intra : (base : List ℤ)
       → blocksReadingIntra g base column row
@@ -88,5 +83,5 @@ pub record FedRight (g : Axes) (column row : ℕ) : Type 0 where
 
 -- for every accepted geometry, both axes by one law
 pub record FedEntire : Type 0 where
-  pub axes : (a : Axis) (x : ℕ) → AcceptedAxis a → insideAxis a (sampleOf x) ≡ true → FallsRight a x
+  pub axes : (a : Axis) (x : ℕ) → AcceptedAxis a → insideAxis a (sampleOf x) ≡ true → FallsRight (stepOf a (sampleOf x))
   pub counts : (g : Axes) (column row : ℕ) → AcceptedAxes g → inside g column row ≡ true → FedRight g column row

@@ -349,7 +349,7 @@ unstarred =
     (record { reply = Answered Outside; words = words (pos 5) noSub (both (minus 1) (minus 1)) (allBlocks (block 0 0 0 0)) })
     -- What fed a macroblock (document 02, E5). In a base one macroblock wide: twelve of its blocks read base 0 and four the one below it, base 1, whose address is that to the right of base 0 too.
     ∷ call (by (axisWith (pos 16) (pos 16) (pos 16) (pos 48)) (axisWith (pos 48) (pos 86) (pos 30) (pos 64))) (noMotion ++ (noMotion ++ noMotion)) (pos 1) (pos 3) 78
-    (record { reply = Answered (Intra (record { origin = record { class = Hori; column = 0; row = 0 }; detail = 0; first = 12; right = 0; below = 4; diagonal = 0 })); words = noMotion })
+    (record { reply = Answered (Intra (ofClass Hori 0 0 (fed 12 0 4 0))); words = noMotion })
     -- Limits of a geometry, each on both sides: B, E,
     ∷ geometry (withAcross (pos 16) (pos 16) (pos 0) (pos 16)) 0
     ∷ geometry (withAcross (pos 4096) (pos 4096) (pos 0) (pos 16)) 0
@@ -545,4 +545,7 @@ pub record TextsHold : Type 0 where
   -- A text of no bytes means no picture, leaves the words, and has the log (sync 0 0 0 0).
   pub no-bytes : Reads [] empty
   pub no-bytes-words : (words : List ℤ) → length words ≡ 7722 → TextAnswer [] words NoPicture words
+  -- A line feed alone, or a note, does not mean it.
+  pub line-feed : Reads (10 ∷ []) empty → ⊥
+  pub note-only : Reads (40 ∷ 110 ∷ 111 ∷ 116 ∷ 101 ∷ 41 ∷ 10 ∷ []) empty → ⊥
   pub no-bytes-log : LogOf [] (40 ∷ 115 ∷ 121 ∷ 110 ∷ 99 ∷ 32 ∷ 48 ∷ 32 ∷ 48 ∷ 32 ∷ 48 ∷ 32 ∷ 48 ∷ 41 ∷ 10 ∷ [])

@@ -1,6 +1,6 @@
-// The block map: the coordinates that the four blocks along an axis read.
+// The block map: the coordinates that the four blocks along an axis read, and how many of these lie in a column (row).
 ghost use Prim.Native.Nat.{_*_, _+_, _<_, _≤_};
-ghost use Rattle.definitions.specs.BlockMap.{columnOf, digitsOf};
+ghost use Rattle.definitions.specs.BlockMap.{columnOf, digitsOf, fallsIn};
 ghost use Rattle.definitions.specs.Geometry.{even};
 ghost use Rattle.definitions.specs.Basics.{four, howMany, pick};
 ghost use Rattle.geometry.specs.Step.{Complete, decimals};
@@ -73,7 +73,7 @@ fn falls(q: u32, f: u32) -> u32
 
 // How many of the four blocks that read these coordinates fall in column (row) f (document 02, E5).
 pub fn falls_in(q: [u32; 4], f: u32) -> u32
-    ensures { λ r. ⌜ (r ≡ howMany 4 (λ i. eqb (columnOf (getD q i 0)) f)) × (r ≤ 4) ⌝ }
+    ensures { λ r. ⌜ (r ≡ fallsIn q f) × (r ≤ 4) ⌝ }
 {
     falls(q[0], f) + falls(q[1], f) + falls(q[2], f) + falls(q[3], f)
 }

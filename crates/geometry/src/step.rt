@@ -42,7 +42,7 @@ pub fn is_inside(a: Axis, p: EnhancementSample) -> bool
     (o <= x) & (x + 16 <= o + a.scaled.0 as i32)
 }
 
-// All that the axis gives for the macroblock at P: steps 1 to 5, then the block map (003, 3.3.2.1, Table 3), and of its four blocks how many fall in the first column.
+// All that the axis gives for the macroblock at P: steps 1 to 5, then the block map (003, 3.3.2.1, Table 3), and of its four blocks how many fall in the first column (row).
 pub fn axis_step(a: Axis, p: EnhancementSample) -> AxisStep
     requires { ⌜ AtSample a (p .0) × (insideAxis a (p .0) ≡ true) ⌝ }
     ensures { λ r. ⌜ r ≡ stepOf a (p .0) ⌝ }

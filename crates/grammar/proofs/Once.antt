@@ -23,12 +23,11 @@ pub belongs : {t : List ℕ} (n : Numbers) (es : List Entry) → Text n es t →
 belongs n es h = record { numbers = n; entries = es; text = h }
 
 -- a text of the grammar has bytes: its first line, behind notes
-has-bytes : {t : List ℕ} {n : Numbers} {es : List Entry} → Text n es t → 0 < length t
-has-bytes x = by (x .heads) (x .parts)
-  where
-    by : {k : Kind} {ks : List Kind} {vs : List ℤ} {top bottom t : List ℕ} → Heads (k ∷ ks) vs top → t ≡ top ++ bottom → 0 < length t
-    by {bottom = bottom} (head {n = n} {u = u} notes (isByte {t = l} f) rest) e =
-        omega (arith, ap length e, length-append (n ++ ((40 ∷ l) ++ u)) bottom, length-append n ((40 ∷ l) ++ u))
+line-bytes : {k : Kind} {ks : List Kind} {vs : List ℤ} {top : List ℕ} → Heads (k ∷ ks) vs top → 0 < length top
+line-bytes (head {n = n} {u = u} notes (isByte {t = l} f) rest) = omega (arith, length-append n ((40 ∷ l) ++ u))
+
+pub has-bytes : {t : List ℕ} {n : Numbers} {es : List Entry} → Text n es t → 0 < length t
+has-bytes x = let h = line-bytes (x .heads) in omega (arith, h, ap length (x .parts), length-append (x .top) (x .bottom))
 
 -- a text is read in one way
 pub reads-once : {t : List ℕ} {u v : Reading} → Reads t u → Reads t v → u ≡ v
@@ -98,12 +97,12 @@ same-read : {u v : TextRead} → Read u ≡ Read v → u ≡ v
 same-read e = cc
 
 -- what a reading says of its text
-abbrev Had : List ℕ → Reading → Type 0
+abbrev pub Had : List ℕ → Reading → Type 0
 Had t empty = length t ≡ 0
 Had t (notRead r) = r .number ≡ 9 → 0 < length t
 Had t (readAs n entries) = BelongsAs t (record { numbers = n; lines = length entries })
 
-had : {t : List ℕ} {v : Reading} → Reads t v → Had t v
+pub had : {t : List ℕ} {v : Reading} → Reads t v → Had t v
 had (noBytes l) = l
 had (tooLong l) = λ e. omega arith
 had (broken p l b) = λ e. p
@@ -126,7 +125,7 @@ same-refusal : {r s : Refusal} → Refused r ≡ Refused s → r ≡ s
 same-refusal e = cc
 
 nine-as : {t : List ℕ} {words new : List ℤ} {reply : TextReply} {r : Refusal} → TextAnswer t words reply new → reply ≡ Refused r → r .number ≡ 9 → 0 < length t
-nine-as (wrongWords n) h e = let six : 6 ≡ 9 = ap (λ (s : Refusal). s .number) (same-refusal h) ∙ e in absurd (omega (arith, six))
+nine-as (wrongWords n) h e = let six : _≡_ {A = ℕ} 6 9 = ap (λ (s : Refusal). s .number) (same-refusal h) ∙ e in absurd (omega (arith, six))
 nine-as (noPicture f x) h e = absurd (let z : _≡_ {A = ℕ} 0 1 = cc in omega arith)
 nine-as (refused f x) h e = had x (ap (λ (s : Refusal). s .number) (same-refusal h) ∙ e)
 nine-as (given f x) h e = absurd (let z : _≡_ {A = ℕ} 0 1 = cc in omega arith)

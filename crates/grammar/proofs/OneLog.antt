@@ -16,7 +16,7 @@ use Rattle.definitions.specs.Text.{Entry, textBytes, baseOf, Reading, empty, no
 use Rattle.definitions.specs.Log.{findingBy, findingOf, LogOf, logFor, verdictFor, emptyFor, programTests, pictureLines, emptyLine, refusedLine, Demand2Log, Demand2Empty, Demand2Entire}
 use Rattle.definitions.proofs.Lines.{lines-differ, empty-differs, refused-number}
 use Rattle.definitions.proofs.Findings.{refused-by, number-of, said-by-log}
-use Rattle.grammar.proofs.Once.{Had, had, reads-once, demand2-text}
+use Rattle.grammar.proofs.Once.{had, has-bytes, reads-once, demand2-text}
 
 pub one-log : {t v w : List ℕ} → LogOf t v → LogOf t w → v ≡ w
 one-log x y = x .is ∙ (ap (λ (r : Reading). logFor (findingOf r)) (reads-once (x .reads) (y .reads)) ∙ sym (y .is))
@@ -59,7 +59,7 @@ demand2-log t n entries x l k log found =
     }
 
 -- and of the empty text
-none-found : {t : List ℕ} (v : Reading) → Reads t v → emptyFor (findingOf v) ≡ true → length t ≡ 0
+pub none-found : {t : List ℕ} (v : Reading) → Reads t v → emptyFor (findingOf v) ≡ true → length t ≡ 0
 none-found empty x e = had x
 none-found (notRead r) x e = absurd (false≢true e)
 none-found (readAs n entries) x e = absurd (false≢true (sym (never n entries) ∙ e))
@@ -70,6 +70,12 @@ none-found (readAs n entries) x e = absurd (false≢true (sym (never n entries) 
         by : (v : Verdict) → emptyFor (findingBy v (pictureLines (axesOf n) (baseOf entries))) ≡ false
         by Accepted = refl
         by (Refused r) = refl
+
+-- refusal 9 is never that of a text of no bytes
+pub nine-found : {t : List ℕ} (v : Reading) {r : Refusal} → Reads t v → verdictFor (findingOf v) ≡ Refused r → r .number ≡ 9 → 0 < length t
+nine-found empty x e n = absurd (let z : _≡_ {A = ℕ} 0 1 = cc in omega arith)
+nine-found (notRead q) {r} x e n = let z : q ≡ r = cc in had x (ap (λ (s : Refusal). s .number) z ∙ n)
+nine-found (readAs m entries) x e n = has-bytes (had x .text)
 
 no-length : (t : List ℕ) → length t ≡ 0 → t ≡ []
 no-length [] e = refl

@@ -1,6 +1,7 @@
 -- From what is found of a text to what the log's functions hand back. Assumes nothing.
 use Prim.Native.Nat.{ℕ, _*_, _≤_, _<_}
 use mathlib.Core.Path.{_≡_, refl, sym, ap, subst, _∙_}
+use mathlib.Core.Bool.{true, false}
 use mathlib.Core.List.{List, [], _∷_, _++_}
 use native.Mathlib.Nat.{zero-add}
 use native.Mathlib.Omega.{arith}
@@ -16,30 +17,30 @@ use Rattle.definitions.specs.declared.Verdict.{Verdict}
 use Rattle.definitions.specs.declared.Verdict.the-variants.{Accepted, Refused}
 use Rattle.definitions.specs.declared.TextRead.{TextRead}
 use Rattle.definitions.specs.declared.TextReply.{TextReply}
-use Rattle.definitions.specs.declared.TextReply.the-variants.{Read, Refused as NotRead}
+use Rattle.definitions.specs.declared.TextReply.the-variants.{NoPicture, Read, Refused as NotRead}
 use Rattle.definitions.specs.declared.Logged.{Logged}
 use Rattle.definitions.specs.declared.LogReply.{LogReply}
 use Rattle.definitions.specs.declared.LogReply.the-variants.{Written, Refused as NotWritten}
-use Rattle.definitions.specs.Basics.{allOf}
+use Rattle.definitions.specs.Basics.{pick, allOf}
 use Rattle.definitions.specs.Geometry.{axesOf}
 use Rattle.definitions.specs.Record.{recordWords, narrow}
 use Rattle.definitions.specs.Refusals.{refusal, verdictOf, geometryTests, geometryVerdict, recordTests, allAddresses}
-use Rattle.definitions.specs.Text.{Entry, baseOf, textRecords, Reading, notRead, readAs, Reads, tooLong, broken, tooMany, read, TextAnswer, wrongWords, refused, given}
-use Rattle.definitions.specs.Log.{Finding, refuses, makes, findingBy, programTests, judged, findingOf, pictureLines, LogOf, logFor, lineOf, refusedWord, refusedLine, logBytes, verdictFor, LogAnswer, tooFew, logged, SaidByLog}
+use Rattle.definitions.specs.Text.{Entry, baseOf, textRecords, Reading, empty, notRead, readAs, Reads, noBytes, tooLong, broken, tooMany, read, TextAnswer, wrongWords, noPicture, refused, given}
+use Rattle.definitions.specs.Log.{Finding, findsNone, refuses, makes, findingBy, programTests, judged, findingOf, digitsIn, decimal, pictureLines, LogOf, logFor, lineOf, syncWord, refusedWord, emptyLine, refusedLine, logBytes, verdictFor, emptyFor, LogAnswer, tooFew, logged, SaidByLog}
 use Rattle.definitions.proofs.Choices.{of-true}
 use Rattle.definitions.proofs.Verdicts.{both-passed}
 use Rattle.definitions.proofs.Accepted.{accepted-axes}
 use Rattle.definitions.proofs.Lines.{digits5, refused-short}
 use Rattle.definitions.proofs.Findings.{numbers-wrong, count-wrong, count-right, RefusedBy, by-number, by-record, refused-by, verdict-by, said-by-log}
 use Rattle.grammar.proofs.Words.{text-words}
-use Rattle.grammar.proofs.OneLog.{demand2, one-verdict}
+use Rattle.grammar.proofs.OneLog.{demand2, one-verdict, one-empty, none-found, nine-found}
 use Rattle.definitions.specs.Accepted.{AcceptedAxes}
 use Rattle.definitions.specs.Raster.{baseCount}
 use Rattle.log_lines.specs.Put.{Fits, Put}
 use Rattle.log_picture.proofs.Growing.{picture-short}
 use Rattle.log.specs.declared.Found.{Found}
-use Rattle.log.specs.declared.Found.the-variants.{Made, Refused as Declined}
-use Rattle.log.specs.Given.{Given, kept, lines}
+use Rattle.log.specs.declared.Found.the-variants.{NoPicture as NoneFound, Made, Refused as Declined}
+use Rattle.log.specs.Given.{Given, none, kept, lines}
 use Rattle.log.specs.Promised.{AsJudged, LogPromised}
 
 -- ---- bytes put from the buffer's start on
@@ -51,6 +52,10 @@ put-first out log new n l p =
 pub refused-room : (out : List ℕ) (a b : ℕ) → 31 ≤ length out → a ≤ 65536 → b ≤ 65536 → Fits out 0 (lineOf refusedWord (a ∷ b ∷ []))
 unfolding lineOf
 refused-room out a b room p q = simp length-append (omega (arith, digits5 a (omega arith), digits5 b (omega arith)))
+
+pub empty-room : (out : List ℕ) → 31 ≤ length out → Fits out 0 (lineOf syncWord (0 ∷ 0 ∷ 0 ∷ 0 ∷ []))
+unfolding lineOf
+empty-room out room = simp length-append (omega (arith, digits5 0 (omega arith)))
 
 -- ---- what is given by a verdict
 module _ (out log : List ℕ) (v : Verdict) where
@@ -101,6 +106,7 @@ pub record ReadWords (t : List ℕ) (n : Numbers) (count : ℕ) (words : List �
 pub words-read : {t : List ℕ} {old words : List ℤ} {reply : TextReply} {u : TextRead} → length old ≡ recordWords * textRecords
     → TextAnswer t old reply words → reply ≡ Read u → ReadWords t (u .numbers) (u .lines) words
 words-read e (wrongWords d) q = absurd (d e)
+words-read e (noPicture f x) q = absurd (let z : _≡_ {A = ℕ} 0 1 = cc in omega arith)
 words-read e (refused f x) q = absurd (let z : _≡_ {A = ℕ} 0 1 = cc in omega arith)
 words-read {t} {old} {u = u} e (given {n = m} {entries = entries} f (read l x k)) q =
     let same : record { numbers = m; lines = length entries } ≡ u = cc in
@@ -121,8 +127,16 @@ words-read {t} {old} {u = u} e (given {n = m} {entries = entries} f (read l x k)
 pub refused-read : {t : List ℕ} {old words : List ℤ} {reply : TextReply} {r : Refusal} → length old ≡ recordWords * textRecords
     → TextAnswer t old reply words → reply ≡ NotRead r → Reads t (notRead r)
 refused-read e (wrongWords d) q = absurd (d e)
+refused-read e (noPicture f x) q = absurd (let z : _≡_ {A = ℕ} 0 1 = cc in omega arith)
 refused-read {t} {r = r} e (refused {r = s} f x) q = let z : s ≡ r = cc in subst (λ (s : Refusal). Reads t (notRead s)) z x
 refused-read e (given f x) q = absurd (let z : _≡_ {A = ℕ} 0 1 = cc in omega arith)
+
+pub empty-read : {t : List ℕ} {old words : List ℤ} {reply : TextReply} → length old ≡ recordWords * textRecords
+    → TextAnswer t old reply words → reply ≡ NoPicture → Reads t empty
+empty-read e (wrongWords d) q = absurd (d e)
+empty-read e (noPicture f x) q = x
+empty-read e (refused f x) q = absurd (let z : _≡_ {A = ℕ} 0 1 = cc in omega arith)
+empty-read e (given f x) q = absurd (let z : _≡_ {A = ℕ} 0 1 = cc in omega arith)
 
 -- ---- the log
 -- a refusal's numbers are small
@@ -143,8 +157,9 @@ by-low l (by-number {k = k} m) = (ltb-true k 100 (of-true (λ x. ltb x 100) (1 �
 by-low l (by-record h) = (omega arith, omega arith)
 
 reads-low : {t : List ℕ} {v : Reading} {r : Refusal} → Reads t v → findingOf v ≡ refuses r → Low r
+reads-low (noBytes l) e = absurd (let z : _≡_ {A = ℕ} 0 1 = cc in omega arith)
 reads-low {r = r} (tooLong l) e = let z : refusal 10 ≡ r = cc in subst Low z (omega arith, omega arith)
-reads-low {r = r} (broken {place = p} l b) e =
+reads-low {r = r} (broken {place = p} i l b) e =
     let w = b .within in
     let z : record { number = 9; place = p; rule = 0 } ≡ r = cc in
     subst Low z (omega arith, omega arith)
@@ -153,8 +168,13 @@ reads-low {r = r} (read {n = n} {entries = entries} l x k) e =
     by-low k (refused-by (length entries) n (baseOf entries) r (finding-refused (verdictOf (programTests n (length entries) (baseOf entries))) (pictureLines (axesOf n) (baseOf entries)) r e))
 
 -- every log fits
+empty-short : length emptyLine ≤ logBytes
+unfolding emptyLine lineOf decimal digitsIn pick
+empty-short = omega arith
+
 finding-short : (v : Reading) {log : List ℕ} → findingOf v ≡ makes log → length log ≤ logBytes
 unfolding programTests
+finding-short empty e = absurd (let z : _≡_ {A = ℕ} 0 1 = cc in omega arith)
 finding-short (notRead r) e = absurd (let z : _≡_ {A = ℕ} 0 1 = cc in omega arith)
 finding-short (readAs n entries) {log} e =
     let h = finding-made (verdictOf (programTests n (length entries) (baseOf entries))) (pictureLines (axesOf n) (baseOf entries)) log e in
@@ -165,6 +185,7 @@ pub log-fits : {t log : List ℕ} → LogOf t log → length log ≤ logBytes
 log-fits h = subst (λ (o : List ℕ). length o ≤ logBytes) (sym (h .is)) (by (findingOf (h .reading)) refl)
   where
     by : (f : Finding) → findingOf (h .reading) ≡ f → length (logFor f) ≤ logBytes
+    by findsNone e = empty-short
     by (refuses r) e = let l = reads-low (h .reads) e in omega (arith, refused-short r (l .0) (l .1))
     by (makes made) e = finding-short (h .reading) e
 
@@ -175,7 +196,9 @@ promised (tooFew l) = λ h. omega (arith, l, h)
 promised {t} {out} (logged {log = log} room h) =
     let first = sym (take-at log (drop (length log) out) (length log) refl) in
     record {
-      said = subst (SaidByLog _) first (said-by-log h);
+      said = subst (SaidByLog _ _) first (said-by-log h);
+      no-bytes = (none-found (h .reading) (h .reads), λ l. one-empty h (record { reading = empty; reads = noBytes l; is = refl }));
+      nine = λ r e n. nine-found (h .reading) (h .reads) e n;
       as-judged = λ n entries x l k. subst (AsJudged n entries _) first (record {
         verdict-is = one-verdict h (record { reading = readAs n entries; reads = read l x k; is = refl }) ∙ verdict-by (verdictOf (programTests n (length entries) (baseOf entries))) _;
         refused-only = demand2 .log t n entries x l k log h;
@@ -187,20 +210,21 @@ answered a = (a, promised a)
 
 -- the log of a finding, with its verdict
 by-finding : {t out new : List ℕ} {v : Reading} (f : Finding) {l : Logged} → logBytes ≤ length out → Reads t v → findingOf v ≡ f
-    → record { bytes = length (logFor f); verdict = verdictFor f } ≡ l → logFor f ++ drop (length (logFor f)) out ≡ new → LogAnswer t out (Written l) new
+    → record { bytes = length (logFor f); verdict = verdictFor f; empty = emptyFor f } ≡ l → logFor f ++ drop (length (logFor f)) out ≡ new → LogAnswer t out (Written l) new
 by-finding {t} {out} {new} {v} f room x is a b =
     subst (λ (l : Logged). LogAnswer t out (Written l) new) a
-    (subst (λ (w : Verdict). LogAnswer t out (Written (record { bytes = length (logFor f); verdict = w })) new) (ap verdictFor is)
-    (subst (λ (n : List ℕ). LogAnswer t out (Written (record { bytes = length (logFor f); verdict = verdictFor (findingOf v) })) n) b
+    (subst (λ (g : Finding). LogAnswer t out (Written (record { bytes = length (logFor f); verdict = verdictFor g; empty = emptyFor g })) new) is
+    (subst (λ (n : List ℕ). LogAnswer t out (Written (record { bytes = length (logFor f); verdict = verdictFor (findingOf v); empty = emptyFor (findingOf v) })) n) b
     (logged room (record { reading = v; reads = x; is = sym (ap logFor is) }))))
 
 -- lines were given
 pub lines-logged : {t out new : List ℕ} {v : Reading} {f : Finding} {reply : Found} {n : ℕ} → logBytes ≤ length out
-    → Reads t v → findingOf v ≡ f → Given out f reply new → reply ≡ Made n → LogAnswer t out (Written (record { bytes = n; verdict = Accepted })) new
+    → Reads t v → findingOf v ≡ f → Given out f reply new → reply ≡ Made n → LogAnswer t out (Written (record { bytes = n; verdict = Accepted; empty = false })) new
+lines-logged room x is none e = absurd (let z : _≡_ {A = ℕ} 0 1 = cc in omega arith)
 lines-logged room x is kept e = absurd (let z : _≡_ {A = ℕ} 0 1 = cc in omega arith)
 lines-logged {n = n} room x is (lines {log = log}) e =
     let z : length log ≡ n = cc in
-    by-finding (makes log) room x is (λ i. record { bytes = z i; verdict = Accepted }) refl
+    by-finding (makes log) room x is (λ i. record { bytes = z i; verdict = Accepted; empty = false }) refl
 
 -- a refusal was given, and its line is put
 pub record Kept (t out : List ℕ) (r : Refusal) (mid : List ℕ) : Type 0 where
@@ -212,6 +236,7 @@ pub record Kept (t out : List ℕ) (r : Refusal) (mid : List ℕ) : Type 0 where
 
 pub refusal-kept : {t out mid : List ℕ} {v : Reading} {f : Finding} {reply : Found} {r : Refusal} → Reads t v → findingOf v ≡ f → Given out f reply mid
     → reply ≡ Declined r → Kept t out r mid
+refusal-kept x is none e = absurd (let z : _≡_ {A = ℕ} 0 1 = cc in omega arith)
 refusal-kept {v = v} {r = r} x is (kept {r = s}) e =
     let q : s ≡ r = cc in
     let found : findingOf v ≡ refuses r = is ∙ ap refuses q in
@@ -219,11 +244,26 @@ refusal-kept {v = v} {r = r} x is (kept {r = s}) e =
 refusal-kept x is lines e = absurd (let z : _≡_ {A = ℕ} 0 1 = cc in omega arith)
 
 pub refusal-logged : {t out mid new : List ℕ} {r : Refusal} {n : ℕ} → logBytes ≤ length out → Kept t out r mid → Put mid 0 (refusedLine r) new n
-    → LogAnswer t out (Written (record { bytes = n; verdict = Refused r })) new
+    → LogAnswer t out (Written (record { bytes = n; verdict = Refused r; empty = false })) new
 refusal-logged {t} {out} {mid} {new} {r} {n} room k p =
     let l = refused-short r (k .low .0) (k .low .1) in
     let h = put-first out (refusedLine r) new n (omega arith) (subst (λ (o : List ℕ). Put o 0 (refusedLine r) new n) (k .same) p) in
-    by-finding (refuses r) room (k .reads) (k .finding) (λ i. record { bytes = sym (h .0) i; verdict = Refused r }) (sym (h .1))
+    by-finding (refuses r) room (k .reads) (k .finding) (λ i. record { bytes = sym (h .0) i; verdict = Refused r; empty = false }) (sym (h .1))
+
+-- there is no picture, and its line is put
+pub empty-kept : {t out mid : List ℕ} {v : Reading} {reply : Found} → Given out (findingOf v) reply mid → reply ≡ NoneFound → (findingOf v ≡ findsNone) × (mid ≡ out)
+empty-kept {v = v} g e = by (findingOf v) g e
+  where
+    by : {out mid : List ℕ} {reply : Found} (f : Finding) → Given out f reply mid → reply ≡ NoneFound → (f ≡ findsNone) × (mid ≡ out)
+    by findsNone none e = (refl, refl)
+    by (refuses r) kept e = absurd (let z : _≡_ {A = ℕ} 0 1 = cc in omega arith)
+    by (makes log) lines e = absurd (let z : _≡_ {A = ℕ} 0 1 = cc in omega arith)
+
+pub empty-logged : {t out mid new : List ℕ} {v : Reading} {n : ℕ} → logBytes ≤ length out → Reads t v → (findingOf v ≡ findsNone) × (mid ≡ out) → Put mid 0 emptyLine new n
+    → LogAnswer t out (Written (record { bytes = n; verdict = Accepted; empty = true })) new
+empty-logged {t} {out} {mid} {new} {v} {n} room x k p =
+    let h = put-first out emptyLine new n (omega (arith, empty-short)) (subst (λ (o : List ℕ). Put o 0 emptyLine new n) (k .1) p) in
+    by-finding findsNone room x (k .0) (λ i. record { bytes = sym (h .0) i; verdict = Accepted; empty = true }) (sym (h .1))
 
 -- with room for every log it is written, and lies in the buffer
 pub never-refused : {A : Type 0} {t out new : List ℕ} {reply : LogReply} {r : Refusal} → logBytes ≤ length out → LogAnswer t out reply new → reply ≡ NotWritten r → A
@@ -233,7 +273,7 @@ never-refused room (logged l h) e = absurd (let z : _≡_ {A = ℕ} 0 1 = cc in 
 within-by : {t out new : List ℕ} {reply : LogReply} {l : Logged} → LogAnswer t out reply new → reply ≡ Written l → l .bytes ≤ length new
 within-by (tooFew l) e = absurd (let z : _≡_ {A = ℕ} 0 1 = cc in omega arith)
 within-by {out = out} {l = l} (logged {log = log} room h) e =
-    let w : record { bytes = length log; verdict = verdictFor (findingOf (h .reading)) } ≡ l = cc in
+    let w : record { bytes = length log; verdict = verdictFor (findingOf (h .reading)); empty = emptyFor (findingOf (h .reading)) } ≡ l = cc in
     let z : length log ≡ l .bytes = ap (λ (k : Logged). k .bytes) w in
     omega (arith, length-append log (drop (length log) out))
 

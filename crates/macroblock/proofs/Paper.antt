@@ -14,17 +14,17 @@ use Rattle.common.specs.declared.counts.Sort.{Sort}
 use Rattle.common.specs.declared.counts.Sort.the-variants.{Inherited as SortInherited, Intra as SortIntra, Outside as SortOutside}
 use Rattle.definitions.specs.Basics.{pick}
 use Rattle.definitions.specs.Geometry.{classOf, insideAxis, inside, sampleOf}
-use Rattle.definitions.specs.BlockMap.{stepOf, addressRead, blockRead}
+use Rattle.definitions.specs.BlockMap.{fallsIn, stepOf, addressRead, blockRead}
 use Rattle.definitions.specs.Inheriting.{chosen, gathered, inheritedMotions, intraSet, mostlyIntra, motionAt}
 use Rattle.definitions.specs.Record.{laidOut}
 use Rattle.definitions.specs.Detail.{detailAt, quadrantDetail}
-use Rattle.definitions.specs.Fed.{blocksReading, fallsIn, fedAt}
+use Rattle.definitions.specs.Fed.{blocksReading, fedAt}
 use Rattle.definitions.specs.Answer.{Made, answerOf, basisAt, dividedBy, madeOf, originAt, withoutMotion, writtenFor}
 use Rattle.common.specs.Sorts.{sortOf}
 use Rattle.definitions.specs.Accepted.{AcceptedAxes}
 use Rattle.definitions.proofs.Accepted.{across-inside, down-inside}
 use Rattle.definitions.proofs.Choices.{yes, no, and-intro, both-true}
-use Rattle.definitions.proofs.Fed.{falls-next, falls-right, reading-product, two-by-falls}
+use Rattle.definitions.proofs.Fed.{falls-first, falls-next, reading-product, two-by-falls}
 use Rattle.details.specs.Bits.{detailBy}
 use Rattle.macroblock.proofs.Reading.{first-column}
 use Rattle.definitions.proofs.Answers.{made-outside}
@@ -68,7 +68,7 @@ module _ (g : Axes) (accepted : AcceptedAxes g) (column row : ℕ) (base : List 
   both e = both-true (insideAxis (g .horizontal) (sampleOf column)) (insideAxis (g .vertical) (sampleOf row)) e
 
   -- a count, from what falls in its column and in its row
-  count-same : {m n : ℕ} (x y : ℕ) → fallsIn (stepOf (g .horizontal) (sampleOf column)) x ≡ m → fallsIn (stepOf (g .vertical) (sampleOf row)) y ≡ n → blocksReading g column row x y ≡ m * n
+  count-same : {m n : ℕ} (x y : ℕ) → fallsIn (stepOf (g .horizontal) (sampleOf column) .reads) x ≡ m → fallsIn (stepOf (g .vertical) (sampleOf row) .reads) y ≡ n → blocksReading g column row x y ≡ m * n
   count-same x y p q = reading-product g column row x y ∙ (λ i. p i * q i)
 
   pub origin-same : inside g column row ≡ true → originAt g column row ≡ originBy hor ver
@@ -84,8 +84,8 @@ module _ (g : Axes) (accepted : AcceptedAxes g) (column row : ℕ) (base : List 
   unfolding basisAt fedAt detailAt quadrantDetail detailBy addressRead blockRead
   basis-same e =
       let o = origin-same e in
-      let h = falls-right (g .horizontal) column (accepted .horizontal) (both e .0) .first in
-      let v = falls-right (g .vertical) row (accepted .vertical) (both e .1) .first in
+      let h = falls-first (g .horizontal) column (accepted .horizontal) (both e .0) in
+      let v = falls-first (g .vertical) row (accepted .vertical) (both e .1) in
       let k = falls-next (g .horizontal) column (accepted .horizontal) (both e .0) in
       let l = falls-next (g .vertical) row (accepted .vertical) (both e .1) in
       λ i. record {

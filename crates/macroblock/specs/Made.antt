@@ -44,7 +44,7 @@ nowhere = record { reads = 65535 ∷ 65535 ∷ 65535 ∷ 65535 ∷ []; halves = 
 unfoldable pub readOf : Axis → ℕ → AxisRead
 readOf a x = pick (insideAxis a (sampleOf x)) (readIn (stepOf a (sampleOf x))) nowhere
 
--- two columns (rows) are read: not all four blocks fall in the first
+-- inside, two columns (rows) are read: not all four blocks fall in the first
 abbrev pub twoRead : AxisRead → Bool
 twoRead r = not (eqb (r .falls) 4)
 

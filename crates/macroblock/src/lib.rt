@@ -345,7 +345,7 @@ fn quadrant_made(
 }
 
 // ---- The answer
-// Two columns (rows) are read: not all four blocks fall in the first (`two-by-falls`).
+// Inside, two columns (rows) are read: not all four blocks fall in the first (`two-by-falls`).
 pub fn is_two(r: AxisRead) -> bool
     ensures { λ t. ⌜ t ≡ twoRead r ⌝ }
 {
@@ -362,7 +362,7 @@ fn origin_of(h: AxisRead, v: AxisRead) -> Origin
     }
 }
 
-// With the detail that a written record says. What fed a macroblock is products: the blocks that fall in a column, in each row that falls in a row (`reading-product`).
+// With the detail that a written record says. Each count is a product: how many of the four columns of blocks fall in its column, times how many of the four rows fall in its row (`reading-product`).
 fn basis_of(h: AxisRead, v: AxisRead, out: &[i16]) -> Basis
     requires { ⌜ (length (now out) ≡ recordWords) × (rule7 (now out) ≡ true) × (h .falls ≤ 4) × (v .falls ≤ 4) ⌝ }
     ensures { λ r. ⌜ r ≡ basisWith h v (natAbs (detailOf (now (out .entry)))) ⌝ }

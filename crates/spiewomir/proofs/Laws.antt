@@ -1,8 +1,8 @@
 -- The laws of the C definitions (specs/Laws): numbers there and back, classes, refusal 0, and the session over every list of calls. Assumes nothing.
 use Prim.Native.Nat.{ℕ, zero, suc, _≤_}
 use mathlib.Core.Path.{_≡_, refl, sym, ap, subst, _∙_}
-use mathlib.Core.Logic.{_↔_}
-use mathlib.Core.Bool.{Bool, true, false}
+use mathlib.Core.Logic.{_↔_, _⊎_, inl, inr}
+use mathlib.Core.Bool.{Bool, true, false, false≢true}
 use mathlib.Core.List.{List, [], _∷_, _++_}
 use native.Mathlib.Omega.{arith}
 use lib.Dec.{eqb, ltb}
@@ -23,7 +23,7 @@ use Rattle.definitions.specs.declared.PictureReply.{PictureReply}
 use Rattle.definitions.specs.declared.PictureReply.the-variants.{Counted, Refused as NotMade}
 use Rattle.definitions.specs.declared.TextRead.{TextRead}
 use Rattle.definitions.specs.declared.TextReply.{TextReply}
-use Rattle.definitions.specs.declared.TextReply.the-variants.{Read}
+use Rattle.definitions.specs.declared.TextReply.the-variants.{NoPicture, Read, Refused as NotRead}
 use Rattle.definitions.specs.declared.Logged.{Logged}
 use Rattle.definitions.specs.declared.LogReply.{LogReply}
 use Rattle.definitions.specs.declared.LogReply.the-variants.{Written}
@@ -34,8 +34,8 @@ use Rattle.definitions.specs.Refusals.{Test, refusal, verdictOf, geometryTests,
 use Rattle.definitions.specs.Calls.{Outcome, byVerdict, noCounts, countsOf, sumOf, macroblockTests, pictureTests, macroblockCall, pictureCall}
 use Rattle.definitions.specs.Session.{Call, begin, next, abandon, totals, State, fresh, begun, totalsOf, onwardTests, beginTests, beginVerdict, abandonVerdict, callAtNext, nextCall, ifAccepted, Exchange, beginGave, nextGave, abandonGave, totalsGave, exchange, stateNext, stateAfter, madeSince, sound}
 use Rattle.definitions.specs.Session.{advanced as advancedState}
-use Rattle.definitions.specs.Text.{Reading, notRead, readAs, Reads, tooLong, broken, tooMany, read, baseOf, TextAnswer, wrongWords, refused, given}
-use Rattle.definitions.specs.Log.{lineOf, refusedWord, refusedLine, findingOf, verdictFor, programTests, pictureLines, LogAnswer, tooFew, logged}
+use Rattle.definitions.specs.Text.{Reading, empty, notRead, readAs, Reads, noBytes, tooLong, broken, tooMany, read, baseOf, TextAnswer, wrongWords, noPicture, refused, given}
+use Rattle.definitions.specs.Log.{lineOf, refusedWord, refusedLine, findingOf, verdictFor, emptyFor, programTests, pictureLines, LogAnswer, tooFew, logged}
 use Rattle.definitions.proofs.Choices.{of-true}
 use Rattle.definitions.proofs.Verdicts.{EachGives, given-by, reply-refused}
 use Rattle.definitions.proofs.RecordLists.{records-give}
@@ -50,13 +50,13 @@ use Rattle.spiewomir.specs.declared.AdvancedResult.{AdvancedResult}
 use Rattle.spiewomir.specs.Results.{numbersFromC, classNumber, macroblockResult, pictureResult}
 use Rattle.spiewomir.specs.Sessions.{flag, sessionFromC, sessionToC, judgedResult, sessionAfter, advancedResult, totalsResult, totalsGives}
 use Rattle.spiewomir.specs.Texts.{textResult, logResult, writtenResult}
-use Rattle.spiewomir.specs.Laws.{ThereAndBack, ClassesDiffer, ZeroWhenAnswered, LogLine, judged, advanced, told, callInC, handedOn, throughC, sessionAfterC, stateToC, exchangeInC, countsFromC, SessionInC}
+use Rattle.spiewomir.specs.Laws.{ThereAndBack, ClassesDiffer, ZeroWhenAnswered, EmptyWhenNoPicture, LogLine, judged, advanced, told, callInC, handedOn, throughC, sessionAfterC, stateToC, exchangeInC, countsFromC, SessionInC}
 
 -- ---- The log's line
 pub log-line : LogLine
 unfolding refusedLine
 log-line l log said r e =
-    let k = ap (writtenResult (l .bytes)) e in (
+    let k = ap (λ (v : Verdict). writtenResult (l .bytes) v (l .empty)) e in (
       said .refused r e ∙ (λ i. lineOf refusedWord (sym k i .text ∷ sym k i .place ∷ [])),
       (λ i. k i .rule),
     )
@@ -142,9 +142,9 @@ verdict-zero : (s : SessionNumbers) (v : Verdict) (after : Session) → ((r : Re
 verdict-zero s Accepted after h = (λ e. refl, λ w. refl)
 verdict-zero s (Refused r) after h = (λ e. absurd (h r refl e), λ w. absurd (let z : _≡_ {A = ℕ} 0 1 = cc in omega arith))
 
-written-zero : (n : ℕ) (v : Verdict) → ((r : Refusal) → v ≡ Refused r → NotZero r) → (writtenResult n v .text ≡ 0) ↔ (v ≡ Accepted)
-written-zero n Accepted h = (λ e. refl, λ w. refl)
-written-zero n (Refused r) h = (λ e. absurd (h r refl e), λ w. absurd (let z : _≡_ {A = ℕ} 0 1 = cc in omega arith))
+written-zero : (n : ℕ) (v : Verdict) (b : Bool) → ((r : Refusal) → v ≡ Refused r → NotZero r) → (writtenResult n v b .text ≡ 0) ↔ (v ≡ Accepted)
+written-zero n Accepted b h = (λ e. refl, λ w. refl)
+written-zero n (Refused r) b h = (λ e. absurd (h r refl e), λ w. absurd (let z : _≡_ {A = ℕ} 0 1 = cc in omega arith))
 
 call-zero : (n : Numbers) (base : List ℤ) (column row : ℤ) (words : List ℤ) (r : Refusal) → macroblockCall narrow n base column row words .reply ≡ Declined r → NotZero r
 call-zero n base column row words r e = given-by NotZero (macroblockTests narrow n base column row words) (of-macroblock n base column row words) r (declined narrow n base column row words r e)
@@ -177,27 +177,34 @@ next-zero s base words = declined-by (verdictOf (onwardTests s)) words (callAtNe
 
 -- texts
 not-read-zero : {t : List ℕ} {v : Reading} {r : Refusal} → Reads t v → v ≡ notRead r → NotZero r
+not-read-zero (noBytes l) e = absurd (let z : _≡_ {A = ℕ} 0 1 = cc in omega arith)
 not-read-zero {r = r} (tooLong l) e = let same : refusal 10 ≡ r = cc in subst NotZero same (λ z. omega arith)
-not-read-zero {r = r} (broken {place = p} l b) e = let same : record { number = 9; place = p; rule = 0 } ≡ r = cc in subst NotZero same (λ z. omega arith)
+not-read-zero {r = r} (broken {place = p} i l b) e = let same : record { number = 9; place = p; rule = 0 } ≡ r = cc in subst NotZero same (λ z. omega arith)
 not-read-zero {r = r} (tooMany l x k) e = let same : refusal 10 ≡ r = cc in subst NotZero same (λ z. omega arith)
 not-read-zero (read l x k) e = absurd (let z : _≡_ {A = ℕ} 0 1 = cc in omega arith)
 
-text-zero : {t : List ℕ} {words new : List ℤ} {reply : TextReply} → TextAnswer t words reply new → (textResult reply .refusal ≡ 0) ↔ ((u : TextRead) × (reply ≡ Read u))
-text-zero (wrongWords d) = (λ e. absurd (omega arith), λ w. absurd (let q = w .1 in let z : _≡_ {A = ℕ} 0 1 = cc in omega arith))
-text-zero (refused l x) = (λ e. absurd (not-read-zero x refl e), λ w. absurd (let q = w .1 in let z : _≡_ {A = ℕ} 0 1 = cc in omega arith))
-text-zero (given l x) = (λ e. (_, refl), λ w. refl)
+not-accepted : {r : Refusal} → (NotRead r ≡ NoPicture) ⊎ ((u : TextRead) × (NotRead r ≡ Read u)) → ⊥
+not-accepted (inl e) = let z : _≡_ {A = ℕ} 0 1 = cc in omega arith
+not-accepted (inr w) = let q = w .1 in let z : _≡_ {A = ℕ} 0 1 = cc in omega arith
+
+text-zero : {t : List ℕ} {words new : List ℤ} {reply : TextReply} → TextAnswer t words reply new → (textResult reply .refusal ≡ 0) ↔ ((reply ≡ NoPicture) ⊎ ((u : TextRead) × (reply ≡ Read u)))
+text-zero (wrongWords d) = (λ e. absurd (omega arith), λ w. absurd (not-accepted w))
+text-zero (noPicture l x) = (λ e. inl refl, λ w. refl)
+text-zero (refused l x) = (λ e. absurd (not-read-zero x refl e), λ w. absurd (not-accepted w))
+text-zero (given l x) = (λ e. inr (_, refl), λ w. refl)
 
 log-zero : {t out new : List ℕ} {reply : LogReply} → LogAnswer t out reply new → (logResult reply .refusal ≡ 0) ↔ ((l : Logged) × (reply ≡ Written l))
 log-zero (tooFew l) = (λ e. absurd (omega arith), λ w. absurd (let q = w .1 in let z : _≡_ {A = ℕ} 0 1 = cc in omega arith))
-log-zero (logged {log = log} room found) = (λ e. (_, refl), λ w. refused-none (length log) (verdictFor (findingOf (found .reading))))
+log-zero (logged {log = log} room found) = (λ e. (_, refl), λ w. refused-none (length log) (verdictFor (findingOf (found .reading))) (emptyFor (findingOf (found .reading))))
   where
-    refused-none : (n : ℕ) (v : Verdict) → writtenResult n v .refusal ≡ 0
-    refused-none n Accepted = refl
-    refused-none n (Refused r) = refl
+    refused-none : (n : ℕ) (v : Verdict) (b : Bool) → writtenResult n v b .refusal ≡ 0
+    refused-none n Accepted b = refl
+    refused-none n (Refused r) b = refl
 
 -- the text's refusal that a log says
 finding-zero : {t : List ℕ} (v : Reading) {r : Refusal} → Reads t v → verdictFor (findingOf v) ≡ Refused r → NotZero r
 unfolding allOf
+finding-zero empty {r} x e = absurd (let z : _≡_ {A = ℕ} 0 1 = cc in omega arith)
 finding-zero (notRead q) {r} x e = let same : q ≡ r = cc in not-read-zero x (ap notRead same)
 finding-zero (readAs n entries) {r} x e =
     let v = sym (verdict-by (verdictOf (programTests n (length entries) (baseOf entries))) (pictureLines (axesOf n) (baseOf entries))) ∙ e in
@@ -208,8 +215,25 @@ finding-zero (readAs n entries) {r} x e =
 said-zero : {t out new : List ℕ} {reply : LogReply} {l : Logged} → LogAnswer t out reply new → reply ≡ Written l → (r : Refusal) → l .verdict ≡ Refused r → NotZero r
 said-zero (tooFew h) e r v = absurd (let z : _≡_ {A = ℕ} 0 1 = cc in omega arith)
 said-zero {l = l} (logged {log = log} room found) e r v =
-    let w : record { bytes = length log; verdict = verdictFor (findingOf (found .reading)) } ≡ l = cc in
+    let w : record { bytes = length log; verdict = verdictFor (findingOf (found .reading)); empty = emptyFor (findingOf (found .reading)) } ≡ l = cc in
     finding-zero (found .reading) (found .reads) (ap (λ (k : Logged). k .verdict) w ∙ v)
+
+-- no picture
+flag-one : (b : Bool) → (flag b ≡ 1) ↔ (b ≡ true)
+flag-one true = (λ e. refl, λ e. refl)
+flag-one false = (λ e. absurd (omega (arith, e)), λ e. absurd (false≢true e))
+
+written-empty : (n : ℕ) (v : Verdict) (b : Bool) → (writtenResult n v b .empty ≡ 1) ↔ (b ≡ true)
+written-empty n Accepted b = flag-one b
+written-empty n (Refused r) b = flag-one b
+
+text-empty : (reply : TextReply) → (textResult reply .empty ≡ 1) ↔ (reply ≡ NoPicture)
+text-empty NoPicture = (λ e. refl, λ w. refl)
+text-empty (Read u) = (λ e. absurd (omega (arith, e)), λ w. absurd (let z : _≡_ {A = ℕ} 0 1 = cc in omega arith))
+text-empty (NotRead r) = (λ e. absurd (omega (arith, e)), λ w. absurd (let z : _≡_ {A = ℕ} 0 1 = cc in omega arith))
+
+pub empty-when-no-picture : EmptyWhenNoPicture
+empty-when-no-picture = record { text = text-empty; log = λ l. written-empty (l .bytes) (l .verdict) (l .empty) }
 
 pub zero-when-answered : ZeroWhenAnswered
 zero-when-answered = record {
@@ -220,7 +244,7 @@ zero-when-answered = record {
   abandons = λ s. verdict-zero s (abandonVerdict (stateOf (sessionFromC s))) _ (abandon-zero (stateOf (sessionFromC s)));
   text = λ t words reply new h. text-zero h;
   log = λ t out reply new h. log-zero h;
-  log-text = λ t out l new h. written-zero (l .bytes) (l .verdict) (said-zero h refl);
+  log-text = λ t out l new h. written-zero (l .bytes) (l .verdict) (l .empty) (said-zero h refl);
 }
 
 -- ---- The session over every list of calls

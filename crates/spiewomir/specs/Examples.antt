@@ -17,7 +17,7 @@ use Rattle.definitions.specs.declared.Refusal.{Refusal}
 use Rattle.definitions.specs.declared.Verdict.the-variants.{Accepted, Refused}
 use Rattle.definitions.specs.declared.MacroblockReply.the-variants.{Answered, Refused as Declined}
 use Rattle.definitions.specs.declared.PictureReply.the-variants.{Counted, Refused as NotMade}
-use Rattle.definitions.specs.declared.TextReply.the-variants.{Read, Refused as NotRead}
+use Rattle.definitions.specs.declared.TextReply.the-variants.{NoPicture, Read, Refused as NotRead}
 use Rattle.definitions.specs.declared.LogReply.the-variants.{Written, Refused as NotWritten}
 use Rattle.session.specs.declared.Session.{Session}
 use Rattle.spiewomir.specs.declared.GeometryNumbers.{GeometryNumbers}

@@ -3,7 +3,7 @@ use Prim.Native.Nat.{ℕ, _+_, _*_}
 
 -- major: what a caller had stands for something else now. minor: something is added. patch: neither. The last two are below 100.
 abbrev pub major : ℕ
-major = 4
+major = 5
 
 abbrev pub minor : ℕ
 minor = 0

@@ -323,7 +323,7 @@ fn numbers_to_c(n: Numbers) -> GeometryNumbers
     }
 }
 
-// 1 if it is begun.
+// 1 for true.
 fn flag_of(b: bool) -> u32
     ensures { λ r. ⌜ r ≡ flag b ⌝ }
 {
@@ -509,7 +509,7 @@ fn written_result(l: Logged) -> LogResult
     ensures { λ r. ⌜ r ≡ writtenResult (l .bytes) (l .verdict) (l .empty) ⌝ }
 {
     let bytes = l.bytes;
-    let empty = flag(l.empty);
+    let empty = flag_of(l.empty);
     let verdict = l.verdict;
     match verdict {
         Verdict::Accepted => LogResult {
@@ -553,5 +553,5 @@ pub extern "C" fn spiewomir_log(text: &[u8], out: &mut [u8]) -> LogResult
 pub extern "C" fn spiewomir_version() -> u32
     ensures { λ r. ⌜ r ≡ version ⌝ }
 {
-    40000
+    50000
 }

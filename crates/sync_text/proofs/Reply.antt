@@ -1,6 +1,6 @@
 -- The reply of a text that was read whole, and whose words are stored; and demand 2 of every answer.
-use Prim.Native.Nat.{ℕ, _≤_, _<_, _*_}
-use mathlib.Core.Path.{_≡_}
+use Prim.Native.Nat.{ℕ, zero, suc, _≤_, _<_, _*_}
+use mathlib.Core.Path.{_≡_, refl}
 use mathlib.Core.List.{List}
 use native.Mathlib.Omega.{arith}
 use lib.IntN.{ℤ}
@@ -13,6 +13,10 @@ use Rattle.definitions.specs.Refusals.{refusal}
 use Rattle.definitions.specs.Text.{textBytes, textRecords, tooMany, read, TextAnswer, refused, given, ReadExactly}
 use Rattle.grammar.specs.Readers.{TextIs}
 use Rattle.grammar.proofs.OneLog.{demand2}
+
+pub some-bytes : (n : ℕ) → (n ≡ 0 → ⊥) → 0 < n
+some-bytes zero d = absurd (d refl)
+some-bytes (suc n) d = omega arith
 
 -- an answer with demand 2 of it: the contract's two parts
 pub answered :

@@ -2,8 +2,8 @@
 use mathlib.Core.Path.{sym}
 use lib.IntN.{pos}
 use lib.ListN.{length-replicate}
-use Rattle.log.specs.Given.{kept}
-use Rattle.log.proofs.Stages.{ReadWords, words-read, refused-read}
+use Rattle.log.specs.Given.{none, kept}
+use Rattle.log.proofs.Stages.{ReadWords, words-read, refused-read, empty-read}
 use borrow.Author.Needs.{needs}
 use Rattle.log.proofs.text_lines.Statement.{statement}
 use Rattle.log.proofs.text_lines.Tie as tie

@@ -17,12 +17,9 @@ use borrow.Author.Needs.{needs}
 use Rattle.macroblock.proofs.basis_of.Statement.{statement}
 use Rattle.macroblock.proofs.basis_of.Tie as tie
 
--- of two numbers of at most four, and what they leave of four, each product is sixteen at most
-rest : {n : ℕ} → n ≤ 4 → 4 - n ≤ 4
-rest h = omega arith
-
-all-fit : {m n : ℕ} → m ≤ 4 → n ≤ 4 → (m * n ≤ 16) × ((4 - m) * n ≤ 16) × (m * (4 - n) ≤ 16) × ((4 - m) * (4 - n) ≤ 16) × ((4 - n) * m ≤ 16)
-all-fit p q = (mul-le-mul p q, mul-le-mul (rest p) q, mul-le-mul p (rest q), mul-le-mul (rest p) (rest q), mul-le-mul (rest q) p)
+-- a product of two numbers of at most four fits eight bits
+low : (m n : ℕ) → m ≤ 4 → n ≤ 4 → m * n < 256
+low m n p q = omega (arith, mul-le-mul p q)
 
 small : (r : List ℤ) → rule7 r ≡ true → T (nonNeg (detailOf r)) × (natAbs (detailOf r) < 16)
 unfolding rule7
@@ -41,19 +38,19 @@ cast-t9 c =
     rw (toZ-ofZ {w = w16} {z = detailOf r} (search needs)) (s .0, record { fits = omega (arith, s .1) })
 
 mul-t10 : tie.Need-mul-t10
-mul-t10 c = let p = c .before .before .pre in let fit = all-fit (p .2) (p .3) in omega (arith, p .2, p .3, fit .0, fit .1, fit .2, fit .3, fit .4)
+mul-t10 c = let p = c .before .before .pre in record { fits = low _ _ (omega (arith, p .2, p .3)) (omega (arith, p .2, p .3)) }
 
 sub-t11 : tie.Need-sub-t11
 sub-t11 c = search needs
 
 mul-t12 : tie.Need-mul-t12
-mul-t12 c = let p = c .before .before .pre in let fit = all-fit (p .2) (p .3) in omega (arith, p .2, p .3, fit .0, fit .1, fit .2, fit .3, fit .4)
+mul-t12 c = let p = c .before .before .pre in record { fits = low _ _ (omega (arith, p .2, p .3)) (omega (arith, p .2, p .3)) }
 
 sub-t13 : tie.Need-sub-t13
 sub-t13 c = search needs
 
 mul-t14 : tie.Need-mul-t14
-mul-t14 c = let p = c .before .before .pre in let fit = all-fit (p .2) (p .3) in omega (arith, p .2, p .3, fit .0, fit .1, fit .2, fit .3, fit .4)
+mul-t14 c = let p = c .before .before .pre in record { fits = low _ _ (omega (arith, p .2, p .3)) (omega (arith, p .2, p .3)) }
 
 sub-t15 : tie.Need-sub-t15
 sub-t15 c = search needs
@@ -62,7 +59,7 @@ sub-t16 : tie.Need-sub-t16
 sub-t16 c = search needs
 
 mul-t17 : tie.Need-mul-t17
-mul-t17 c = let p = c .before .before .pre in let fit = all-fit (p .2) (p .3) in omega (arith, p .2, p .3, fit .0, fit .1, fit .2, fit .3, fit .4)
+mul-t17 c = let p = c .before .before .pre in record { fits = low _ _ (omega (arith, p .2, p .3)) (omega (arith, p .2, p .3)) }
 
 returns : tie.Need-returns
 returns c =

@@ -2,12 +2,9 @@
 use Prim.Native.Nat.{ℕ}
 use mathlib.Core.Path.{_≡_, ap, _∙_}
 use native.Mathlib.Omega.{arith}
-use lib.Dec.{eqb}
-use lib.ListN.{getD}
 use borrow.Author.Needs.{needs}
 use Rattle.definitions.specs.Accepted.{Inside}
-use Rattle.definitions.specs.Basics.{howMany}
-use Rattle.definitions.specs.BlockMap.{columnOf, stepOf}
+use Rattle.definitions.specs.BlockMap.{fallsIn, stepOf}
 use Rattle.definitions.specs.Geometry.{baseSize, fOf, kOf, mOf, nOf, roundedOf, scaledSize}
 use Rattle.definitions.proofs.Accepted.{inside-axis}
 use Rattle.definitions.proofs.Map.{f-below}
@@ -96,7 +93,7 @@ falls-in-requires : tie.Need-falls-in-requires
 falls-in-requires c κs = search needs
 
 returns : tie.Need-returns
-unfolding b s mid at stepOf howMany
+unfolding b s mid at stepOf
 returns c =
     let f = c .before .before .before .before in
     let m = f .before in
@@ -110,7 +107,7 @@ returns c =
       first = f-is f i;
       two = f .columns-read .ensures .1 .1 .1 _ _ _ (m-is m) i;
       reads = read i;
-      falls = (c .falls-in .ensures .0 ∙ (λ j. howMany 4 (λ n. eqb (columnOf (getD (read j) n 0)) (f-is f j)))) i;
+      falls = (c .falls-in .ensures .0 ∙ (λ j. fallsIn (read j) (f-is f j))) i;
     })
 
 pub axis-step-spec : {M : Type 1} → statement M
