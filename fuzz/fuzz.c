@@ -24,7 +24,7 @@ static unsigned long long state;
 static unsigned long calls[5];
 static unsigned long refusals[32], rules[8];
 static unsigned long details[3]; /* answers without, and inherited and intra ones with */
-static unsigned long empties[2]; /* text calls and logs of no picture */
+static unsigned long empties; /* inputs answered with no picture */
 
 static unsigned below(unsigned n) {
     state ^= state << 13;
@@ -298,7 +298,6 @@ static void no_bytes(const unsigned char *at, int16_t *words, size_t count) {
     SpiewomirText r = spiewomir_text(at, 0, words, count);
     HOLDS(r.refusal == (count == SPIEWOMIR_TEXT_WORDS ? 0 : SPIEWOMIR_REFUSED_OUTPUT_LENGTH));
     HOLDS(r.empty == (count == SPIEWOMIR_TEXT_WORDS));
-    empties[0] += r.empty;
     r.refusal = r.empty = 0;
     HOLDS(memcmp(&r, &zeros, sizeof r) == 0);
     HOLDS(memcmp(words, before, count * sizeof(int16_t)) == 0);
@@ -315,7 +314,6 @@ static void no_bytes_log(const unsigned char *at, unsigned char *log, size_t roo
     HOLDS(g.text_refusal == 0 && g.place == 0 && g.rule == 0);
     HOLDS(memcmp(log, line, end) == 0);
     HOLDS(memcmp(log + end, before + end, seen - end) == 0);
-    empties[1] += g.empty;
     free(before);
 }
 
@@ -353,7 +351,7 @@ static void try_text(void) {
     calls[0]++;
     refusals[r.refusal]++;
     HOLDS(r.empty == (length == 0 && words == SPIEWOMIR_TEXT_WORDS));
-    empties[0] += r.empty;
+    empties += r.empty;
     if (r.refusal || r.empty) {
         HOLDS(memcmp(w.at, before, w.size) == 0);
         HOLDS(r.refusal != SPIEWOMIR_REFUSED_GRAMMAR || (length > 0 && r.place <= length));
@@ -385,7 +383,6 @@ static void try_text(void) {
         HOLDS(end > 0 && log[end - 1] == '\n');
         HOLDS((g.text_refusal != 0) == (log[1] == 'r'));
         HOLDS(g.empty == (length == 0) && g.empty == (end == 15 && memcmp(log, "(sync 0 0 0 0)\n", 15) == 0));
-        empties[1] += g.empty;
         if (g.text_refusal) {
             char line[64];
             int n = snprintf(line, sizeof line, "(refused %u %u)\n", g.text_refusal, g.place);
@@ -454,7 +451,7 @@ int main(int argc, char **argv) {
     printf("fuzz: %lu inputs: %lu text calls, %lu logs, %lu pictures, %lu macroblocks, %lu session calls; refusals", count, calls[0], calls[4], calls[1], calls[2], calls[3]);
     for (int r = 1; r < 32; r++)
         if (refusals[r]) printf(" %d:%lu", r, refusals[r]);
-    printf("; no picture %lu, logs of none %lu; rules of 8, singly,", empties[0], empties[1]);
+    printf("; no picture %lu; rules of 8, singly,", empties);
     for (int r = 1; r < 8; r++) printf(" %d:%lu", r, rules[r]);
     printf("; details %lu inherited, %lu intra, %lu none\n", details[1], details[2], details[0]);
     return 0;
