@@ -4,6 +4,7 @@ use mathlib.Core.Path.{_≡_, ap, _∙_}
 use native.Mathlib.Omega.{arith}
 use borrow.Author.Needs.{needs}
 use Rattle.definitions.specs.Accepted.{Inside}
+use Rattle.definitions.specs.Basics.{howMany}
 use Rattle.definitions.specs.BlockMap.{fallsIn, stepOf}
 use Rattle.definitions.specs.Geometry.{baseSize, fOf, kOf, mOf, nOf, roundedOf, scaledSize}
 use Rattle.definitions.proofs.Accepted.{inside-axis}
@@ -93,7 +94,7 @@ falls-in-requires : tie.Need-falls-in-requires
 falls-in-requires c κs = search needs
 
 returns : tie.Need-returns
-unfolding b s mid at stepOf
+unfolding b s mid at stepOf howMany
 returns c =
     let f = c .before .before .before .before in
     let m = f .before in
