@@ -7,8 +7,10 @@
  * input: a refused call leaves every lent word and byte, and what is only read stays;
  * a text's log, its picture, its macroblocks one by one and its session say the same;
  * an answer says what its record says, and names base macroblocks that are there, from
- * which its detail comes and which its four counts are of. The last line says how many inputs were tried, how often each
- * refusal and rule came, and details; the exit status is 0 if all held. */
+ * which its detail comes and which its four counts are of. A text of no bytes, and no
+ * other, is answered with no picture, whatever is lent with it. The last line says how
+ * many inputs were tried, how often each refusal and rule came, and no picture, and
+ * details; the exit status is 0 if all held. */
 #define _DEFAULT_SOURCE
 #include "spiewomir.h"
 #include <stdio.h>
@@ -22,6 +24,7 @@ static unsigned long long state;
 static unsigned long calls[5];
 static unsigned long refusals[32], rules[8];
 static unsigned long details[3]; /* answers without, and inherited and intra ones with */
+static unsigned long empties; /* inputs answered with no picture */
 
 static unsigned below(unsigned n) {
     state ^= state << 13;
@@ -288,6 +291,54 @@ static void judged_alike(SpiewomirGeometry g, const int16_t *words, size_t count
     back(out);
 }
 
+/* The text call on no bytes, at `at` or null: 6 for another count of words, else no picture; and no word is written. */
+static void no_bytes(const unsigned char *at, int16_t *words, size_t count) {
+    static const SpiewomirText zeros;
+    void *before = copy_of(words, count * sizeof(int16_t));
+    SpiewomirText r = spiewomir_text(at, 0, words, count);
+    HOLDS(r.refusal == (count == SPIEWOMIR_TEXT_WORDS ? 0 : SPIEWOMIR_REFUSED_OUTPUT_LENGTH));
+    HOLDS(r.empty == (count == SPIEWOMIR_TEXT_WORDS));
+    r.refusal = r.empty = 0;
+    HOLDS(memcmp(&r, &zeros, sizeof r) == 0);
+    HOLDS(memcmp(words, before, count * sizeof(int16_t)) == 0);
+    free(before);
+}
+
+/* Its log: 6 for too few bytes, else one line; and of the first `seen` bytes no other is written. */
+static void no_bytes_log(const unsigned char *at, unsigned char *log, size_t room, size_t seen) {
+    static const char line[] = "(sync 0 0 0 0)\n";
+    size_t end = room < SPIEWOMIR_LOG_BYTES ? 0 : sizeof line - 1;
+    unsigned char *before = copy_of(log, seen);
+    SpiewomirLog g = spiewomir_log(at, 0, log, room);
+    HOLDS(g.refusal == (end ? 0 : SPIEWOMIR_REFUSED_OUTPUT_LENGTH) && g.empty == (end != 0) && g.bytes == end);
+    HOLDS(g.text_refusal == 0 && g.place == 0 && g.rule == 0);
+    HOLDS(memcmp(log, line, end) == 0);
+    HOLDS(memcmp(log + end, before + end, seen - end) == 0);
+    free(before);
+}
+
+/* Both, with right and wrong lengths lent. */
+static void try_no_bytes(void) {
+    static const size_t counts[] = {1, SPIEWOMIR_WORDS, SPIEWOMIR_TEXT_WORDS - 1, SPIEWOMIR_TEXT_WORDS, SPIEWOMIR_TEXT_WORDS + 1};
+    static const size_t rooms[] = {1, 14, 15, 16, SPIEWOMIR_LOG_BYTES - 1, SPIEWOMIR_LOG_BYTES, SPIEWOMIR_LOG_BYTES + 1};
+    Lent t = lend(0);
+    for (size_t i = 0; i < sizeof counts / sizeof *counts; i++) {
+        Lent w = lend(counts[i] * sizeof(int16_t));
+        scribble(w.at, w.size);
+        no_bytes(t.at, w.at, counts[i]);
+        no_bytes(NULL, w.at, counts[i]);
+        back(w);
+    }
+    for (size_t i = 0; i < sizeof rooms / sizeof *rooms; i++) {
+        Lent l = lend(rooms[i]);
+        scribble(l.at, l.size);
+        no_bytes_log(t.at, l.at, rooms[i], rooms[i]);
+        no_bytes_log(NULL, l.at, rooms[i], rooms[i]);
+        back(l);
+    }
+    back(t);
+}
+
 static void try_text(void) {
     Lent t = lend(length);
     memcpy(t.at, text, length);
@@ -299,8 +350,11 @@ static void try_text(void) {
     SpiewomirText r = spiewomir_text(t.at, length, w.at, words);
     calls[0]++;
     refusals[r.refusal]++;
-    if (r.refusal) {
+    HOLDS(r.empty == (length == 0 && words == SPIEWOMIR_TEXT_WORDS));
+    empties += r.empty;
+    if (r.refusal || r.empty) {
         HOLDS(memcmp(w.at, before, w.size) == 0);
+        HOLDS(r.refusal != SPIEWOMIR_REFUSED_GRAMMAR || (length > 0 && r.place <= length));
     } else {
         size_t used = (size_t)r.lines * SPIEWOMIR_WORDS;
         HOLDS(used <= words);
@@ -308,8 +362,7 @@ static void try_text(void) {
     }
     HOLDS(spiewomir_text(t.at, length, NULL, 0).refusal == SPIEWOMIR_REFUSED_OUTPUT_LENGTH);
     HOLDS(spiewomir_text(NULL, 0, NULL, 0).refusal == SPIEWOMIR_REFUSED_OUTPUT_LENGTH);
-    SpiewomirText empty = spiewomir_text(NULL, 0, w.at, words);
-    HOLDS(empty.refusal == (words == SPIEWOMIR_TEXT_WORDS ? SPIEWOMIR_REFUSED_GRAMMAR : SPIEWOMIR_REFUSED_OUTPUT_LENGTH) && empty.place == 0);
+    no_bytes(NULL, w.at, words);
     HOLDS(memcmp(t.at, text, length) == 0);
 
     size_t room = SPIEWOMIR_LOG_BYTES;
@@ -324,11 +377,12 @@ static void try_text(void) {
         if (((unsigned char *)l.at)[i] != 0xa5) fail("a byte after the log is written");
     if (g.refusal) {
         HOLDS(g.refusal == SPIEWOMIR_REFUSED_OUTPUT_LENGTH && g.bytes == 0 && room < SPIEWOMIR_LOG_BYTES);
-        HOLDS(g.text_refusal == 0 && g.place == 0 && g.rule == 0);
+        HOLDS(g.text_refusal == 0 && g.place == 0 && g.rule == 0 && g.empty == 0);
     } else if (words == SPIEWOMIR_TEXT_WORDS) {
         const char *log = l.at;
         HOLDS(end > 0 && log[end - 1] == '\n');
         HOLDS((g.text_refusal != 0) == (log[1] == 'r'));
+        HOLDS(g.empty == (length == 0) && g.empty == (end == 15 && memcmp(log, "(sync 0 0 0 0)\n", 15) == 0));
         if (g.text_refusal) {
             char line[64];
             int n = snprintf(line, sizeof line, "(refused %u %u)\n", g.text_refusal, g.place);
@@ -343,7 +397,7 @@ static void try_text(void) {
             refusals[g.text_refusal]++;
             judged_alike(r.geometry, w.at, (size_t)r.lines * SPIEWOMIR_WORDS, g);
             records(r.geometry, w.at, (size_t)r.lines * SPIEWOMIR_WORDS, NULL);
-        } else {
+        } else if (!g.empty) {
             size_t last = end - 1;
             while (last && log[last - 1] != '\n') last--;
             unsigned total, inherited, intra, outside;
@@ -352,6 +406,7 @@ static void try_text(void) {
             memcpy(line, log + last, end - last);
             line[end - last] = 0;
             HOLDS(sscanf(line, "(sync %u %u %u %u)", &total, &inherited, &intra, &outside) == 4);
+            HOLDS(total > 0 && total == inherited + intra + outside);
             SpiewomirPicture p = {0, 0, 0, inherited, intra, outside};
             records(r.geometry, w.at, (size_t)r.lines * SPIEWOMIR_WORDS, &p);
             records(r.geometry, w.at, (size_t)r.lines * SPIEWOMIR_WORDS, NULL);
@@ -359,9 +414,7 @@ static void try_text(void) {
     }
     HOLDS(spiewomir_log(t.at, length, NULL, 0).refusal == SPIEWOMIR_REFUSED_OUTPUT_LENGTH);
     HOLDS(spiewomir_log(NULL, 0, NULL, 0).refusal == SPIEWOMIR_REFUSED_OUTPUT_LENGTH);
-    SpiewomirLog none = spiewomir_log(NULL, 0, l.at, room);
-    HOLDS(none.refusal == g.refusal && (none.refusal || (none.bytes == 14 && memcmp(l.at, "(refused 9 0)\n", 14) == 0)));
-    HOLDS(none.text_refusal == (none.refusal ? 0 : SPIEWOMIR_REFUSED_GRAMMAR) && none.place == 0 && none.rule == 0);
+    no_bytes_log(NULL, l.at, room, 64);
     HOLDS(memcmp(t.at, text, length) == 0);
     back(l);
     free(before);
@@ -391,12 +444,14 @@ int main(int argc, char **argv) {
         length = load(argv[i + (int)below((unsigned)(argc - i))], text);
         size_t n = load(argv[i + (int)below((unsigned)(argc - i))], other);
         for (unsigned d = below(4); d > 0; d--) damage(other, n);
+        if (k == 0) length = 0; /* the first input has no bytes */
         try_text();
     }
+    try_no_bytes();
     printf("fuzz: %lu inputs: %lu text calls, %lu logs, %lu pictures, %lu macroblocks, %lu session calls; refusals", count, calls[0], calls[4], calls[1], calls[2], calls[3]);
     for (int r = 1; r < 32; r++)
         if (refusals[r]) printf(" %d:%lu", r, refusals[r]);
-    printf("; rules of 8, singly,");
+    printf("; no picture %lu; rules of 8, singly,", empties);
     for (int r = 1; r < 8; r++) printf(" %d:%lu", r, rules[r]);
     printf("; details %lu inherited, %lu intra, %lu none\n", details[1], details[2], details[0]);
     return 0;

@@ -37,7 +37,7 @@ extern "C" {
 
 /* The version that this header is of: major times 10,000, plus minor times 100, plus
  * patch. CHANGELOG.md says what is new. */
-#define SPIEWOMIR_VERSION 40000
+#define SPIEWOMIR_VERSION 50000
 
 /* The version of the library that is linked: SPIEWOMIR_VERSION, unless the header is
  * another version's. */
@@ -102,7 +102,8 @@ uint32_t spiewomir_version(void);
                                              of well-formedness (above) that it breaks */
 #define SPIEWOMIR_REFUSED_GRAMMAR 9       /* a text that breaks the grammar: `place` is the first byte
                                              offset at which no text of the grammar, however long, can
-                                             go on, and the text's length if it ends early */
+                                             go on, and the text's length if it ends early. A text of
+                                             no bytes is not refused by it */
 #define SPIEWOMIR_REFUSED_LIMIT 10        /* a text above 65,536 bytes or 99 record lines */
 #define SPIEWOMIR_REFUSED_NOTHING_BEGUN 20 /* next or abandon with nothing begun */
 #define SPIEWOMIR_REFUSED_FINISHED 21      /* next or abandon after the last macroblock */
@@ -184,13 +185,16 @@ typedef struct {
     uint32_t refusal, place, rule; /* place is 0 but for refusal 9, rule is 0 */
     SpiewomirGeometry geometry;    /* as it stands in the text, not judged; zeros in a refusal */
     uint32_t lines;                /* record lines; 0 in a refusal */
+    uint32_t empty;                /* 1 if the text has no bytes: no picture, and all else is 0; else 0,
+                                      also of a text whose numbers and lines are 0 */
 } SpiewomirText;
 
 typedef struct {
     uint32_t refusal;                   /* the call's own: 6 or 0; what follows is 0 if it is 6 */
-    uint32_t text_refusal, place, rule; /* the text's, 0 if it has a picture: the number and place
-                                           that the log says, and the rule of refusal 8 */
+    uint32_t text_refusal, place, rule; /* the text's, 0 if it has a picture or is empty: the number and
+                                           place that the log says, and the rule of refusal 8 */
     size_t bytes;                       /* the log's length */
+    uint32_t empty;                     /* 1 if the text has no bytes: no picture; else 0 */
 } SpiewomirLog;
 
 /* One macroblock. `base` has the base picture's records in raster order, `out`
@@ -239,24 +243,28 @@ SpiewomirTotals spiewomir_session_totals(SpiewomirSession session);
  * detail, word 77. Numbers are -32768..32767, with no leading zero and no -0. Between
  * lines and at both ends may stand lines (note ..) of any count, none included, of
  * words of letters a to z, numbers, and lists of one or more of the same, to depth 8
- * with the note at 1.
+ * with the note at 1. A text of no bytes means no picture: the camera filmed nothing.
+ * One of notes only is no such text, nor is a line feed alone; 9 refuses both.
  *
  * Reads one. `words` has 7722 words, those of 99 records. Refusals 6, then 10 by
  * length, then 9, then 10 by lines; nothing else is judged: the geometry's numbers
  * and the records' words are those that stand in the text, fit for
  * spiewomir_picture or not. Read, the words of the record lines stand first in
- * `words`, 78 for each line in the text's order, and the rest is as it was. */
+ * `words`, 78 for each line in the text's order, and the rest is as it was. A text of
+ * no bytes is refused by 6 only: else `empty` is 1, and all words are as they were. */
 SpiewomirText spiewomir_text(const uint8_t *text, size_t text_len, int16_t *words, size_t words_len);
 
 /* Writes the log of a sync text. `log` has 1179679 bytes or more; fewer are refused
  * by 6. Every text then has a log, a refused one too: a line (mb column row type
  * pieces) for each macroblock in raster order, pieces being 0 for types 0 and 5,
- * then (sync macroblocks inherited intra outside); or only (refused number place)
- * for the first that applies of 10 by length, 9, 10 by lines, 1 to 5 (5: record
- * lines too few or many), and 8 on all records. Each line ends in a line feed. The
- * log stands first in `log`, `bytes` long with no zero put after it, and the rest is
- * as it was. `text_refusal`, `place` and `rule` are the text's refusal, so that the
- * log need not be read for it; `refusal` is 0 then, for the log is written. */
+ * then (sync macroblocks inherited intra outside); or only (sync 0 0 0 0) for a text
+ * of no bytes, which means no picture; or only (refused number place) for the first
+ * that applies of 10 by length, 9, 10 by lines, 1 to 5 (5: record lines too few or
+ * many), and 8 on all records. Each line ends in a line feed. The log stands first in
+ * `log`, `bytes` long with no zero put after it, and the rest is as it was.
+ * `text_refusal`, `place` and `rule` are the text's refusal, and `empty` says that
+ * there is no picture, so that the log need not be read for either; `refusal` is 0
+ * then, for the log is written. */
 SpiewomirLog spiewomir_log(const uint8_t *text, size_t text_len, uint8_t *log, size_t log_len);
 
 #ifdef __cplusplus

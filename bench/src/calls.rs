@@ -116,9 +116,10 @@ impl Text {
     }
 }
 
-/// The second implementation makes its machine of the grammar in the first call.
+/// The second implementation makes its machine of the grammar in the first call on a text
+/// that has bytes.
 fn make_ready() {
-    second::log(b"");
+    second::log(b"(");
 }
 
 impl Call for Text {

@@ -33,7 +33,7 @@ const TEXTS: u64 = 5_000;
 
 /// Every test, a line each: its name, and what makes its calls.
 #[rustfmt::skip]
-const TESTS: [(&str, fn(&mut Calls)); 28] = [
+const TESTS: [(&str, fn(&mut Calls)); 29] = [
     ("bench example: S 2B passes, 2B + 2 is refused", sweeps::bench_scaled),
     ("bench example: offset -8,192 passes, -8,194 is refused", sweeps::bench_offset),
     ("each of the 259 splits", sweeps::splits),
@@ -59,6 +59,7 @@ const TESTS: [(&str, fn(&mut Calls)); 28] = [
     ("texts of 98 to 101 record lines", texts::counts),
     ("texts of 65,535 to 65,537 bytes", texts::lengths),
     ("texts with words and bytes of wrong length lent", texts::buffers),
+    ("texts of no bytes, and those nearest to it", texts::empty),
     ("texts with a geometry's numbers at their limits", texts::numbers_at_limits),
     ("texts of the largest pictures", texts::largest),
     ("random texts", |calls| texts::random(calls, TEXTS)),

@@ -8,6 +8,15 @@ use second::{TEXT_RECORDS, WORDS};
 /// An intra record without detail.
 pub const INTRA: &str = "(intra 0)\n";
 
+/// The text of no bytes, and those nearest to it: a line feed alone, notes only, and
+/// eight zeros without a record line.
+pub const NEAREST: [&str; 4] = [
+    "",
+    "\n",
+    "(note)\n(note rest day)\n",
+    "(base 0 0)\n(scaled 0 0)\n(at 0 0)\n(full 0 0)\n",
+];
+
 /// Notes nest to this depth, the note being at 1.
 const DEPTH: u32 = 8;
 

@@ -1,14 +1,17 @@
 //! How often what can happen to a text did happen, in calls that were compared.
 
+use compare::sync::NEAREST;
 use spiewomir::numbers::Text;
-use spiewomir::TEXT_BYTES;
+use spiewomir::{TEXT_BYTES, TEXT_WORDS};
 
 #[derive(Default)]
 pub struct TextCoverage {
     /// By TEXT_ANSWERS.
-    text: [u64; 6],
+    text: [u64; 7],
     /// By LOG_ANSWERS.
-    log: [u64; 12],
+    log: [u64; 13],
+    /// NEAREST, by NEAREST_LENT.
+    nearest: [[u64; 4]; 4],
     /// Refusal 8 of the log, by the broken rule that the call hands back.
     rules: [u64; 7],
     /// That by rule 7, by the form of the line, of RECORD_FORMS.
@@ -23,15 +26,16 @@ pub struct TextCoverage {
     types: [u64; 6],
 }
 
-const TEXT_ANSWERS: [&str; 6] = [
+const TEXT_ANSWERS: [&str; 7] = [
     "read",
     "6",
     "10 by length",
     "9 within",
     "9 at the end",
     "10 by lines",
+    "no picture",
 ];
-const LOG_ANSWERS: [&str; 12] = [
+const LOG_ANSWERS: [&str; 13] = [
     "made",
     "1",
     "2",
@@ -44,6 +48,19 @@ const LOG_ANSWERS: [&str; 12] = [
     "9 within",
     "9 at the end",
     "10 by lines",
+    "no picture",
+];
+const NEAREST_NAMES: [&str; 4] = [
+    "no bytes",
+    "a line feed",
+    "notes only",
+    "zeros and no record lines",
+];
+const NEAREST_LENT: [&str; 4] = [
+    "text call, right words",
+    "text call, wrong words",
+    "log, bytes enough",
+    "log, bytes too few",
 ];
 const RULES: [&str; 7] = ["1", "2", "3", "4", "5", "6", "7"];
 const FORMS: [&str; 4] = ["(intra D)", "(whole .. D)", "(mb .. D)", "(note ..)"];
@@ -58,15 +75,21 @@ const TYPES: [&str; 6] = ["0", "1", "2", "3", "4", "5"];
 impl TextCoverage {
     /// Prints the tables. For each, its name and whether everything that it
     /// lists did happen.
-    pub fn report(&self) -> [(&'static str, bool); 8] {
+    pub fn report(&self) -> [(&'static str, bool); 9] {
         [
             (
-                "each refusal of the text call",
+                "each answer and refusal of the text call",
                 print("text call", &TEXT_ANSWERS, &self.text),
             ),
             (
-                "each refusal of the log",
+                "each answer and refusal of the log",
                 print("log", &LOG_ANSWERS, &self.log),
+            ),
+            (
+                "no bytes, and the texts nearest to that, in both calls with right and wrong lengths",
+                [0, 1, 2, 3].map(|lent| {
+                    print(NEAREST_LENT[lent], &NEAREST_NAMES, &self.nearest[lent])
+                }) == [true; 4],
             ),
             (
                 "each broken rule that the log call hands back",
@@ -98,9 +121,11 @@ impl TextCoverage {
         ]
     }
 
-    /// What the text call gave.
-    pub fn text(&mut self, text: &[u8], answer: &Text) {
+    /// What the text call gave, with so many words lent.
+    pub fn text(&mut self, text: &[u8], words: usize, answer: &Text) {
+        self.near(text, (words != TEXT_WORDS) as usize);
         match answer.refusal {
+            0 if answer.empty == 1 => self.text[6] += 1,
             0 => {
                 self.text[0] += 1;
                 self.read(text);
@@ -155,13 +180,21 @@ impl TextCoverage {
         }
     }
 
+    fn near(&mut self, text: &[u8], lent: usize) {
+        if let Some(at) = NEAREST.iter().position(|near| near.as_bytes() == text) {
+            self.nearest[lent][at] += 1;
+        }
+    }
+
     /// The log call was refused for the bytes lent to it.
-    pub fn log_refused(&mut self) {
+    pub fn log_refused(&mut self, text: &[u8]) {
+        self.near(text, 3);
         self.log[6] += 1;
     }
 
     /// The log that was made of a text, and the broken rule that came with it.
     pub fn log(&mut self, text: &[u8], log: &[u8], rule: u32) {
+        self.near(text, 2);
         if let Some(refusal) = log.strip_prefix(b"(refused ") {
             let refusal = std::str::from_utf8(refusal).expect("a line of a log");
             let mut numbers = refusal.split([' ', ')']).map(|number| number.parse());
@@ -185,6 +218,10 @@ impl TextCoverage {
                 _ => 8 + by_text(number, place, text),
             };
             self.log[at] += 1;
+            return;
+        }
+        if log == b"(sync 0 0 0 0)\n" {
+            self.log[12] += 1;
             return;
         }
         self.log[0] += 1;

@@ -6,11 +6,11 @@ use crate::lent::Lent;
 use compare::generate::{base_macroblocks, break_record, detailed, distinct, random_rule, Mood};
 use compare::random::Random;
 use compare::sync::{
-    head, intra_with, lines, long_notes, long_records, mb, note, noted, text_geometry, whole, INTRA,
+    head, intra_with, lines, long_notes, long_records, mb, note, noted, text_geometry, whole,
+    INTRA, NEAREST,
 };
 use second::{TEXT_RECORDS, TEXT_WORDS, WORDS};
-use spiewomir::numbers;
-use spiewomir::LOG_BYTES;
+use spiewomir::{numbers, Geometry, Logged, Refusal, Text, LOG_BYTES};
 
 /// What the bytes for the log hold before a call. No log has such a byte.
 const FILL_BYTE: u8 = 0xc3;
@@ -72,26 +72,56 @@ fn shown(text: &[u8]) -> String {
     format!("{} bytes {start:?}", text.len())
 }
 
-/// The interface's numbers for what the second implementation answers.
-fn text_numbers(result: Result<(second::Numbers, u32), second::Refusal>) -> numbers::Text {
-    match result {
+/// What the second implementation answers, in the wrapper's types.
+fn refusal_of(second: second::Refusal) -> Refusal {
+    Refusal {
+        number: second.number,
+        place: second.place,
+        rule: second.rule,
+    }
+}
+
+fn text_answer(second: Result<second::Text, second::Refusal>) -> Result<Text, Refusal> {
+    second.map_err(refusal_of).map(|text| match text {
+        second::Text::NoPicture => Text::NoPicture,
+        second::Text::Picture { numbers, records } => Text::Picture {
+            geometry: Geometry {
+                base_width: numbers.base_width,
+                base_height: numbers.base_height,
+                scaled_width: numbers.scaled_width,
+                scaled_height: numbers.scaled_height,
+                offset_x: numbers.offset_x,
+                offset_y: numbers.offset_y,
+                full_width: numbers.full_width,
+                full_height: numbers.full_height,
+            },
+            lines: records,
+        },
+    })
+}
+
+fn log_verdict(second: Result<second::Logged, second::Refusal>) -> Result<Logged, Refusal> {
+    second.map_err(refusal_of).map(|logged| match logged {
+        second::Logged::NoPicture => Logged::NoPicture,
+        second::Logged::Picture => Logged::Picture,
+    })
+}
+
+/// The interface's numbers for an answer.
+fn text_numbers(answer: Result<Text, Refusal>) -> numbers::Text {
+    match answer {
         Err(refusal) => numbers::Text {
             refusal: refusal.number,
             place: refusal.place,
             rule: refusal.rule,
             ..numbers::Text::default()
         },
-        Ok((second, lines)) => numbers::Text {
-            geometry: spiewomir::Geometry {
-                base_width: second.base_width,
-                base_height: second.base_height,
-                scaled_width: second.scaled_width,
-                scaled_height: second.scaled_height,
-                offset_x: second.offset_x,
-                offset_y: second.offset_y,
-                full_width: second.full_width,
-                full_height: second.full_height,
-            },
+        Ok(Text::NoPicture) => numbers::Text {
+            empty: 1,
+            ..numbers::Text::default()
+        },
+        Ok(Text::Picture { geometry, lines }) => numbers::Text {
+            geometry,
             lines,
             ..numbers::Text::default()
         },
@@ -99,19 +129,23 @@ fn text_numbers(result: Result<(second::Numbers, u32), second::Refusal>) -> numb
 }
 
 /// The interface's numbers for a written log of so many bytes.
-fn log_numbers(bytes: usize, refusal: Option<second::Refusal>) -> numbers::Log {
-    match refusal {
-        None => numbers::Log {
-            bytes,
-            ..numbers::Log::default()
-        },
-        Some(refusal) => numbers::Log {
-            refusal: 0,
+fn log_numbers(bytes: usize, verdict: Result<Logged, Refusal>) -> numbers::Log {
+    let written = numbers::Log {
+        bytes,
+        ..numbers::Log::default()
+    };
+    match verdict {
+        Err(refusal) => numbers::Log {
             text_refusal: refusal.number,
             place: refusal.place,
             rule: refusal.rule,
-            bytes,
+            ..written
         },
+        Ok(Logged::NoPicture) => numbers::Log {
+            empty: 1,
+            ..written
+        },
+        Ok(Logged::Picture) => written,
     }
 }
 
@@ -155,8 +189,9 @@ impl Texts<'_> {
 
     fn text(&mut self, text: &[u8], lent: &Lent<u8>) {
         let library = numbers::text(lent.words(), self.words.words_mut());
-        let second = text_numbers(second::text(text, &mut self.by_second));
-        if library != second {
+        let answer = text_answer(second::text(text, &mut self.by_second));
+        let second = text_numbers(answer);
+        if library != second || library.result() != answer {
             self.differs(text, &format!("library {library:?}, second {second:?}"));
         }
         let written = second.lines as usize * WORDS;
@@ -175,7 +210,8 @@ impl Texts<'_> {
         self.words.restore(written);
         self.by_second[..written].fill(FILL_SECOND);
         self.calls.words += written as u64;
-        self.calls.text_coverage.text(text, &second);
+        let lent = self.by_second.len();
+        self.calls.text_coverage.text(text, lent, &second);
     }
 
     fn log(&mut self, text: &[u8], lent: &Lent<u8>) {
@@ -189,16 +225,18 @@ impl Texts<'_> {
             if library != refused || !self.log.untouched() {
                 self.differs(text, &format!("log: library {library:?}, not refused by 6"));
             }
-            self.calls.text_coverage.log_refused();
+            self.calls.text_coverage.log_refused(text);
             return;
         }
-        let (second, refusal) = second::log_with_refusal(text);
-        let written = log_numbers(second.len(), refusal);
-        if library != written || self.log.words()[..second.len()] != second {
-            self.differs(
-                text,
-                &format!("log: library {library:?}, second {written:?}"),
-            );
+        let (second, result) = second::log_with_result(text);
+        let verdict = log_verdict(result);
+        let written = log_numbers(second.len(), verdict);
+        if library != written || library.verdict() != verdict {
+            let what = format!("log: library {library:?}, second {written:?}");
+            self.differs(text, &what);
+        }
+        if self.log.words()[..second.len()] != second {
+            self.differs(text, "the log's bytes differ");
         }
         if !self.log.untouched_but(second.len()) {
             self.differs(text, "a byte that is no log's was written");
@@ -213,13 +251,9 @@ impl Texts<'_> {
     /// The wrapper's own log of a text.
     fn wrapped(&mut self, text: &[u8]) {
         let library = spiewomir::log(text);
-        let (bytes, refusal) = second::log_with_refusal(text);
-        let refusal = refusal.map(|refusal| spiewomir::Refusal {
-            number: refusal.number,
-            place: refusal.place,
-            rule: refusal.rule,
-        });
-        if library != (spiewomir::Log { bytes, refusal }) {
+        let (bytes, result) = second::log_with_result(text);
+        let verdict = log_verdict(result);
+        if library != (spiewomir::Log { bytes, verdict }) {
             self.differs(text, "the wrapper's log");
         }
     }
@@ -521,6 +555,67 @@ pub fn buffers(calls: &mut Calls) {
         for text in &tried {
             texts.compare(text);
         }
+    }
+}
+
+/// The text of no bytes and those nearest to it, with words and bytes of every sort of
+/// length lent; every text of one byte, and two of the grammar's; notes only, ended
+/// anywhere; zeros with and without notes and record lines.
+pub fn empty(calls: &mut Calls) {
+    let words = [
+        0,
+        1,
+        WORDS,
+        TEXT_WORDS - 1,
+        TEXT_WORDS,
+        TEXT_WORDS + 1,
+        2 * TEXT_WORDS,
+    ];
+    let bytes = [
+        0,
+        1,
+        14,
+        15,
+        16,
+        31,
+        LOG_BYTES - 1,
+        LOG_BYTES,
+        LOG_BYTES + 1,
+    ];
+    for words in words {
+        for bytes in bytes {
+            let texts = &mut Texts::lending(calls, words, bytes);
+            for text in NEAREST {
+                texts.compare(text);
+            }
+        }
+    }
+
+    let texts = &mut Texts::new(calls);
+    for text in NEAREST {
+        texts.wrapped(text.as_bytes());
+    }
+    for first in 0..=255 {
+        texts.compare([first]);
+    }
+    for &first in BYTES {
+        for &second in BYTES {
+            texts.compare([first, second]);
+        }
+    }
+    let random = &mut Random::new(23);
+    for count in 1..=8 {
+        let notes: String = (0..count).map(|_| note(random)).collect();
+        for end in 1..=notes.len() {
+            texts.compare(&notes[..end]);
+        }
+        texts.compare(notes.clone() + "\n");
+        let zeros = head(&[0; 8]);
+        let text = zeros.concat();
+        texts.compare(text.clone() + &notes);
+        texts.compare(notes + &text);
+        texts.compare(noted(random, &zeros));
+        texts.compare(text + &INTRA.repeat(count));
     }
 }
 

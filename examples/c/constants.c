@@ -125,15 +125,58 @@ static void kinds(void) {
     }
 }
 
-/* ---- the log of the text's first n bytes is the line of a refusal, and hands it back */
+/* ---- the log of the text's first n bytes is one line, of a refusal, or of no picture where n is 0, and its call hands that back */
 static void logged(size_t n, uint32_t number, uint32_t place, uint32_t rule, const char *line) {
     SpiewomirLog l = spiewomir_log(text, n, room, SPIEWOMIR_LOG_BYTES);
     IS(l.refusal, SPIEWOMIR_ANSWERED);
     IS(l.text_refusal, number);
     IS(l.place, place);
     IS(l.rule, rule);
+    IS(l.empty, n == 0);
     IS(l.bytes, strlen(line));
     IS(memcmp(room, line, strlen(line)), 0);
+}
+
+/* ---- no picture: of a text of no bytes only, after 6, with no word written */
+static void empty_texts(void) {
+    static const char *const zeros = "(base 0 0)\n(scaled 0 0)\n(at 0 0)\n(full 0 0)\n", *const notes = "(note)\n(note rest day)\n";
+    static const SpiewomirText none;
+    static int16_t before[SPIEWOMIR_TEXT_WORDS];
+    for (size_t i = 0; i < SPIEWOMIR_TEXT_WORDS; i++) base[i] = before[i] = (int16_t)(i * 7 + 1);
+    SpiewomirText t = spiewomir_text(text, 0, base, SPIEWOMIR_TEXT_WORDS);
+    IS(t.empty, 1);
+    t.empty = 0;
+    IS(memcmp(&t, &none, sizeof t), 0);
+    t = spiewomir_text(text, 0, base, SPIEWOMIR_TEXT_WORDS - 1);
+    IS(t.refusal, SPIEWOMIR_REFUSED_OUTPUT_LENGTH);
+    IS(t.empty, 0);
+    t = spiewomir_text(text, 0, base, SPIEWOMIR_TEXT_WORDS + 1);
+    IS(t.refusal, SPIEWOMIR_REFUSED_OUTPUT_LENGTH);
+    IS(t.empty, 0);
+    logged(0, SPIEWOMIR_ANSWERED, 0, 0, "(sync 0 0 0 0)\n");
+    SpiewomirLog l = spiewomir_log(text, 0, room, SPIEWOMIR_LOG_BYTES - 1);
+    IS(l.refusal, SPIEWOMIR_REFUSED_OUTPUT_LENGTH);
+    IS(l.bytes, 0);
+    IS(l.empty, 0);
+
+    /* a text with the same numbers is not empty, nor are a line feed alone and notes only */
+    memcpy(text, zeros, strlen(zeros));
+    t = spiewomir_text(text, strlen(zeros), base, SPIEWOMIR_TEXT_WORDS);
+    IS(memcmp(&t, &none, sizeof t), 0);
+    logged(strlen(zeros), SPIEWOMIR_REFUSED_BASE_SIZE, 0, 0, "(refused 1 0)\n");
+    text[0] = '\n';
+    t = spiewomir_text(text, 1, base, SPIEWOMIR_TEXT_WORDS);
+    IS(t.refusal, SPIEWOMIR_REFUSED_GRAMMAR);
+    IS(t.place, 0);
+    IS(t.empty, 0);
+    logged(1, SPIEWOMIR_REFUSED_GRAMMAR, 0, 0, "(refused 9 0)\n");
+    memcpy(text, notes, strlen(notes));
+    t = spiewomir_text(text, strlen(notes), base, SPIEWOMIR_TEXT_WORDS);
+    IS(t.refusal, SPIEWOMIR_REFUSED_GRAMMAR);
+    IS(t.place, strlen(notes));
+    IS(t.empty, 0);
+    logged(strlen(notes), SPIEWOMIR_REFUSED_GRAMMAR, (uint32_t)strlen(notes), 0, "(refused 9 23)\n");
+    IS(memcmp(base, before, sizeof before), 0);
 }
 
 /* ---- texts: refusals 6, 9 and 10, and the members in their order */
@@ -154,6 +197,7 @@ static void texts(void) {
     for (int i = 0; i <= SPIEWOMIR_TEXT_RECORDS; i++) memcpy(text + n + 10 * (size_t)i, "(intra 9)\n", 10);
     t = spiewomir_text(text, n + 10 * SPIEWOMIR_TEXT_RECORDS, base, SPIEWOMIR_TEXT_WORDS);
     IS(t.refusal, SPIEWOMIR_ANSWERED);
+    IS(t.empty, 0);
     IS(t.lines, SPIEWOMIR_TEXT_RECORDS);
     for (int i = 0; i < SPIEWOMIR_TEXT_RECORDS; i++) IS(base[i * W + 77], 9);
     IS(t.geometry.base_width, 16);
@@ -275,6 +319,7 @@ static void picture(size_t length) {
     IS(l.text_refusal, SPIEWOMIR_ANSWERED);
     IS(l.place, 0);
     IS(l.rule, 0);
+    IS(l.empty, 0);
     IS(l.bytes > strlen(last) && !memcmp(room + l.bytes - strlen(last), last, strlen(last)), 1);
 }
 
@@ -285,5 +330,6 @@ int main(void) {
     records();
     kinds();
     texts();
+    empty_texts();
     return wrong;
 }

@@ -39,6 +39,10 @@ static void sizes(void) {
     IS(sizeof(SpiewomirMacroblock), 16 * sizeof(uint32_t));
     IS(offsetof(SpiewomirMacroblock, detail), 11 * sizeof(uint32_t));
     IS(offsetof(SpiewomirMacroblock, diagonal), 15 * sizeof(uint32_t));
+    IS(sizeof(SpiewomirText), 13 * sizeof(uint32_t));
+    IS(offsetof(SpiewomirText, empty), 12 * sizeof(uint32_t));
+    IS(sizeof(SpiewomirLog), 4 * sizeof(uint32_t) + 2 * sizeof(size_t));
+    IS(offsetof(SpiewomirLog, empty), 4 * sizeof(uint32_t) + sizeof(size_t));
 }
 
 static void *room(size_t size) { /* uninitialised */
@@ -55,8 +59,13 @@ static uint32_t next_address(SpiewomirSession s) { return s.inherited + s.intra 
 static void calls(const uint8_t *text, size_t length) {
     int16_t *words = (int16_t *)room(SPIEWOMIR_TEXT_WORDS * sizeof *words);
     uint8_t *log = (uint8_t *)room(SPIEWOMIR_LOG_BYTES);
-    SpiewomirText t = spiewomir_text(text, length, words, SPIEWOMIR_TEXT_WORDS);
+    SpiewomirText t = spiewomir_text(text, 0, words, SPIEWOMIR_TEXT_WORDS);
     IS(t.refusal, SPIEWOMIR_ANSWERED);
+    IS(t.empty, 1);
+    IS(spiewomir_text(NULL, 0, words, SPIEWOMIR_TEXT_WORDS).empty, 1);
+    t = spiewomir_text(text, length, words, SPIEWOMIR_TEXT_WORDS);
+    IS(t.refusal, SPIEWOMIR_ANSWERED);
+    IS(t.empty, 0);
     SpiewomirGeometry g = t.geometry;
     size_t base_len = t.lines * (size_t)SPIEWOMIR_WORDS, count = SPIEWOMIR_PICTURE_WORDS(g.full_width, g.full_height);
     uint32_t columns = (uint32_t)SPIEWOMIR_MACROBLOCKS(g.full_width);
@@ -84,8 +93,13 @@ static void calls(const uint8_t *text, size_t length) {
     }
     IS(next_address(s), count / SPIEWOMIR_WORDS);
 
-    SpiewomirLog l = spiewomir_log(text, length, log, SPIEWOMIR_LOG_BYTES);
+    SpiewomirLog l = spiewomir_log(NULL, 0, log, SPIEWOMIR_LOG_BYTES);
+    IS(l.empty, 1);
+    IS(l.bytes, 15);
+    IS(memcmp(log, "(sync 0 0 0 0)\n", 15), 0);
+    l = spiewomir_log(text, length, log, SPIEWOMIR_LOG_BYTES);
     IS(l.refusal, SPIEWOMIR_ANSWERED);
+    IS(l.empty, 0);
     IS(log[0], '(');
     IS(log[l.bytes - 1], '\n');
     free(words);

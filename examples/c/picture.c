@@ -3,8 +3,9 @@
  *
  *     picture COLUMN ROW < TEXT
  *
- * The exit status is 0, 1 if a call refuses, which is printed, or 2 if the arguments are
- * no two numbers or the text cannot be read.
+ * The exit status is 0, 1 if a call refuses, which is printed, 2 if the arguments are no
+ * two numbers or the text cannot be read, or 3 if the text has no bytes: then "no
+ * picture" is printed.
  *
  * Built with: cc -Iinclude examples/c/picture.c target/staticlib/libspiewomir.a */
 #include "spiewomir.h"
@@ -46,6 +47,10 @@ int main(int argc, char **argv) {
     /* the text: the geometry's numbers, and the words of its records */
     SpiewomirText t = spiewomir_text(text, length, base, SPIEWOMIR_TEXT_WORDS);
     if (t.refusal != SPIEWOMIR_ANSWERED) return refused(t.refusal, t.place, t.rule);
+    if (t.empty) {
+        puts("no picture");
+        return 3;
+    }
     size_t base_words = (size_t)t.lines * SPIEWOMIR_WORDS;
 
     /* the picture: 78 words for each macroblock. Sizes are judged by the call itself. */

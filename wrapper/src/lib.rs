@@ -2,22 +2,24 @@
 //! session over one picture, a sync text and its log.
 //!
 //! Records, refusals and answers are those of document 01, the project's scope
-//! paper, with vectors rounded as document 02's E3 says and with the detail of its
-//! E7. No call asks anything of its caller: it judges what it is lent, and a
-//! refused call leaves every lent word and byte as it was. `numbers` has the
-//! same calls with plain numbers.
+//! paper, with what document 02's E2 says of a text of no bytes, vectors rounded as
+//! its E3 says, the counts of its E5 and the detail of its E7. No call asks anything
+//! of its caller: it judges what it is lent, and a refused call leaves every lent
+//! word and byte as it was. `numbers` has the same calls with plain numbers.
 //!
 //! The proved archive, libspiewomir.a, has to be there first: `rt staticlib
 //! spiewomir` writes it to target/staticlib of the repository. SPIEWOMIR_LIB
 //! names another folder, by an absolute path.
 //!
 //! ```
-//! use spiewomir::{macroblock, picture, picture_words, refused, TEXT_WORDS, WORDS};
+//! use spiewomir::{macroblock, picture, picture_words, refused, Text, TEXT_WORDS, WORDS};
 //!
 //! fn main() -> Result<(), Box<dyn std::error::Error>> {
 //!     let text = b"(base 16 16)\n(scaled 32 32)\n(at 0 0)\n(full 48 32)\n(whole (0 -1) (4 -8 0 0) 2)\n";
 //!     let mut base = vec![0; TEXT_WORDS];
-//!     let (geometry, lines) = spiewomir::text(text, &mut base)?;
+//!     let Text::Picture { geometry, lines } = spiewomir::text(text, &mut base)? else {
+//!         return Ok(()); // The text has no bytes: there is no picture.
+//!     };
 //!     base.truncate(lines as usize * WORDS);
 //!
 //!     let mut out = vec![0; picture_words(geometry.full_width, geometry.full_height)];
@@ -47,7 +49,7 @@ use std::fmt;
 
 /// The version that this crate is of: major times 10,000, plus minor times 100,
 /// plus patch. [`version`] gives that of the library.
-pub const VERSION: u32 = 40_000;
+pub const VERSION: u32 = 50_000;
 
 /// Words of a motion record. Quadrants, blocks, and the macroblocks of a picture
 /// go in raster order; `l` is the list, 0 or 1.
@@ -227,12 +229,36 @@ pub fn picture(geometry: Geometry, base: &[i16], out: &mut [i16]) -> Result<Coun
     numbers::picture(geometry, base, out).result()
 }
 
+/// What a sync text has.
+#[derive(Clone, Copy, Debug, PartialEq, Eq)]
+pub enum Text {
+    /// The text has no bytes: the camera filmed nothing.
+    NoPicture,
+    /// The text has a picture's lines.
+    Picture {
+        /// As it stands in the text, not judged.
+        geometry: Geometry,
+        /// How many record lines there are.
+        lines: u32,
+    },
+}
+
 /// Reads a sync text: the geometry's numbers and the count of record lines,
 /// whose words stand first in `words`, which has [`TEXT_WORDS`]; the rest is as it
 /// was. Neither numbers nor words are judged. Refusals 6, 10 by length, 9, 10 by
-/// lines, in this order. `include/spiewomir.h` has the grammar.
-pub fn text(text: &[u8], words: &mut [i16]) -> Result<(Geometry, u32), Refusal> {
+/// lines, in this order. A text of no bytes is refused by 6 only, and else no word is
+/// written. `include/spiewomir.h` has the grammar.
+pub fn text(text: &[u8], words: &mut [i16]) -> Result<Text, Refusal> {
     numbers::text(text, words).result()
+}
+
+/// What the log of a sync text tells of, where the text is not refused.
+#[derive(Clone, Copy, Debug, PartialEq, Eq)]
+pub enum Logged {
+    /// The text has no bytes, and the log is `(sync 0 0 0 0)`.
+    NoPicture,
+    /// The macroblocks of a picture, one at least.
+    Picture,
 }
 
 /// What [`log`] makes of a sync text.
@@ -240,21 +266,22 @@ pub fn text(text: &[u8], words: &mut [i16]) -> Result<(Geometry, u32), Refusal> 
 pub struct Log {
     /// The lines, which every text has.
     pub bytes: Vec<u8>,
-    /// The text's refusal, which `bytes` then says, but for its rule.
-    pub refusal: Option<Refusal>,
+    /// What they tell of, or the text's refusal, which they say but for its rule.
+    pub verdict: Result<Logged, Refusal>,
 }
 
 /// The log of a sync text: a line `(mb column row type pieces)` for each
 /// macroblock, then `(sync macroblocks inherited intra outside)`; or only
-/// `(refused number place)`, by the first of 10 by length, 9, 10 by lines, 1 to 5,
-/// and 8 on all records. A refused text has a log too, so that this is no `Result`.
+/// `(sync 0 0 0 0)` for a text of no bytes; or only `(refused number place)`, by the
+/// first of 10 by length, 9, 10 by lines, 1 to 5, and 8 on all records. A refused text
+/// has a log too, so that this is no `Result`.
 pub fn log(text: &[u8]) -> Log {
     let mut bytes = vec![0; LOG_BYTES];
     let written = numbers::log(text, &mut bytes);
     Log {
         // Copied, so that the whole block is given back: shrunk, it would keep a page and a mapping of its own.
         bytes: bytes[..written.bytes].to_vec(),
-        refusal: written.text_verdict().err(),
+        verdict: written.verdict(),
     }
 }
 
@@ -371,17 +398,32 @@ impl numbers::Picture {
 }
 
 impl numbers::Text {
-    /// The geometry's numbers and the count of record lines, or the refusal.
-    pub fn result(self) -> Result<(Geometry, u32), Refusal> {
+    /// What the text has, or the refusal. Panics on numbers that the library's
+    /// contract excludes.
+    pub fn result(self) -> Result<Text, Refusal> {
         verdict(self.refusal, self.place, self.rule)?;
-        Ok((self.geometry, self.lines))
+        Ok(match self.empty {
+            0 => Text::Picture {
+                geometry: self.geometry,
+                lines: self.lines,
+            },
+            1 => Text::NoPicture,
+            other => excluded("empty", other),
+        })
     }
 }
 
 impl numbers::Log {
-    /// The text's refusal, if it has one. (Where `refusal` is 6 nothing was judged.)
-    pub fn text_verdict(self) -> Result<(), Refusal> {
-        verdict(self.text_refusal, self.place, self.rule)
+    /// What the log tells of, or the refusal: the call's own, with which nothing was
+    /// judged, else the text's. Panics on numbers that the library's contract excludes.
+    pub fn verdict(self) -> Result<Logged, Refusal> {
+        verdict(self.refusal, 0, 0)?;
+        verdict(self.text_refusal, self.place, self.rule)?;
+        Ok(match self.empty {
+            0 => Logged::Picture,
+            1 => Logged::NoPicture,
+            other => excluded("empty", other),
+        })
     }
 }
 

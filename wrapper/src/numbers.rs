@@ -137,7 +137,7 @@ pub struct Totals {
     pub outside: u32,
 }
 
-/// What a sync text has; `refusal` 0 means read.
+/// What a sync text has; `refusal` 0 means read, or no picture.
 #[repr(C)]
 #[derive(Clone, Copy, Debug, Default, PartialEq, Eq)]
 pub struct Text {
@@ -151,6 +151,9 @@ pub struct Text {
     pub geometry: Geometry,
     /// Record lines.
     pub lines: u32,
+    /// 1 if the text has no bytes: no picture, and all else is 0; else 0, also of a text
+    /// whose numbers and lines are 0.
+    pub empty: u32,
 }
 
 /// What the log call hands back; `refusal` 0 means written, also where the log says
@@ -168,6 +171,8 @@ pub struct Log {
     pub rule: u32,
     /// The log's length.
     pub bytes: usize,
+    /// 1 if the text has no bytes: no picture; else 0.
+    pub empty: u32,
 }
 
 extern "C" {

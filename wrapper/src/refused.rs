@@ -36,7 +36,7 @@ pub const RECORD: u32 = 8;
 
 /// A text that breaks the grammar: the place is the first byte offset at which
 /// no text of the grammar, however long, can go on, and the text's length if it
-/// ends early.
+/// ends early. A text of no bytes is not refused by it.
 pub const GRAMMAR: u32 = 9;
 
 /// A text above [`TEXT_BYTES`](crate::TEXT_BYTES) or with more than

@@ -1,6 +1,6 @@
 //! Where detail was sent: an answer says what its record's last word says.
 
-use spiewomir::{macroblock, picture, text, Geometry, Kind, Session, TEXT_WORDS, WORDS};
+use spiewomir::{macroblock, picture, text, Geometry, Kind, Session, Text, TEXT_WORDS, WORDS};
 
 /// An intra macroblock and a whole one, at ratio 2: each of its quadrants becomes a
 /// macroblock.
@@ -11,7 +11,9 @@ const DETAILS: [u8; 10] = [15, 0, 0, 15, 0, 0, 15, 15, 0, 0];
 
 fn read() -> (Geometry, Vec<i16>) {
     let mut words = vec![-1; TEXT_WORDS];
-    let (geometry, lines) = text(TEXT, &mut words).expect("read");
+    let Ok(Text::Picture { geometry, lines }) = text(TEXT, &mut words) else {
+        panic!("not read");
+    };
     words.truncate(lines as usize * WORDS);
     (geometry, words)
 }

@@ -1,11 +1,13 @@
 //! Which small macroblock fed it: of a macroblock's sixteen blocks, how many read each of
 //! the four base macroblocks.
 
-use spiewomir::{macroblock, text, Answer, Fed, Geometry, Kind, Session, TEXT_WORDS, WORDS};
+use spiewomir::{macroblock, text, Answer, Fed, Geometry, Kind, Session, Text, TEXT_WORDS, WORDS};
 
 fn read(bytes: &[u8]) -> (Geometry, Vec<i16>) {
     let mut words = vec![-1; TEXT_WORDS];
-    let (geometry, lines) = text(bytes, &mut words).expect("read");
+    let Ok(Text::Picture { geometry, lines }) = text(bytes, &mut words) else {
+        panic!("not read");
+    };
     words.truncate(lines as usize * WORDS);
     (geometry, words)
 }

@@ -1,8 +1,8 @@
 //! Each refusal comes with its constant, and says what it means.
 
 use spiewomir::{
-    log, macroblock, numbers, refused, text, Geometry, Refusal, Session, TEXT_BYTES, TEXT_RECORDS,
-    TEXT_WORDS, WORDS,
+    log, macroblock, numbers, refused, text, Geometry, Logged, Refusal, Session, Text, TEXT_BYTES,
+    TEXT_RECORDS, TEXT_WORDS, WORDS,
 };
 use std::error::Error;
 
@@ -78,7 +78,10 @@ fn of_texts() {
     lines.extend_from_slice(&b"(intra 0)\n".repeat(TEXT_RECORDS));
     assert_eq!(
         text(&lines, &mut vec![0; TEXT_WORDS]),
-        Ok((GEOMETRY, TEXT_RECORDS as u32))
+        Ok(Text::Picture {
+            geometry: GEOMETRY,
+            lines: TEXT_RECORDS as u32
+        })
     );
     lines.extend_from_slice(b"(intra 0)\n");
     is(
@@ -94,9 +97,9 @@ fn of_logs() {
     let head = "(base 16 32)\n(scaled 16 32)\n(at 0 0)\n(full 16 16)\n";
     let made = log(format!("{head}(intra 15)\n(intra 0)\n").as_bytes());
     assert_eq!(made.bytes, b"(mb 0 0 0 0)\n(sync 1 0 1 0)\n");
-    assert_eq!(made.refusal, None);
+    assert_eq!(made.verdict, Ok(Logged::Picture));
     for (text, line, number, place, rule) in [
-        (String::new(), "(refused 9 0)\n", refused::GRAMMAR, 0, 0),
+        ("\n".to_string(), "(refused 9 0)\n", refused::GRAMMAR, 0, 0),
         (
             head.replace("16 32", "16 33"),
             "(refused 1 0)\n",
@@ -136,8 +139,8 @@ fn of_logs() {
         let refused = log(text.as_bytes());
         assert_eq!(refused.bytes, line.as_bytes());
         assert_eq!(
-            refused.refusal,
-            Some(Refusal {
+            refused.verdict,
+            Err(Refusal {
                 number,
                 place,
                 rule

@@ -2,17 +2,23 @@
 //! counts, and of one macroblock how many of its blocks each base macroblock fed,
 //! and the record: `picture COLUMN ROW < TEXT`.
 //!
-//! The exit status is 0, 1 if a call refuses, which is printed, or 2 if the
-//! arguments are no two numbers or the text cannot be read.
+//! The exit status is 0, 1 if a call refuses, which is printed, 2 if the
+//! arguments are no two numbers or the text cannot be read, or 3 if the text has no
+//! bytes: then "no picture" is printed.
 
-use spiewomir::{Counts, Fed, Refusal, TEXT_BYTES, TEXT_WORDS, WORDS};
+use spiewomir::{Counts, Fed, Refusal, Text, TEXT_BYTES, TEXT_WORDS, WORDS};
 use std::io::Read;
 use std::process::ExitCode;
 
 /// The counts, and what fed the macroblock at a column and row, and its record.
-fn picture(text: &[u8], column: i32, row: i32) -> Result<(Counts, Fed, [i16; WORDS]), Refusal> {
+type Made = (Counts, Fed, [i16; WORDS]);
+
+/// What is made of a text; nothing if it means no picture.
+fn picture(text: &[u8], column: i32, row: i32) -> Result<Option<Made>, Refusal> {
     let mut base = vec![0; TEXT_WORDS];
-    let (geometry, lines) = spiewomir::text(text, &mut base)?;
+    let Text::Picture { geometry, lines } = spiewomir::text(text, &mut base)? else {
+        return Ok(None);
+    };
     base.truncate(lines as usize * WORDS);
 
     // 78 words for each macroblock, none for sizes that the call refuses.
@@ -23,7 +29,7 @@ fn picture(text: &[u8], column: i32, row: i32) -> Result<(Counts, Fed, [i16; WOR
     // on, columns being full_width / 16. The call judges column and row.
     let mut record = [0; WORDS];
     let answer = spiewomir::macroblock(geometry, &base, column, row, &mut record)?;
-    Ok((counts, answer.fed, record))
+    Ok(Some((counts, answer.fed, record)))
 }
 
 /// Two arguments, each wholly a number.
@@ -45,11 +51,15 @@ fn main() -> ExitCode {
         return ExitCode::from(2);
     }
     match picture(&text, column, row) {
-        Ok((counts, fed, record)) => {
+        Ok(Some((counts, fed, record))) => {
             println!("inherited {} intra {} outside {}", counts.inherited, counts.intra, counts.outside);
             println!("first {} right {} below {} diagonal {}", fed.first, fed.right, fed.below, fed.diagonal);
             println!("{}", record.map(|word| word.to_string()).join(" "));
             ExitCode::SUCCESS
+        }
+        Ok(None) => {
+            println!("no picture");
+            ExitCode::from(3)
         }
         Err(refusal) => {
             println!("refused {} place {} rule {}", refusal.number, refusal.place, refusal.rule);
