@@ -1,7 +1,7 @@
 -- `spiewomir::written_result` meets its contract. Assumes nothing.
 use Rattle.spiewomir.specs.Texts.{writtenResult}
 use Rattle.definitions.specs.declared.Verdict.{Verdict}
-use mathlib.Core.Path.{sym, ap, _∙_}
+use mathlib.Core.Path.{sym, ap}
 use borrow.Author.Needs.{needs}
 use Rattle.spiewomir.proofs.written_result.Statement.{statement}
 use Rattle.spiewomir.proofs.written_result.Tie as tie
@@ -18,15 +18,12 @@ enum-known-verdict c = search needs
 returns : tie.Need-returns
 returns c =
     let a = c .before .before .before .args .l in
-    let e = c .before .before .flag-of .ensures in
-    (λ i. record { refusal = 0; text = 0; place = 0; rule = 0; bytes = a .bytes; empty = e i }) ∙ sym (ap (λ (v : Verdict). writtenResult (a .bytes) v (a .empty)) (c .enum-told .given .1))
+    rw (c .before .before .flag-of .ensures) (sym (ap (λ (v : Verdict). writtenResult (a .bytes) v (a .empty)) (c .enum-told .given .1)))
 
 returns-2 : tie.Need-returns-2
 returns-2 c =
     let a = c .before .before .before .before .args .l in
-    let e = c .before .before .before .flag-of .ensures in
-    let r = c .before .verdict .given in
-    (λ i. record { refusal = 0; text = r .0 .0 .number; place = r .0 .0 .place; rule = r .0 .0 .rule; bytes = a .bytes; empty = e i }) ∙ sym (ap (λ (v : Verdict). writtenResult (a .bytes) v (a .empty)) (r .1))
+    rw (c .before .before .before .flag-of .ensures) (sym (ap (λ (v : Verdict). writtenResult (a .bytes) v (a .empty)) (c .before .verdict .given .1)))
 
 pub written-result-spec : {M : Type 1} → statement M
 written-result-spec = tie.close (tie.spec flag-of-requires enum-told enum-known-verdict returns returns-2)
