@@ -20,6 +20,7 @@ pub mod Verdicts
 pub mod Sets
 pub mod Answers
 pub mod Apart
+pub mod Widths
 pub mod Sameness
 pub mod Blocks
 pub mod Addresses

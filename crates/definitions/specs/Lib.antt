@@ -19,6 +19,7 @@ pub mod Text
 pub mod Log
 pub mod Demand3
 pub mod Apart
+pub mod Widths
 pub mod Written
 pub mod Examples
 pub mod Unstarred

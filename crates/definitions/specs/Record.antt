@@ -15,13 +15,16 @@ use Rattle.definitions.specs.Basics.{pick, minus, eqZ, between, bitSet, 
 use Rattle.definitions.specs.Splits.{oneEach}
 use Rattle.definitions.specs.Blocks.{quadrantOf, rasterOf}
 
--- 78 signed 16-bit words (77 before E7)
+-- 78 signed words (77 before E7), of 16 bits or, with document 02's E12, of 32
 abbrev pub recordWords : ℕ
 recordWords = 78
 
--- Vector words are −L..L − 1. L is a parameter of rule 5 and of all that cites it; its value for these records, the narrow one:
+-- Vector words are −L..L − 1. L is a parameter of rule 5 and of all that cites it; its values for the two widths, records of 16-bit and (document 02, E12) of 32-bit words:
 abbrev pub narrow : ℕ
 narrow = 8192
+
+abbrev pub wide : ℕ
+wide = 131072
 
 -- the record at an address of a list of records
 unfoldable pub recordAt : List ℤ → ℕ → List ℤ
