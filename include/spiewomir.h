@@ -185,8 +185,9 @@ typedef struct {
     uint32_t refusal, place, rule; /* place is 0 but for refusal 9, rule is 0 */
     SpiewomirGeometry geometry;    /* as it stands in the text, not judged; zeros in a refusal */
     uint32_t lines;                /* record lines; 0 in a refusal */
-    uint32_t empty;                /* 1 if the text has no bytes: no picture, and all else is 0; else 0,
-                                      also of a text whose numbers and lines are 0 */
+    uint32_t empty;                /* 1 where there is no picture: the text has no bytes, and 6 does not
+                                      refuse; all else is 0 then. Else 0, also of a text whose numbers
+                                      and lines are 0 */
 } SpiewomirText;
 
 typedef struct {
@@ -194,7 +195,7 @@ typedef struct {
     uint32_t text_refusal, place, rule; /* the text's, 0 if it has a picture or is empty: the number and
                                            place that the log says, and the rule of refusal 8 */
     size_t bytes;                       /* the log's length */
-    uint32_t empty;                     /* 1 if the text has no bytes: no picture; else 0 */
+    uint32_t empty;                     /* 1 if a log is written and the text has no bytes; else 0 */
 } SpiewomirLog;
 
 /* One macroblock. `base` has the base picture's records in raster order, `out`

@@ -246,8 +246,8 @@ pub enum Text {
 /// Reads a sync text: the geometry's numbers and the count of record lines,
 /// whose words stand first in `words`, which has [`TEXT_WORDS`]; the rest is as it
 /// was. Neither numbers nor words are judged. Refusals 6, 10 by length, 9, 10 by
-/// lines, in this order. A text of no bytes is refused by 6 only, and else no word is
-/// written. `include/spiewomir.h` has the grammar.
+/// lines, in this order. A text of no bytes is refused by 6 only; else the answer is
+/// [`Text::NoPicture`], and no word is written. `include/spiewomir.h` has the grammar.
 pub fn text(text: &[u8], words: &mut [i16]) -> Result<Text, Refusal> {
     numbers::text(text, words).result()
 }

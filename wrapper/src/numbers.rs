@@ -151,8 +151,8 @@ pub struct Text {
     pub geometry: Geometry,
     /// Record lines.
     pub lines: u32,
-    /// 1 if the text has no bytes: no picture, and all else is 0; else 0, also of a text
-    /// whose numbers and lines are 0.
+    /// 1 where there is no picture: the text has no bytes, and 6 does not refuse; all else
+    /// is 0 then. Else 0, also of a text whose numbers and lines are 0.
     pub empty: u32,
 }
 
@@ -171,7 +171,7 @@ pub struct Log {
     pub rule: u32,
     /// The log's length.
     pub bytes: usize,
-    /// 1 if the text has no bytes: no picture; else 0.
+    /// 1 if a log is written and the text has no bytes; else 0.
     pub empty: u32,
 }
 

@@ -19,7 +19,7 @@ use Rattle.definitions.specs.Geometry.{axesOf}
 use Rattle.definitions.specs.Record.{narrow}
 use Rattle.definitions.specs.Refusals.{refusal, verdictOf, geometryTests, geometryVerdict, recordTests, allAddresses}
 use Rattle.definitions.specs.Text.{Reading, empty, notRead, readAs, baseOf}
-use Rattle.definitions.specs.Log.{programTests, Finding, findsNone, refuses, findingBy, findingOf, logFor, verdictFor, emptyFor, pictureLines, emptyLine, refusedLine, LogOf, SaidByLog}
+use Rattle.definitions.specs.Log.{programTests, Finding, findsNone, refuses, findingBy, findingOf, logFor, verdictFor, emptyFor, pictureLines, noPictureLine, refusedLine, LogOf, SaidByLog}
 use Rattle.definitions.specs.Raster.{baseCount, fullCount}
 use Rattle.definitions.proofs.Choices.{yes, no}
 use Rattle.definitions.proofs.Verdicts.{then-verdict, refused-first, given-by, both-passed}

@@ -19,7 +19,7 @@ use Rattle.definitions.specs.Basics.{pick, upTo, forEach}
 use Rattle.definitions.specs.Splits.{subCount}
 use Rattle.definitions.specs.Answer.{answerType}
 use Rattle.definitions.specs.Text.{Digit, All, none, each, valued, Plain, zeroAlone, digits}
-use Rattle.definitions.specs.Log.{digitsIn, decimal, lineOf, mbWord, syncWord, answerPieces, macroblockLine, syncLine, pictureLines, emptyLine, refusedLine}
+use Rattle.definitions.specs.Log.{digitsIn, decimal, lineOf, mbWord, syncWord, answerPieces, macroblockLine, syncLine, pictureLines, noPictureLine, refusedLine}
 use Rattle.definitions.specs.Raster.{fullCount}
 use Rattle.definitions.proofs.Choices.{yes, no, upTo-length}
 
@@ -157,8 +157,8 @@ unfolding pictureLines refusedLine lineOf
 lines-differ g base r e = no-r g base (upTo (fullCount g) (λ a. a)) (ap (λ (l : List ℕ). getD l 1 0) e)
 
 -- nor that of no picture, which is the line of no picture made
-pub empty-differs : (r : Refusal) → emptyLine ≡ refusedLine r → ⊥
-unfolding emptyLine refusedLine lineOf
+pub empty-differs : (r : Refusal) → noPictureLine ≡ refusedLine r → ⊥
+unfolding noPictureLine refusedLine lineOf
 empty-differs r e = let z : _≡_ {A = ℕ} 115 114 = ap (λ (l : List ℕ). getD l 1 0) e in omega (arith, z)
 
 no-s : (g : Axes) (base : List ℤ) (l : List ℕ) → 0 < length l → getD (forEach l (macroblockLine g base) ++ syncLine g base) 1 0 ≡ 115 → ⊥
@@ -166,8 +166,8 @@ unfolding macroblockLine lineOf
 no-s g base [] h e = omega (arith, h)
 no-s g base (x ∷ xs) h e = omega arith
 
-pub made-differ : (g : Axes) (base : List ℤ) → 0 < fullCount g → pictureLines g base ≡ emptyLine → ⊥
-unfolding pictureLines emptyLine lineOf
+pub made-differ : (g : Axes) (base : List ℤ) → 0 < fullCount g → pictureLines g base ≡ noPictureLine → ⊥
+unfolding pictureLines noPictureLine lineOf
 made-differ g base h e =
     no-s g base (upTo (fullCount g) (λ a. a)) (subst (λ (k : ℕ). 0 < k) (sym (upTo-length (fullCount g) (λ a. a))) h) (ap (λ (l : List ℕ). getD l 1 0) e)
 

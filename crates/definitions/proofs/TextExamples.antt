@@ -1,6 +1,6 @@
 -- The examples of texts of specs/Unstarred: written out by the grammar's own rules. Assumes nothing.
 use Prim.Native.Nat.{ℕ, zero, suc, _*_, _-_, _≤_}
-use mathlib.Core.Path.{_≡_, refl}
+use mathlib.Core.Path.{_≡_, refl, ap, _∙_}
 use mathlib.Core.Logic.{inl}
 use mathlib.Core.List.{List, [], _∷_}
 use native.Mathlib.Omega.{arith}
@@ -8,13 +8,14 @@ use lib.IntN.{ℤ, pos}
 use lib.ListN.{length}
 use Rattle.definitions.specs.declared.LogReply.{LogReply}
 use Rattle.definitions.specs.declared.LogReply.the-variants.{Refused as NotWritten}
+use Rattle.definitions.specs.declared.Refusal.{Refusal}
 use Rattle.definitions.specs.declared.TextReply.{TextReply}
 use Rattle.definitions.specs.declared.TextReply.the-variants.{NoPicture, Refused as NotRead}
 use Rattle.definitions.specs.Basics.{pick, minus, allBelow, upTo}
 use Rattle.definitions.specs.Record.{recordWords, laidOut, recordAt, rule1, rule2, rule3, rule4, rule5, rule6, rule7, firstBroken}
 use Rattle.definitions.specs.Refusals.{refusal, geometryTests, recordTests}
 use Rattle.definitions.specs.Text.{Digit, none, each, valued, zeroAlone, digits, word, Number, unsigned, negative, close, item, isWord, Note, note, Part, Form, nothing, isByte, isSpaced, isEnded, numbersThen, mbLine, LineOf, Notes, noHead, head, noRecord, aRecord, Text, textRecords, Reading, empty, notRead, readAs, Reads, noBytes, tooLong, broken, tooMany, read, TextAnswer, wrongWords, noPicture, refused, given}
-use Rattle.definitions.specs.Log.{digitsIn, decimal, lineOf, emptyLine, refusedLine, programTests, LogAnswer, tooFew, logged}
+use Rattle.definitions.specs.Log.{digitsIn, decimal, lineOf, noPictureLine, refusedLine, programTests, LogAnswer, tooFew, logged}
 use Rattle.definitions.specs.Unstarred.{zerosThen, mbLineText, mbText, mbNumbers, mbEntries, TextsHold}
 
 -- 0, numbers of two digits, 4 and −2
@@ -70,6 +71,13 @@ long l (broken p h b) = absurd (omega arith)
 long l (tooMany h x m) = refl
 long l (read h x m) = absurd (omega arith)
 
+never-nine : {v : Reading} {r : Refusal} → Reads [] v → v ≡ notRead r → r .number ≡ 9 → ⊥
+never-nine (noBytes h) q e = let z : _≡_ {A = ℕ} 0 1 = cc in omega arith
+never-nine {r = r} (tooLong h) q e = absurd (omega (arith, h))
+never-nine (broken p h b) q e = omega (arith, p)
+never-nine {r = r} (tooMany h x m) q e = let same : refusal 10 ≡ r = cc in let ten : _≡_ {A = ℕ} 10 9 = ap (λ (s : Refusal). s .number) same ∙ e in omega (arith, ten)
+never-nine (read h x m) q e = let z : _≡_ {A = ℕ} 0 1 = cc in omega arith
+
 no-more : {c : ℕ} {t : List ℕ} → Reads (c ∷ t) empty → ⊥
 no-more (noBytes h) = omega (arith, h)
 
@@ -87,7 +95,7 @@ letters : Note (40 ∷ 110 ∷ 111 ∷ 116 ∷ 101 ∷ 32 ∷ 97 ∷ 122 ∷ 41 
 letters = note (item (inl (isWord (word {c = 97} (omega arith, omega arith) (each {c = 122} (omega arith, omega arith) none)))) close)
 
 pub texts-hold : TextsHold
-unfolding pick allBelow upTo laidOut recordAt rule1 rule2 rule3 rule4 rule5 rule6 rule7 firstBroken geometryTests recordTests digitsIn decimal lineOf emptyLine refusedLine programTests
+unfolding pick allBelow upTo laidOut recordAt rule1 rule2 rule3 rule4 rule5 rule6 rule7 firstBroken geometryTests recordTests digitsIn decimal lineOf noPictureLine refusedLine programTests
 texts-hold = record {
   mb-text = mb-text;
   mb-log = record { reading = readAs _ _; reads = read (omega arith) mb-text (omega arith); is = refl };
@@ -106,6 +114,7 @@ texts-hold = record {
   letters = letters;
   no-bytes = noBytes (omega arith);
   no-bytes-words = λ words l. noPicture (omega arith) (noBytes (omega arith));
+  no-bytes-nine = λ r x e. never-nine x refl e;
   line-feed = λ x. no-more x;
   note-only = λ x. no-more x;
   no-bytes-log = record { reading = empty; reads = noBytes (omega arith); is = refl };

@@ -73,8 +73,8 @@ unfoldable pub pictureLines : Axes → List ℤ → List ℕ
 pictureLines g base = forEach (upTo (fullCount g) (λ a. a)) (macroblockLine g base) ++ syncLine g base
 
 -- (sync 0 0 0 0): a text of no bytes means no picture (document 02, E2)
-unfoldable pub emptyLine : List ℕ
-emptyLine = lineOf syncWord (0 ∷ 0 ∷ 0 ∷ 0 ∷ [])
+unfoldable pub noPictureLine : List ℕ
+noPictureLine = lineOf syncWord (0 ∷ 0 ∷ 0 ∷ 0 ∷ [])
 
 -- (refused number place)
 unfoldable pub refusedLine : Refusal → List ℕ
@@ -120,7 +120,7 @@ findingOf (readAs n entries) = judged n (length entries) (baseOf entries)
 -- ---- The log
 -- A refusal writes only (refused number place), and no picture only (sync 0 0 0 0).
 abbrev pub logFor : Finding → List ℕ
-logFor findsNone = emptyLine
+logFor findsNone = noPictureLine
 logFor (refuses r) = refusedLine r
 logFor (makes lines) = lines
 
@@ -153,10 +153,10 @@ pub data LogAnswer (t out : List ℕ) : LogReply → List ℕ → Type 0 where
       → LogAnswer t out (Written (record { bytes = length log; verdict = verdictFor (findingOf (found .reading)); empty = emptyFor (findingOf (found .reading)) })) (log ++ drop (length log) out)
 
 -- The verdict says what the log says: refused, the log is the line of that refusal; accepted, it is that of none. And the log is (sync 0 0 0 0) exactly where there is no picture.
-pub record SaidByLog (verdict : Verdict) (none : Bool) (log : List ℕ) : Type 0 where
+pub record SaidByLog (verdict : Verdict) (without : Bool) (log : List ℕ) : Type 0 where
   pub refused : (r : Refusal) → verdict ≡ Refused r → log ≡ refusedLine r
   pub accepted : verdict ≡ Accepted → (r : Refusal) → log ≡ refusedLine r → ⊥
-  pub no-picture : (none ≡ true) ↔ (log ≡ emptyLine)
+  pub no-picture : (without ≡ true) ↔ (log ≡ noPictureLine)
 
 -- ---- Demand 2: "it is then refused only for what refusals 1 to 5 and 8 say of its numbers and its count of record lines"
 -- Of a text that belongs to the grammar and keeps the limits: its log is a refusal exactly where one of these applies, and is then the first of them; and a log
@@ -175,9 +175,9 @@ Demand2Log =
 
 -- The empty text is refused for none (document 02, E2): its log is (sync 0 0 0 0), which is no refusal's, and no other text's.
 pub record Demand2Empty : Type 0 where
-  pub log : (log : List ℕ) → LogOf [] log → log ≡ emptyLine
-  pub no-refusal : (r : Refusal) → emptyLine ≡ refusedLine r → ⊥
-  pub alone : (t : List ℕ) → LogOf t emptyLine → t ≡ []
+  pub log : (log : List ℕ) → LogOf [] log → log ≡ noPictureLine
+  pub no-refusal : (r : Refusal) → noPictureLine ≡ refusedLine r → ⊥
+  pub alone : (t : List ℕ) → LogOf t noPictureLine → t ≡ []
 
 -- Demand 2 of texts: both halves, and of the empty text
 pub record Demand2Entire : Type 0 where

@@ -545,7 +545,9 @@ pub record TextsHold : Type 0 where
   -- A text of no bytes means no picture, leaves the words, and has the log (sync 0 0 0 0).
   pub no-bytes : Reads [] empty
   pub no-bytes-words : (words : List ℤ) → length words ≡ 7722 → TextAnswer [] words NoPicture words
+  pub no-bytes-log : LogOf [] (40 ∷ 115 ∷ 121 ∷ 110 ∷ 99 ∷ 32 ∷ 48 ∷ 32 ∷ 48 ∷ 32 ∷ 48 ∷ 32 ∷ 48 ∷ 41 ∷ 10 ∷ [])
+  -- Refusal 9 is none of its.
+  pub no-bytes-nine : (r : Refusal) → Reads [] (notRead r) → r .number ≡ 9 → ⊥
   -- A line feed alone, or a note, does not mean it.
   pub line-feed : Reads (10 ∷ []) empty → ⊥
   pub note-only : Reads (40 ∷ 110 ∷ 111 ∷ 116 ∷ 101 ∷ 41 ∷ 10 ∷ []) empty → ⊥
-  pub no-bytes-log : LogOf [] (40 ∷ 115 ∷ 121 ∷ 110 ∷ 99 ∷ 32 ∷ 48 ∷ 32 ∷ 48 ∷ 32 ∷ 48 ∷ 32 ∷ 48 ∷ 41 ∷ 10 ∷ [])

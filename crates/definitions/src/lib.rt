@@ -154,13 +154,14 @@ pub struct TextRead {
     pub lines: u32,
 }
 
+// `NoPicture`: the text has no bytes (document 02, E2).
 pub enum TextReply {
     NoPicture,
     Read(TextRead),
     Refused(Refusal),
 }
 
-// What the log call gives: the length of the log, and the verdict on the text that its lines say; or why none is written.
+// What the log call gives: the length of the log, the verdict on the text that its lines say, and whether the text is empty and so means no picture; or why none is written.
 pub struct Logged {
     pub bytes: usize,
     pub verdict: Verdict,

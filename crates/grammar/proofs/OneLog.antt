@@ -13,7 +13,7 @@ use Rattle.definitions.specs.declared.Verdict.the-variants.{Accepted, Refused}
 use Rattle.definitions.specs.Geometry.{axesOf}
 use Rattle.definitions.specs.Refusals.{refusal, verdictOf}
 use Rattle.definitions.specs.Text.{Entry, textBytes, baseOf, Reading, empty, notRead, readAs, Reads, noBytes, tooLong, read}
-use Rattle.definitions.specs.Log.{findingBy, findingOf, LogOf, logFor, verdictFor, emptyFor, programTests, pictureLines, emptyLine, refusedLine, Demand2Log, Demand2Empty, Demand2Entire}
+use Rattle.definitions.specs.Log.{findingBy, findingOf, LogOf, logFor, verdictFor, emptyFor, programTests, pictureLines, noPictureLine, refusedLine, Demand2Log, Demand2Empty, Demand2Entire}
 use Rattle.definitions.proofs.Lines.{lines-differ, empty-differs, refused-number}
 use Rattle.definitions.proofs.Findings.{refused-by, number-of, said-by-log}
 use Rattle.grammar.proofs.Once.{had, has-bytes, reads-once, demand2-text}

@@ -26,7 +26,7 @@ use Rattle.definitions.specs.Geometry.{axesOf}
 use Rattle.definitions.specs.Record.{recordWords, narrow}
 use Rattle.definitions.specs.Refusals.{refusal, verdictOf, geometryTests, geometryVerdict, recordTests, allAddresses}
 use Rattle.definitions.specs.Text.{Entry, baseOf, textRecords, Reading, empty, notRead, readAs, Reads, noBytes, tooLong, broken, tooMany, read, TextAnswer, wrongWords, noPicture, refused, given}
-use Rattle.definitions.specs.Log.{Finding, findsNone, refuses, makes, findingBy, programTests, judged, findingOf, digitsIn, decimal, pictureLines, LogOf, logFor, lineOf, syncWord, refusedWord, emptyLine, refusedLine, logBytes, verdictFor, emptyFor, LogAnswer, tooFew, logged, SaidByLog}
+use Rattle.definitions.specs.Log.{Finding, findsNone, refuses, makes, findingBy, programTests, judged, findingOf, digitsIn, decimal, pictureLines, LogOf, logFor, lineOf, syncWord, refusedWord, noPictureLine, refusedLine, logBytes, verdictFor, emptyFor, LogAnswer, tooFew, logged, SaidByLog}
 use Rattle.definitions.proofs.Choices.{of-true}
 use Rattle.definitions.proofs.Verdicts.{both-passed}
 use Rattle.definitions.proofs.Accepted.{accepted-axes}
@@ -40,7 +40,7 @@ use Rattle.log_lines.specs.Put.{Fits, Put}
 use Rattle.log_picture.proofs.Growing.{picture-short}
 use Rattle.log.specs.declared.Found.{Found}
 use Rattle.log.specs.declared.Found.the-variants.{NoPicture as NoneFound, Made, Refused as Declined}
-use Rattle.log.specs.Given.{Given, none, kept, lines}
+use Rattle.log.specs.Given.{Given, nothingFound, kept, lines}
 use Rattle.log.specs.Promised.{AsJudged, LogPromised}
 
 -- ---- bytes put from the buffer's start on
@@ -53,9 +53,9 @@ pub refused-room : (out : List ℕ) (a b : ℕ) → 31 ≤ length out → a ≤ 
 unfolding lineOf
 refused-room out a b room p q = simp length-append (omega (arith, digits5 a (omega arith), digits5 b (omega arith)))
 
-pub empty-room : (out : List ℕ) → 31 ≤ length out → Fits out 0 (lineOf syncWord (0 ∷ 0 ∷ 0 ∷ 0 ∷ []))
+pub no-picture-room : (out : List ℕ) → 31 ≤ length out → Fits out 0 (lineOf syncWord (0 ∷ 0 ∷ 0 ∷ 0 ∷ []))
 unfolding lineOf
-empty-room out room = simp length-append (omega (arith, digits5 0 (omega arith)))
+no-picture-room out room = simp length-append (omega (arith, digits5 0 (omega arith)))
 
 -- ---- what is given by a verdict
 module _ (out log : List ℕ) (v : Verdict) where
@@ -168,8 +168,8 @@ reads-low {r = r} (read {n = n} {entries = entries} l x k) e =
     by-low k (refused-by (length entries) n (baseOf entries) r (finding-refused (verdictOf (programTests n (length entries) (baseOf entries))) (pictureLines (axesOf n) (baseOf entries)) r e))
 
 -- every log fits
-empty-short : length emptyLine ≤ logBytes
-unfolding emptyLine lineOf decimal digitsIn pick
+empty-short : length noPictureLine ≤ logBytes
+unfolding noPictureLine lineOf decimal digitsIn pick
 empty-short = omega arith
 
 finding-short : (v : Reading) {log : List ℕ} → findingOf v ≡ makes log → length log ≤ logBytes
@@ -220,7 +220,7 @@ by-finding {t} {out} {new} {v} f room x is a b =
 -- lines were given
 pub lines-logged : {t out new : List ℕ} {v : Reading} {f : Finding} {reply : Found} {n : ℕ} → logBytes ≤ length out
     → Reads t v → findingOf v ≡ f → Given out f reply new → reply ≡ Made n → LogAnswer t out (Written (record { bytes = n; verdict = Accepted; empty = false })) new
-lines-logged room x is none e = absurd (let z : _≡_ {A = ℕ} 0 1 = cc in omega arith)
+lines-logged room x is nothingFound e = absurd (let z : _≡_ {A = ℕ} 0 1 = cc in omega arith)
 lines-logged room x is kept e = absurd (let z : _≡_ {A = ℕ} 0 1 = cc in omega arith)
 lines-logged {n = n} room x is (lines {log = log}) e =
     let z : length log ≡ n = cc in
@@ -236,7 +236,7 @@ pub record Kept (t out : List ℕ) (r : Refusal) (mid : List ℕ) : Type 0 where
 
 pub refusal-kept : {t out mid : List ℕ} {v : Reading} {f : Finding} {reply : Found} {r : Refusal} → Reads t v → findingOf v ≡ f → Given out f reply mid
     → reply ≡ Declined r → Kept t out r mid
-refusal-kept x is none e = absurd (let z : _≡_ {A = ℕ} 0 1 = cc in omega arith)
+refusal-kept x is nothingFound e = absurd (let z : _≡_ {A = ℕ} 0 1 = cc in omega arith)
 refusal-kept {v = v} {r = r} x is (kept {r = s}) e =
     let q : s ≡ r = cc in
     let found : findingOf v ≡ refuses r = is ∙ ap refuses q in
@@ -255,14 +255,14 @@ pub empty-kept : {out mid : List ℕ} {reply : Found} (v : Reading) → Given ou
 empty-kept v g e = by (findingOf v) g e
   where
     by : {out mid : List ℕ} {reply : Found} (f : Finding) → Given out f reply mid → reply ≡ NoneFound → (f ≡ findsNone) × (mid ≡ out)
-    by findsNone none e = (refl, refl)
+    by findsNone nothingFound e = (refl, refl)
     by (refuses r) kept e = absurd (let z : _≡_ {A = ℕ} 0 1 = cc in omega arith)
     by (makes log) lines e = absurd (let z : _≡_ {A = ℕ} 0 1 = cc in omega arith)
 
-pub empty-logged : {t out mid new : List ℕ} {v : Reading} {n : ℕ} → logBytes ≤ length out → Reads t v → (findingOf v ≡ findsNone) × (mid ≡ out) → Put mid 0 emptyLine new n
+pub empty-logged : {t out mid new : List ℕ} {v : Reading} {n : ℕ} → logBytes ≤ length out → Reads t v → (findingOf v ≡ findsNone) × (mid ≡ out) → Put mid 0 noPictureLine new n
     → LogAnswer t out (Written (record { bytes = n; verdict = Accepted; empty = true })) new
 empty-logged {t} {out} {mid} {new} {v} {n} room x k p =
-    let h = put-first out emptyLine new n (omega (arith, empty-short)) (subst (λ (o : List ℕ). Put o 0 emptyLine new n) (k .1) p) in
+    let h = put-first out noPictureLine new n (omega (arith, empty-short)) (subst (λ (o : List ℕ). Put o 0 noPictureLine new n) (k .1) p) in
     by-finding findsNone room x (k .0) (λ i. record { bytes = sym (h .0) i; verdict = Accepted; empty = true }) (sym (h .1))
 
 -- with room for every log it is written, and lies in the buffer

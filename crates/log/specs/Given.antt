@@ -9,7 +9,7 @@ use Rattle.log.specs.declared.Found.{Found}
 use Rattle.log.specs.declared.Found.the-variants.{NoPicture, Made, Refused}
 
 pub data Given (out : List ℕ) : Finding → Found → List ℕ → Type 0 where
-  none : Given out findsNone NoPicture out
+  nothingFound : Given out findsNone NoPicture out
   kept : {r : Refusal} → Given out (refuses r) (Refused r) out
   lines : {log : List ℕ} → Given out (makes log) (Made (length log)) (log ++ drop (length log) out)
 

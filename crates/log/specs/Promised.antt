@@ -20,10 +20,10 @@ pub record AsJudged (n : Numbers) (entries : List Entry) (verdict : Verdict) (lo
   pub verdict-is : verdict ≡ verdictOf (programTests n (length entries) (baseOf entries))
   pub refused-only : RefusedOnly n (length entries) (baseOf entries) log
 
--- of every text: the verdict says what the log says; there is no picture exactly where it has no bytes, and refusal 9 never of such
-pub record Promised (t : List ℕ) (verdict : Verdict) (none : Bool) (log : List ℕ) : Type 0 where
-  pub said : SaidByLog verdict none log
-  pub no-bytes : (none ≡ true) ↔ (length t ≡ 0)
+-- of every text: the verdict says what the log says; there is no picture exactly where it has no bytes, and 9 refuses no such text
+pub record Promised (t : List ℕ) (verdict : Verdict) (without : Bool) (log : List ℕ) : Type 0 where
+  pub said : SaidByLog verdict without log
+  pub no-bytes : (without ≡ true) ↔ (length t ≡ 0)
   pub nine : (r : Refusal) → verdict ≡ Refused r → r .number ≡ 9 → 0 < length t
   pub as-judged : (n : Numbers) (entries : List Entry) → Text n entries t → length t ≤ textBytes → length entries ≤ textRecords → AsJudged n entries verdict log
 

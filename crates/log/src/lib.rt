@@ -1,6 +1,6 @@
 // The log of a sync text, from bytes to bytes.
 ghost use Prim.Native.Nat.{_*_, _≤_, _<_};
-ghost use Rattle.definitions.specs.Log.{LogAnswer, emptyLine, judged, logBytes, refusedLine};
+ghost use Rattle.definitions.specs.Log.{LogAnswer, noPictureLine, judged, logBytes, refusedLine};
 ghost use Rattle.definitions.specs.Record.{recordWords};
 ghost use Rattle.log_lines.specs.Put.{Put};
 ghost use Rattle.log.specs.Given.{Given, LinesGiven};
@@ -84,9 +84,9 @@ fn refused_line(out: &mut [u8], r: Refusal) -> usize
 }
 
 // (sync 0 0 0 0)
-fn empty_line(out: &mut [u8]) -> usize
+fn no_picture_line(out: &mut [u8]) -> usize
     requires { ⌜ 31 ≤ length (now out) ⌝ }
-    ensures { λ n. ⌜ Put (now (out .entry)) 0 emptyLine (now (out .exit)) n ⌝ }
+    ensures { λ n. ⌜ Put (now (out .entry)) 0 noPictureLine (now (out .exit)) n ⌝ }
 {
     let numbers = [0; 4];
     put_line(out, 0, b"sync", &numbers)
@@ -103,7 +103,7 @@ pub fn log(text: &[u8], out: &mut [u8]) -> LogReply
     }
     match text_lines(text, out) {
         Found::NoPicture => LogReply::Written(Logged {
-            bytes: empty_line(out),
+            bytes: no_picture_line(out),
             verdict: Verdict::Accepted,
             empty: true,
         }),

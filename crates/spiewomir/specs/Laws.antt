@@ -68,7 +68,7 @@ pub record ZeroWhenAnswered : Type 0 where
   pub log-text : (t out : List ℕ) (l : Logged) (new : List ℕ) → LogAnswer t out (Written l) new
       → (logResult (Written l) .text ≡ 0) ↔ (l .verdict ≡ Accepted)
 
--- empty is 1 exactly where there is no picture (document 02, E2)
+-- empty is 1 exactly where there is no picture, and of a written log where its text means none (document 02, E2)
 pub record EmptyWhenNoPicture : Type 0 where
   pub text : (reply : TextReply) → (textResult reply .empty ≡ 1) ↔ (reply ≡ NoPicture)
   pub log : (l : Logged) → (logResult (Written l) .empty ≡ 1) ↔ (l .empty ≡ true)

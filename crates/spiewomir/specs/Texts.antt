@@ -30,8 +30,8 @@ textResult (Refused r) = record { refusal = r .number; place = r .place; rule = 
 
 -- a written log of so many bytes, with the text's refusal that it says (its number is text), or zeros; and whether there is no picture
 abbrev pub writtenResult : ℕ → Verdict → Bool → LogResult
-writtenResult n Accepted none = record { refusal = 0; text = 0; place = 0; rule = 0; bytes = n; empty = flag none }
-writtenResult n (RefusedBy r) none = record { refusal = 0; text = r .number; place = r .place; rule = r .rule; bytes = n; empty = flag none }
+writtenResult n Accepted without = record { refusal = 0; text = 0; place = 0; rule = 0; bytes = n; empty = flag without }
+writtenResult n (RefusedBy r) without = record { refusal = 0; text = r .number; place = r .place; rule = r .rule; bytes = n; empty = flag without }
 
 -- refusal is the call's own
 abbrev pub logResult : LogReply → LogResult

@@ -20,8 +20,8 @@ text-lines-requires c κs = search needs
 enum-told : tie.Need-enum-told
 enum-told c = search needs
 
-empty-line-requires : tie.Need-empty-line-requires
-empty-line-requires c κs =
+no-picture-line-requires : tie.Need-no-picture-line-requires
+no-picture-line-requires c κs =
     let t = c .before .before .before .before .before .text-lines .ensures in
     let k = empty-kept (t .reading) (t .given) (c .before .enum-told .given .1) in
     let same = ap length (k .1) in
@@ -46,7 +46,7 @@ same-length c = search needs
 returns-2 : tie.Need-returns-2
 returns-2 c =
     let t = c .before .before .before .before .before .before .before .before .text-lines .ensures in
-    answered (empty-logged (c .before .before .before .before .before .before .before .before .before .before .if1 .left) (t .reads) (empty-kept (t .reading) (t .given) (c .before .before .before .before .enum-told .given .1)) (c .before .before .empty-line .ensures))
+    answered (empty-logged (c .before .before .before .before .before .before .before .before .before .before .if1 .left) (t .reads) (empty-kept (t .reading) (t .given) (c .before .before .before .before .enum-told .given .1)) (c .before .before .no-picture-line .ensures))
 
 same-length-2 : tie.Need-same-length-2
 same-length-2 c = search needs
@@ -72,7 +72,7 @@ log-spec =
     returns
     text-lines-requires
     enum-told
-    empty-line-requires
+    no-picture-line-requires
     enum-known-n
     enum-known-r
     refused-line-requires

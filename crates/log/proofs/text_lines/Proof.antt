@@ -2,7 +2,7 @@
 use mathlib.Core.Path.{sym}
 use lib.IntN.{pos}
 use lib.ListN.{length-replicate}
-use Rattle.log.specs.Given.{none, kept}
+use Rattle.log.specs.Given.{nothingFound, kept}
 use Rattle.log.proofs.Stages.{ReadWords, words-read, refused-read, empty-read}
 use borrow.Author.Needs.{needs}
 use Rattle.log.proofs.text_lines.Statement.{statement}
@@ -43,7 +43,7 @@ enum-known-r : tie.Need-enum-known-r
 enum-known-r c = search needs
 
 returns : tie.Need-returns
-returns c = record { reading = _; reads = empty-read (length-replicate 7722 (pos 0)) (c .before .before .before .read-text .ensures .0) (c .enum-told .given .1); given = none }
+returns c = record { reading = _; reads = empty-read (length-replicate 7722 (pos 0)) (c .before .before .before .read-text .ensures .0) (c .enum-told .given .1); given = nothingFound }
 
 same-length : tie.Need-same-length
 same-length c = search needs

@@ -1,9 +1,9 @@
--- `log::empty_line` meets its contract. Assumes nothing.
-use Rattle.definitions.specs.Log.{emptyLine}
-use Rattle.log.proofs.Stages.{empty-room}
+-- `log::no_picture_line` meets its contract. Assumes nothing.
+use Rattle.definitions.specs.Log.{noPictureLine}
+use Rattle.log.proofs.Stages.{no-picture-room}
 use borrow.Author.Needs.{needs}
-use Rattle.log.proofs.empty_line.Statement.{statement}
-use Rattle.log.proofs.empty_line.Tie as tie
+use Rattle.log.proofs.no_picture_line.Statement.{statement}
+use Rattle.log.proofs.no_picture_line.Tie as tie
 
 slice-aggregate-put-line : tie.Need-slice-aggregate-put-line
 slice-aggregate-put-line c = search needs
@@ -14,17 +14,17 @@ slice-aggregate-put-line-2 c = search needs
 put-line-requires : tie.Need-put-line-requires
 put-line-requires c κs =
     let s = c .before .before .before .before in
-    empty-room (s .args .out .now) (s .pre)
+    no-picture-room (s .args .out .now) (s .pre)
 
 same-length : tie.Need-same-length
 same-length c = search needs
 
 returns : tie.Need-returns
-unfolding emptyLine
+unfolding noPictureLine
 returns c = c .before .before .put-line .ensures
 
-pub empty-line-spec : {M : Type 1} → statement M
-empty-line-spec =
+pub no-picture-line-spec : {M : Type 1} → statement M
+no-picture-line-spec =
     tie.close
     (tie.spec
     slice-aggregate-put-line
