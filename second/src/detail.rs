@@ -7,6 +7,7 @@
 //! block need be looked at.
 
 use crate::map::Reading;
+use crate::word::Word;
 
 /// Base quadrants of the four macroblocks read, first, right, below and
 /// diagonal: bit 4r + q for quadrant q of macroblock r.
@@ -35,7 +36,8 @@ const ALONG_Y: [Set; 16] = quadrants_at(true);
 /// The four bits of an answer, from the details of the four macroblocks read,
 /// which are 0 to 15. Where one column or row is read, what stands for the
 /// other counts for nothing.
-pub fn detail([first, right, below, diagonal]: [i16; 4], x: &Reading, y: &Reading) -> u8 {
+pub fn detail<W: Word>(details: [W; 4], x: &Reading, y: &Reading) -> u8 {
+    let [first, right, below, diagonal] = details.map(W::number);
     let coded = (first | right << 4 | below << 8 | diagonal << 12) as Set;
     let [left, right] = x.quadrants.map(|places| coded & ALONG_X[places as usize % 16]);
     let [top, bottom] = y.quadrants.map(|places| ALONG_Y[places as usize % 16]);

@@ -2,10 +2,13 @@
 //! 02's request E3 has it. The motions are held by quadrant: four quadrants in
 //! raster order, of four blocks in raster order. In both fours the horizontal
 //! neighbour of i is i ^ 1, the vertical one i ^ 2 and the diagonal one i ^ 3.
+//! Steps 1 to 3 look at references and move vectors; neither they nor step 4
+//! know how wide a word is.
 
 use crate::record::Motion;
+use crate::word::Word;
 
-pub type Quadrants = [[Motion; 4]; 4];
+pub type Quadrants<W = i16> = [[Motion<W>; 4]; 4];
 
 /// The blocks that read intra macroblocks: bit 4q + i for block i of quadrant q.
 pub type IntraSet = u16;
@@ -27,7 +30,7 @@ fn neighbour(i: usize, has: impl Fn(usize) -> bool) -> Option<usize> {
 
 /// Step 1: each intra block of a quadrant that is not all intra takes the
 /// motion of a neighbour that is not.
-fn fill_intra_blocks(quadrant: &mut [Motion; 4], intra: u16) {
+fn fill_intra_blocks<W: Word>(quadrant: &mut [Motion<W>; 4], intra: u16) {
     let before = *quadrant;
     for i in 0..4 {
         if intra >> i & 1 == 1 {
@@ -39,15 +42,16 @@ fn fill_intra_blocks(quadrant: &mut [Motion; 4], intra: u16) {
 }
 
 /// Step 2: per list, one reference for the quadrant, the lowest used one.
-fn merge_references(quadrant: &mut [Motion; 4]) {
+fn merge_references<W: Word>(quadrant: &mut [Motion<W>; 4]) {
+    let unused = W::from(-1);
     for list in 0..2 {
         let first = quadrant[0].reference[list];
         if quadrant.iter().all(|block| block.reference[list] == first) {
             continue;
         }
         let before = *quadrant;
-        let used = before.iter().map(|block| block.reference[list]).filter(|&reference| reference != -1);
-        let lowest = used.min().unwrap_or(-1);
+        let used = before.iter().map(|block| block.reference[list]).filter(|&reference| reference != unused);
+        let lowest = used.min().unwrap_or(unused);
         for i in 0..4 {
             if before[i].reference[list] != lowest {
                 if let Some(j) = neighbour(i, |j| before[j].reference[list] == lowest) {
@@ -62,7 +66,7 @@ fn merge_references(quadrant: &mut [Motion; 4]) {
 
 /// Step 3: a quadrant that is all intra copies its horizontal neighbour, or
 /// the vertical one if that was all intra too.
-fn fill_intra_quadrants(quadrants: &mut Quadrants, intra: IntraSet) {
+fn fill_intra_quadrants<W: Word>(quadrants: &mut Quadrants<W>, intra: IntraSet) {
     let before = *quadrants;
     for q in 0..4 {
         if intra_in(intra, q) == ALL_INTRA {
@@ -90,8 +94,8 @@ impl Scale {
     }
 
     /// (v * scale + 32,768) / 65,536, rounded down below zero too, as the
-    /// shift of a signed number does. The product has 64 bits, so that words
-    /// of -131,072..=131,071 fit as well.
+    /// shift of a signed number does. The product has 64 bits: that of a wide
+    /// word does not fit 32.
     pub fn word(self, v: i32) -> i32 {
         const HALF: i64 = 1 << (FRACTION_BITS - 1);
         ((i64::from(v) * self.0 + HALF) >> FRACTION_BITS) as i32
@@ -106,15 +110,16 @@ pub struct Scales {
 }
 
 impl Scales {
-    /// Step 4 for a motion's vector words; doubled, they still have 16 bits.
-    pub fn vector(&self, [h0, v0, h1, v1]: [i16; 4]) -> [i16; 4] {
-        let word = |scale: Scale, v: i16| scale.word(v.into()) as i16;
+    /// Step 4 for a motion's vector words; doubled, those within the limits
+    /// still fit their width.
+    pub fn vector<W: Word>(&self, [h0, v0, h1, v1]: [W; 4]) -> [W; 4] {
+        let word = |scale: Scale, v: W| W::fitting(scale.word(v.number()));
         [word(self.x, h0), word(self.y, v0), word(self.x, h1), word(self.y, v1)]
     }
 }
 
 /// Steps 1 to 3, for a set of at most eight members.
-pub fn inherit(quadrants: &mut Quadrants, intra: IntraSet) {
+pub fn inherit<W: Word>(quadrants: &mut Quadrants<W>, intra: IntraSet) {
     for (q, quadrant) in quadrants.iter_mut().enumerate() {
         let intra = intra_in(intra, q);
         if intra == ALL_INTRA {
@@ -133,7 +138,7 @@ pub fn inherit(quadrants: &mut Quadrants, intra: IntraSet) {
 #[cfg(test)]
 pub mod tests {
     use super::*;
-    use crate::record::{block_in, quadrant_of, NO_MOTION};
+    use crate::record::{block_in, quadrant_of};
     use crate::split::fewest_pieces;
 
     /// A small generator for tests (xorshift).
@@ -152,22 +157,22 @@ pub mod tests {
         }
     }
 
-    pub fn random_motion(random: &mut Random) -> Motion {
-        let mut motion = NO_MOTION;
+    pub fn random_motion<W: Word>(random: &mut Random) -> Motion<W> {
+        let mut motion = Motion::none();
         let used = random.within(1, 3);
         for list in 0..2 {
             if used >> list & 1 == 1 {
-                motion.reference[list] = random.within(0, 2) as i16;
-                let span = if random.below(2) == 0 { 3 } else { 8191 };
-                motion.vector[2 * list] = random.within(-span, span) as i16;
-                motion.vector[2 * list + 1] = random.within(-span, span) as i16;
+                motion.reference[list] = W::fitting(random.within(0, 2));
+                let span = if random.below(2) == 0 { 3 } else { W::VECTORS.end().number() };
+                motion.vector[2 * list] = W::fitting(random.within(-span - 1, span));
+                motion.vector[2 * list + 1] = W::fitting(random.within(-span - 1, span));
             }
         }
         motion
     }
 
     /// Sixteen motions in raster order; `mood` says how much they repeat.
-    pub fn random_blocks(random: &mut Random, mood: u32) -> [Motion; 16] {
+    pub fn random_blocks<W: Word>(random: &mut Random, mood: u32) -> [Motion<W>; 16] {
         let motions = [0; 3].map(|_| random_motion(random));
         let key: Vec<u32> = (0..16).map(|_| random.below(3)).collect();
         std::array::from_fn(|b| {
@@ -182,11 +187,11 @@ pub mod tests {
         })
     }
 
-    pub fn to_quadrants(blocks: &[Motion; 16]) -> Quadrants {
+    pub fn to_quadrants<W: Word>(blocks: &[Motion<W>; 16]) -> Quadrants<W> {
         std::array::from_fn(|q| std::array::from_fn(|i| blocks[block_in(q, i)]))
     }
 
-    pub fn to_blocks(quadrants: &Quadrants) -> [Motion; 16] {
+    pub fn to_blocks<W: Word>(quadrants: &Quadrants<W>) -> [Motion<W>; 16] {
         std::array::from_fn(|b| {
             let q = quadrant_of(b);
             quadrants[q][(0..4).find(|&i| block_in(q, i) == b).unwrap()]
@@ -207,7 +212,7 @@ pub mod tests {
 
     /// Steps 1 to 4 once more on raster coordinates, one whole step after
     /// the other and each from a copy. `x` and `y` are B and S of the axes.
-    fn slow(blocks: &[Motion; 16], intra: &[bool; 16], x: (i32, i32), y: (i32, i32)) -> [Motion; 16] {
+    fn slow<W: Word>(blocks: &[Motion<W>; 16], intra: &[bool; 16], x: (i32, i32), y: (i32, i32)) -> [Motion<W>; 16] {
         let at = |column: usize, row: usize| row * 4 + column;
         let flip = |c: usize| c / 2 * 2 + 1 - c % 2;
         let around = |b: usize| {
@@ -226,7 +231,7 @@ pub mod tests {
         let mut two = one;
         for b in 0..16 {
             for list in 0..2 {
-                let used = members(b).map(|o| one[o].reference[list]).filter(|&r| r != -1);
+                let used = members(b).map(|o| one[o].reference[list]).filter(|&r| r != W::from(-1));
                 if let (false, Some(r)) = (all_intra(b), used.min()) {
                     if one[b].reference[list] != r {
                         let from = around(b).into_iter().find(|&o| one[o].reference[list] == r).unwrap();
@@ -247,19 +252,18 @@ pub mod tests {
         }
         three.map(|mut motion| {
             for (word, sizes) in motion.vector.iter_mut().zip([x, y, x, y]) {
-                *word = slow_word((*word).into(), sizes) as i16;
+                *word = W::fitting(slow_word(word.number(), sizes));
             }
             motion
         })
     }
 
-    #[test]
-    fn quick_is_slow() {
+    fn quick_is_slow<W: Word>() {
         let mut random = Random(11);
         let mut tried = 0;
         while tried < 30_000 {
             let mood = random.below(5);
-            let mut blocks = random_blocks(&mut random, mood);
+            let mut blocks = random_blocks::<W>(&mut random, mood);
             let often = random.within(1, 8);
             let mut intra = [0; 16].map(|_| random.within(0, 8) > often);
             for q in 0..4 {
@@ -273,7 +277,7 @@ pub mod tests {
             let mut set = 0;
             for b in 0..16 {
                 if intra[b] {
-                    blocks[b] = NO_MOTION;
+                    blocks[b] = Motion::none();
                     let q = quadrant_of(b);
                     set |= 1 << (4 * q + (0..4).find(|&i| block_in(q, i) == b).unwrap());
                 }
@@ -290,6 +294,12 @@ pub mod tests {
             assert_eq!(unscaled, fewest_pieces(&quick));
             tried += 1;
         }
+    }
+
+    #[test]
+    fn quick_is_slow_on_both_widths() {
+        quick_is_slow::<i16>();
+        quick_is_slow::<i32>();
     }
 
     /// Bench example: quadrant references 2, 1, 1, 0: all take block 3's vector.
@@ -350,37 +360,29 @@ pub mod tests {
         })
     }
 
-    /// Every word of the limit by the rule as it is written. They rise
-    /// strictly, so two different words never scale to one, and 0 stays 0.
-    #[test]
-    fn words_rise() {
+    /// Every word of the limits by the rule as it is written. They rise
+    /// strictly, so two different words never scale to one, and 0 stays 0. The
+    /// wide ones need more than 16 bits, and more than 32 in the product.
+    fn words_rise<W: Word>() {
         for sizes in some_sizes() {
             let scale = Scale::new(sizes.0, sizes.1);
+            let scales = Scales { x: scale, y: scale };
             let mut before = i32::MIN;
-            for v in -8192..=8191 {
+            for v in W::VECTORS.start().number()..=W::VECTORS.end().number() {
                 let word = scale.word(v);
                 assert_eq!(word, slow_word(v, sizes), "{v} by {sizes:?}");
                 assert!(before < word, "{v} by {sizes:?}");
+                assert_eq!(scales.vector([W::fitting(v); 4]).map(W::number), [word; 4]);
                 before = word;
             }
             assert_eq!(scale.word(0), 0);
         }
     }
 
-    /// The same for words that need more than 16 bits, and more than 32 in the
-    /// product.
     #[test]
-    fn long_words_rise() {
-        for sizes in some_sizes() {
-            let scale = Scale::new(sizes.0, sizes.1);
-            let mut before = i32::MIN;
-            for v in -131_072..=131_071 {
-                let word = scale.word(v);
-                assert_eq!(word, slow_word(v, sizes), "{v} by {sizes:?}");
-                assert!(before < word, "{v} by {sizes:?}");
-                before = word;
-            }
-        }
+    fn words_rise_on_both_widths() {
+        words_rise::<i16>();
+        words_rise::<i32>();
         let twice = Scale::new(4096, 8192);
         assert_eq!((twice.word(131_071), twice.word(-131_072)), (262_142, -262_144));
     }
@@ -389,8 +391,11 @@ pub mod tests {
     #[test]
     fn vectors_by_axis() {
         let scales = Scales { x: Scale::new(80, 156), y: Scale::new(112, 130) };
-        assert_eq!(scales.vector([10, -8179, -10, 8179]), [19, -9494, -19, 9494]);
+        assert_eq!(scales.vector::<i16>([10, -8179, -10, 8179]), [19, -9494, -19, 9494]);
+        assert_eq!(scales.vector::<i32>([10, -8179, -10, 8179]), [19, -9494, -19, 9494]);
         let scales = Scales { x: Scale::new(16, 32), y: Scale::new(16, 16) };
-        assert_eq!(scales.vector([8191, 8191, -8192, -8192]), [16_382, 8191, -16_384, -8192]);
+        assert_eq!(scales.vector::<i16>([8191, 8191, -8192, -8192]), [16_382, 8191, -16_384, -8192]);
+        let ends = [131_071, 131_071, -131_072, -131_072];
+        assert_eq!(scales.vector::<i32>(ends), [262_142, 131_071, -262_144, -131_072]);
     }
 }

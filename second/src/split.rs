@@ -2,6 +2,7 @@
 
 use crate::inherit::Quadrants;
 use crate::record::Motion;
+use crate::word::Word;
 
 /// Split of a quadrant, width by height.
 #[derive(Clone, Copy, Debug, PartialEq, Eq)]
@@ -73,11 +74,11 @@ impl Split {
 
 /// For four motions in raster order: are they alike along each row, and
 /// along each column?
-fn alike(a: &Motion, b: &Motion, c: &Motion, d: &Motion) -> (bool, bool) {
+fn alike<W: Word>(a: &Motion<W>, b: &Motion<W>, c: &Motion<W>, d: &Motion<W>) -> (bool, bool) {
     (a == b && c == d, a == c && b == d)
 }
 
-fn sub_split([a, b, c, d]: &[Motion; 4]) -> SubSplit {
+fn sub_split<W: Word>([a, b, c, d]: &[Motion<W>; 4]) -> SubSplit {
     match alike(a, b, c, d) {
         (true, true) => SubSplit::S8x8,
         (true, false) => SubSplit::S8x4,
@@ -87,7 +88,7 @@ fn sub_split([a, b, c, d]: &[Motion; 4]) -> SubSplit {
 }
 
 /// The split with the fewest pieces that have one motion each.
-pub fn fewest_pieces(quadrants: &Quadrants) -> Split {
+pub fn fewest_pieces<W: Word>(quadrants: &Quadrants<W>) -> Split {
     let [a, b, c, d] = quadrants;
     let subs = [sub_split(a), sub_split(b), sub_split(c), sub_split(d)];
     if subs != [SubSplit::S8x8; 4] {
@@ -148,7 +149,7 @@ pub mod reference {
     }
 
     /// All splits with one motion in each piece that have the fewest pieces.
-    pub fn best(blocks: &[Motion; 16]) -> Vec<Split> {
+    pub fn best<W: Word>(blocks: &[Motion<W>; 16]) -> Vec<Split> {
         let mut best = Vec::new();
         let mut least = usize::MAX;
         for split in all_splits() {
@@ -182,13 +183,18 @@ mod tests {
     use crate::inherit::tests::{random_blocks, to_quadrants, Random};
 
     /// The quick way and the search agree, and the search finds one only.
-    #[test]
-    fn quick_is_the_search() {
+    fn quick_is_the_search<W: Word>() {
         let mut random = Random(7);
         for round in 0..4_000 {
-            let blocks = random_blocks(&mut random, round % 5);
+            let blocks = random_blocks::<W>(&mut random, round % 5);
             let best = reference::best(&blocks);
             assert_eq!(best, [fewest_pieces(&to_quadrants(&blocks))]);
         }
+    }
+
+    #[test]
+    fn quick_is_the_search_on_both_widths() {
+        quick_is_the_search::<i16>();
+        quick_is_the_search::<i32>();
     }
 }

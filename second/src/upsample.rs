@@ -1,4 +1,6 @@
-//! The calls on records: one macroblock, and a picture.
+//! The calls on records: one macroblock, and a picture, each for narrow and for
+//! wide words (document 02's request E12). The latter differ from the former in
+//! nothing but the word.
 
 use crate::detail::detail;
 use crate::fed::{fed, Fed};
@@ -6,11 +8,12 @@ use crate::geometry::{Geometry, Numbers};
 use crate::inherit::{inherit, IntraSet, Quadrants, Scales, INTRA_FROM};
 use crate::map::{reading, Reading};
 use crate::record::{
-    block_in, broken_rule, motion, record_at, write_without_motion, Motion, Record, DETAIL, NO_MOTION, REFERENCES,
-    TYPE_INTRA, TYPE_OUTSIDE, VECTORS, WORDS,
+    block_in, broken_rule, motion, record_at, write_without_motion, Motion, Record, DETAIL, REFERENCES, TYPE_INTRA,
+    TYPE_OUTSIDE, VECTORS, WORDS,
 };
 use crate::refusal::Refusal;
 use crate::split::{fewest_pieces, Split, SubSplit};
+use crate::word::Word;
 
 #[derive(Clone, Copy, Debug, PartialEq, Eq)]
 pub enum Kind {
@@ -99,32 +102,32 @@ fn class(x: &Reading, y: &Reading) -> Class {
 
 /// The records read: first, right, below and diagonal. Where one column or row
 /// is read, it stands for the other too.
-type Records<'a> = [&'a Record; 4];
+type Records<'a, W> = [&'a Record<W>; 4];
 
-fn records<'a>(base: &'a [i16], base_columns: usize, x: &Reading, y: &Reading) -> Records<'a> {
+fn records<'a, W: Word>(base: &'a [W], base_columns: usize, x: &Reading, y: &Reading) -> Records<'a, W> {
     let record = |column, row| record_at(base, (y.first + row) * base_columns + x.first + column);
     let (right, below) = (x.two as usize, y.two as usize);
     [record(0, 0), record(right, 0), record(0, below), record(right, below)]
 }
 
 /// The motions of the sixteen blocks, and which of them read intra macroblocks.
-fn gather(records: &Records, x: &Reading, y: &Reading) -> (Quadrants, IntraSet) {
-    let mut quadrants = [[NO_MOTION; 4]; 4];
+fn gather<W: Word>(records: &Records<W>, x: &Reading, y: &Reading) -> (Quadrants<W>, IntraSet) {
+    let mut quadrants = [[Motion::none(); 4]; 4];
     let mut intra: IntraSet = 0;
     for (q, quadrant) in quadrants.iter_mut().enumerate() {
         for (i, block) in quadrant.iter_mut().enumerate() {
             let (column, row) = (q % 2 * 2 + i % 2, q / 2 * 2 + i / 2);
             let record = records[(y.step[row] * 2 + x.step[column]) as usize];
             *block = motion(record, (y.block[row] * 4 + x.block[column]) as usize);
-            intra |= ((record[0] == TYPE_INTRA) as IntraSet) << (4 * q + i);
+            intra |= ((record[0] == TYPE_INTRA.into()) as IntraSet) << (4 * q + i);
         }
     }
     (quadrants, intra)
 }
 
 /// The scaled vectors of a quadrant's blocks.
-fn quadrant_vectors([a, b, c, d]: &[Motion; 4], sub: SubSplit, scales: &Scales) -> [[i16; 4]; 4] {
-    let scaled = |block: &Motion| scales.vector(block.vector);
+fn quadrant_vectors<W: Word>([a, b, c, d]: &[Motion<W>; 4], sub: SubSplit, scales: &Scales) -> [[W; 4]; 4] {
+    let scaled = |block: &Motion<W>| scales.vector(block.vector);
     match sub {
         SubSplit::S8x8 => [scaled(a); 4],
         SubSplit::S8x4 => {
@@ -140,7 +143,7 @@ fn quadrant_vectors([a, b, c, d]: &[Motion; 4], sub: SubSplit, scales: &Scales) 
 }
 
 /// The scaled vectors of all blocks, by quadrant; scaled once for each piece.
-fn vectors(quadrants: &Quadrants, split: Split, scales: &Scales) -> [[[i16; 4]; 4]; 4] {
+fn vectors<W: Word>(quadrants: &Quadrants<W>, split: Split, scales: &Scales) -> [[[W; 4]; 4]; 4] {
     let scaled = |q: usize| [scales.vector(quadrants[q][0].vector); 4];
     match split {
         Split::S16x16 => [scaled(0); 4],
@@ -156,9 +159,9 @@ fn vectors(quadrants: &Quadrants, split: Split, scales: &Scales) -> [[[i16; 4]; 
     }
 }
 
-fn write_inherited(out: &mut Record, quadrants: &Quadrants, split: Split, scales: &Scales, detail: u8) {
-    out[0] = split.number();
-    out[1..REFERENCES].copy_from_slice(&split.sub_numbers());
+fn write_inherited<W: Word>(out: &mut Record<W>, quadrants: &Quadrants<W>, split: Split, scales: &Scales, detail: i16) {
+    out[0] = split.number().into();
+    out[1..REFERENCES].copy_from_slice(&split.sub_numbers().map(W::from));
     let vectors = vectors(quadrants, split, scales);
     for q in 0..4 {
         // After step 2 a quadrant has one reference in each list.
@@ -171,7 +174,7 @@ fn write_inherited(out: &mut Record, quadrants: &Quadrants, split: Split, scales
 }
 
 /// Answers one macroblock whose records have been judged.
-fn answer(geometry: &Geometry, base: &[i16], readings: Both, out: &mut Record) -> Answer {
+fn answer<W: Word>(geometry: &Geometry, base: &[W], readings: Both, out: &mut Record<W>) -> Answer {
     let Some((x, y)) = readings else {
         write_without_motion(out, TYPE_OUTSIDE, 0);
         return Answer {
@@ -194,13 +197,13 @@ fn answer(geometry: &Geometry, base: &[i16], readings: Both, out: &mut Record) -
         // A scale is at least 65,536, so scaling keeps different words
         // different: the split may be found before step 4.
         let split = fewest_pieces(&quadrants);
-        write_inherited(out, &quadrants, split, &geometry.scales, detail);
+        write_inherited(out, &quadrants, split, &geometry.scales, detail.into());
         Kind::Inherited(split)
     };
     Answer { kind, class: class(x, y), first_column: x.first as i32, first_row: y.first as i32, detail, fed: fed(x, y) }
 }
 
-fn judge_record(base: &[i16], address: usize) -> Result<(), Refusal> {
+fn judge_record<W: Word>(base: &[W], address: usize) -> Result<(), Refusal> {
     match broken_rule(record_at(base, address)) {
         0 => Ok(()),
         rule => Err(Refusal::malformed(address as u32, rule)),
@@ -208,7 +211,7 @@ fn judge_record(base: &[i16], address: usize) -> Result<(), Refusal> {
 }
 
 /// Refusal 5.
-pub fn judge_base_length(geometry: &Geometry, base: &[i16]) -> Result<(), Refusal> {
+pub fn judge_base_length<W: Word>(geometry: &Geometry, base: &[W]) -> Result<(), Refusal> {
     if base.len() == geometry.base_macroblocks() * WORDS {
         Ok(())
     } else {
@@ -217,20 +220,20 @@ pub fn judge_base_length(geometry: &Geometry, base: &[i16]) -> Result<(), Refusa
 }
 
 /// Refusal 8 on all records of a base.
-pub fn judge_records(base: &[i16]) -> Result<(), Refusal> {
+pub fn judge_records<W: Word>(base: &[W]) -> Result<(), Refusal> {
     (0..base.len() / WORDS).try_for_each(|address| judge_record(base, address))
 }
 
 /// One macroblock of an accepted geometry: refusals 5 to 8.
-pub fn macroblock_of(
+pub fn macroblock_of<W: Word>(
     geometry: &Geometry,
-    base: &[i16],
+    base: &[W],
     column: i32,
     row: i32,
-    out: &mut [i16],
+    out: &mut [W],
 ) -> Result<Answer, Refusal> {
     judge_base_length(geometry, base)?;
-    let out: &mut Record = out.try_into().map_err(|_| Refusal::of(6))?;
+    let out: &mut Record<W> = out.try_into().map_err(|_| Refusal::of(6))?;
     if column < 0 || column as usize >= geometry.x.full_count() || row < 0 || row as usize >= geometry.y.full_count() {
         return Err(Refusal::of(7));
     }
@@ -247,33 +250,28 @@ pub fn macroblock_of(
 }
 
 /// The readings along both axes of a picture, and its judged base.
-pub struct Prepared<'a> {
+pub struct Prepared<'a, W = i16> {
     geometry: &'a Geometry,
-    base: &'a [i16],
+    base: &'a [W],
     columns: Vec<Option<Reading>>,
     rows: Vec<Option<Reading>>,
 }
 
-impl<'a> Prepared<'a> {
+impl<'a, W: Word> Prepared<'a, W> {
     /// Refusals 5 and 8 have been judged.
-    pub fn new(geometry: &'a Geometry, base: &'a [i16]) -> Prepared<'a> {
+    pub fn new(geometry: &'a Geometry, base: &'a [W]) -> Prepared<'a, W> {
         let columns = (0..geometry.x.full_count()).map(|column| reading(&geometry.x, column)).collect();
         let rows = (0..geometry.y.full_count()).map(|row| reading(&geometry.y, row)).collect();
         Prepared { geometry, base, columns, rows }
     }
 
-    pub fn answer(&self, column: usize, row: usize, out: &mut Record) -> Answer {
+    pub fn answer(&self, column: usize, row: usize, out: &mut Record<W>) -> Answer {
         answer(self.geometry, self.base, both(&self.columns[column], &self.rows[row]), out)
     }
 }
 
-/// The one-macroblock call.
-pub fn macroblock(numbers: Numbers, base: &[i16], column: i32, row: i32, out: &mut [i16]) -> Result<Answer, Refusal> {
-    macroblock_of(&Geometry::new(numbers)?, base, column, row, out)
-}
-
-/// The picture call.
-pub fn picture(numbers: Numbers, base: &[i16], out: &mut [i16]) -> Result<Counts, Refusal> {
+/// A picture: refusals 1 to 6 and 8.
+fn picture_of<W: Word>(numbers: Numbers, base: &[W], out: &mut [W]) -> Result<Counts, Refusal> {
     let geometry = Geometry::new(numbers)?;
     judge_base_length(&geometry, base)?;
     if out.len() != geometry.full_macroblocks() * WORDS {
@@ -287,4 +285,30 @@ pub fn picture(numbers: Numbers, base: &[i16], out: &mut [i16]) -> Result<Counts
         counts.add(prepared.answer(address % width, address / width, record).kind);
     }
     Ok(counts)
+}
+
+/// The one-macroblock call.
+pub fn macroblock(numbers: Numbers, base: &[i16], column: i32, row: i32, out: &mut [i16]) -> Result<Answer, Refusal> {
+    macroblock_of(&Geometry::new(numbers)?, base, column, row, out)
+}
+
+/// The one-macroblock call on wide records.
+pub fn macroblock_wide(
+    numbers: Numbers,
+    base: &[i32],
+    column: i32,
+    row: i32,
+    out: &mut [i32],
+) -> Result<Answer, Refusal> {
+    macroblock_of(&Geometry::new(numbers)?, base, column, row, out)
+}
+
+/// The picture call.
+pub fn picture(numbers: Numbers, base: &[i16], out: &mut [i16]) -> Result<Counts, Refusal> {
+    picture_of(numbers, base, out)
+}
+
+/// The picture call on wide records.
+pub fn picture_wide(numbers: Numbers, base: &[i32], out: &mut [i32]) -> Result<Counts, Refusal> {
+    picture_of(numbers, base, out)
 }

@@ -38,17 +38,28 @@ pub fn with_detail(mut words: [i16; WORDS], detail: i16) -> [i16; WORDS] {
     words
 }
 
-/// A well-formed record of the type given, with a random detail: each piece's
-/// first block gets random motion and the others copy it.
-pub fn record_of(random: &mut Random, kind: i16, span: i32) -> [i16; WORDS] {
-    let mut words = intra();
-    words[0] = kind;
-    words[77] = random.below(16) as i16;
+/// The same words, wide.
+pub fn wide<const N: usize>(words: [i16; N]) -> [i32; N] {
+    words.map(i32::from)
+}
+
+pub fn wide_whole(reference: [i16; 2], vector: [i32; 4]) -> [i32; WORDS] {
+    let mut words = wide(whole(reference, [0; 4]));
+    words[13..77].chunks_mut(4).for_each(|four| four.copy_from_slice(&vector));
+    words
+}
+
+/// A well-formed wide record of the type given, with a random detail: each
+/// piece's first block gets random motion and the others copy it.
+pub fn wide_record_of(random: &mut Random, kind: i16, span: i32) -> [i32; WORDS] {
+    let mut words = wide(intra());
+    words[0] = kind.into();
+    words[77] = random.below(16) as i32;
     if kind == 0 {
         return words;
     }
     if kind == 4 {
-        words[1..5].iter_mut().for_each(|sub| *sub = random.below(4) as i16);
+        words[1..5].iter_mut().for_each(|sub| *sub = random.below(4) as i32);
     }
     for b in 0..16 {
         let q = b / 8 * 2 + b % 4 / 2;
@@ -66,7 +77,7 @@ pub fn record_of(random: &mut Random, kind: i16, span: i32) -> [i16; WORDS] {
             if lead == b {
                 let used = random.within(1, 3);
                 for l in 0..2 {
-                    words[5 + 2 * q + l] = if used >> l & 1 == 1 { random.within(0, 3) as i16 } else { -1 };
+                    words[5 + 2 * q + l] = if used >> l & 1 == 1 { random.within(0, 3) } else { -1 };
                 }
             } else {
                 words.copy_within(5 + 2 * lead_q..7 + 2 * lead_q, 5 + 2 * q);
@@ -75,7 +86,7 @@ pub fn record_of(random: &mut Random, kind: i16, span: i32) -> [i16; WORDS] {
         if lead == b {
             for w in 0..4 {
                 let used = words[5 + 2 * q + w / 2] != -1;
-                words[13 + 4 * b + w] = if used { random.within(-span - 1, span) as i16 } else { 0 };
+                words[13 + 4 * b + w] = if used { random.within(-span - 1, span) } else { 0 };
             }
         } else {
             words.copy_within(13 + 4 * lead..17 + 4 * lead, 13 + 4 * b);
@@ -84,15 +95,25 @@ pub fn record_of(random: &mut Random, kind: i16, span: i32) -> [i16; WORDS] {
     words
 }
 
-/// A base of well-formed records.
-pub fn base_of(random: &mut Random, records: usize, kinds: &[i16], span: i32) -> Vec<i16> {
+/// The same, narrow.
+pub fn record_of(random: &mut Random, kind: i16, span: i32) -> [i16; WORDS] {
+    wide_record_of(random, kind, span).map(|word| word as i16)
+}
+
+/// A wide base of well-formed records.
+pub fn wide_base_of(random: &mut Random, records: usize, kinds: &[i16], span: i32) -> Vec<i32> {
     let kind = |random: &mut Random| kinds[random.below(kinds.len() as u32) as usize];
     (0..records)
         .flat_map(|_| {
             let kind = kind(random);
-            record_of(random, kind, span)
+            wide_record_of(random, kind, span)
         })
         .collect()
+}
+
+/// The same, narrow.
+pub fn base_of(random: &mut Random, records: usize, kinds: &[i16], span: i32) -> Vec<i16> {
+    wide_base_of(random, records, kinds, span).into_iter().map(|word| word as i16).collect()
 }
 
 /// An accepted geometry of small pictures.
