@@ -19,8 +19,8 @@ pub mod Text
 pub mod Log
 pub mod Demand3
 pub mod Apart
-pub mod Widths
 pub mod Written
 pub mod Examples
 pub mod Unstarred
 pub mod Cases
+pub mod Widths
