@@ -18,10 +18,10 @@ use Rattle.definitions.specs.Blocks.{quadrantOf}
 use Rattle.definitions.specs.Geometry.{axesOf}
 use Rattle.definitions.specs.Answer.{madeOf}
 use Rattle.definitions.specs.Raster.{fullCount}
-use Rattle.definitions.specs.Record.{narrow, wide, used, recordAt, referenceOf, vectorXOf, vectorYOf, vectorWord, rule1, rule2, rule3, rule4, rule5, rule6, rule7, firstBroken}
+use Rattle.definitions.specs.Record.{narrow, wide, fits, used, recordAt, referenceOf, vectorXOf, vectorYOf, vectorWord, rule1, rule2, rule3, rule4, rule5, rule6, rule7, firstBroken}
 use Rattle.definitions.specs.Refusals.{Test, test, verdictOf, geometryTests, baseTest, outputTest, positionTest, recordTests, addressesRead, allAddresses}
 use Rattle.definitions.specs.Calls.{macroblockTests, macroblockCall, pictureTests, pictureCall, byVerdict, madeAt, countsOf}
-use Rattle.definitions.specs.Widths.{fits, VectorsFit, WidthsSame}
+use Rattle.definitions.specs.Widths.{VectorsFit, WidthsSame}
 use Rattle.definitions.proofs.Choices.{both-true, below-same}
 
 -- ---- a wider range

@@ -53,7 +53,7 @@ is-true false h = absurd h
 holds : {t : Bool} → t ≡ true → T t
 holds e = subst T (sym e) tt
 
-zero-between : (limit : ℕ) → between (minus limit) (pos (limit - 1)) (pos 0) ≡ true
+pub zero-between : (limit : ℕ) → between (minus limit) (pos (limit - 1)) (pos 0) ≡ true
 zero-between zero = refl
 zero-between (suc n) = and-intro {a = true} refl (le-leb 0 (suc n - 1) (omega arith))
 

@@ -115,9 +115,12 @@ rule4 r =
     pick (isIntra r) (allBelow 4 (λ q. allBelow 2 (λ l. not (used (referenceOf r q l)))))
     (allBelow 4 (λ q. used (referenceOf r q 0) || used (referenceOf r q 1)))
 
--- (5) vector words −8,192..8,191 (−L..L − 1), and 0 where the reference is −1
+-- (5) vector words −8,192..8,191 (of wide records −131,072..131,071: −L..L − 1), and 0 where the reference is −1
+abbrev pub fits : ℕ → ℤ → Bool
+fits limit v = between (minus limit) (pos (limit - 1)) v
+
 abbrev pub vectorWord : ℕ → Bool → ℤ → Bool
-vectorWord limit isUsed v = between (minus limit) (pos (limit - 1)) v && (isUsed || eqZ v (pos 0))
+vectorWord limit isUsed v = fits limit v && (isUsed || eqZ v (pos 0))
 
 unfoldable pub rule5 : ℕ → List ℤ → Bool
 rule5 limit r =

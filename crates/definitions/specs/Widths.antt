@@ -1,7 +1,7 @@
 -- "Long vectors on wide screens" of document 02 (E12): records of 32-bit words have the places and rules of those of 16 bits; the limit of their vectors is the one difference.
-use Prim.Native.Nat.{ℕ, _-_, _<_}
+use Prim.Native.Nat.{ℕ, _<_}
 use mathlib.Core.Path.{_≡_, refl}
-use mathlib.Core.Bool.{Bool, true}
+use mathlib.Core.Bool.{true}
 use mathlib.Core.List.{List}
 use lib.IntN.{ℤ, pos}
 use lib.ListN.{replicate}
@@ -9,11 +9,11 @@ use Rattle.definitions.specs.declared.Motion.{Motion}
 use Rattle.definitions.specs.declared.Numbers.{Numbers}
 use Rattle.definitions.specs.declared.MacroblockReply.the-variants.{Refused as Declined}
 use lib.Count.{ones, onesIn}
-use Rattle.definitions.specs.Basics.{pick, allBelow, allOf, upTo, setOf, someOf, howMany, minus, between}
+use Rattle.definitions.specs.Basics.{pick, allBelow, allOf, upTo, setOf, someOf, howMany, minus}
 use Rattle.definitions.specs.Geometry.{insideAxis, mOf, nOf, fOf, twoOf, columnsRead}
 use Rattle.definitions.specs.BlockMap.{digitsOf, coordinateOf, stepOf, addressRead, blockRead}
 use Rattle.definitions.specs.Splits.{sameMotion, samePrediction, alike, oneEach, fewestIn}
-use Rattle.definitions.specs.Record.{recordAt, motionOf, splitSaid, rule1, rule2, rule3, rule4, rule5, rule6, rule7, firstBroken, laidOut, narrow, wide, recordWords, vectorXOf, vectorYOf, allOne}
+use Rattle.definitions.specs.Record.{recordAt, motionOf, splitSaid, rule1, rule2, rule3, rule4, rule5, rule6, rule7, firstBroken, laidOut, narrow, wide, recordWords, fits, vectorXOf, vectorYOf, allOne}
 use Rattle.definitions.specs.Inheriting.{intraSet, gathered, source, clearOf, filled, lower, lowest, having, mergedList, merged, liveOf, copiedFrom, copied, resolved, scaledPrediction, scaledMotion, inheritedMotions}
 use Rattle.definitions.specs.Detail.{quadrantDetail, detailAt}
 use Rattle.definitions.specs.Fed.{blocksReading, fedAt}
@@ -22,11 +22,7 @@ use Rattle.definitions.specs.Refusals.{geometryTests, recordTests, addre
 use Rattle.definitions.specs.Calls.{macroblockTests, macroblockCall, pictureCall}
 use Rattle.definitions.specs.Examples.{wholeCase}
 
--- a vector word fits the limit L: −L..L − 1
-abbrev pub fits : ℕ → ℤ → Bool
-fits limit v = between (minus limit) (pos (limit - 1)) v
-
--- the vectors of a base do
+-- the vectors of a base fit a limit
 abbrev pub VectorsFit : ℕ → List ℤ → Type 0
 VectorsFit limit base = (a b l : ℕ) → b < 16 → l < 2 → (fits limit (vectorXOf (recordAt base a) b l) ≡ true) × (fits limit (vectorYOf (recordAt base a) b l) ≡ true)
 

@@ -1,9 +1,9 @@
 -- What the record that a call writes is as a motion record itself: a third layer would read it as its base. And that no record that is written shows step 1.
-use Prim.Native.Nat.{ℕ, _*_, _-_, _<_}
+use Prim.Native.Nat.{ℕ, _*_, _<_}
 use mathlib.Core.Path.{_≡_}
 use mathlib.Core.Bool.{Bool, true, _&&_, _||_}
 use mathlib.Core.List.{List, []}
-use lib.IntN.{ℤ, pos}
+use lib.IntN.{ℤ}
 use lib.ListN.{getD}
 use Rattle.definitions.specs.declared.Motion.{Motion}
 use Rattle.definitions.specs.declared.Numbers.{Numbers}
@@ -11,16 +11,16 @@ use Rattle.definitions.specs.declared.Basis.{Basis}
 use Rattle.definitions.specs.declared.Split.{Split}
 use Rattle.definitions.specs.declared.Answer.{Answer}
 use Rattle.definitions.specs.declared.Answer.the-variants.{Outside, Intra, Inherited}
-use Rattle.definitions.specs.Basics.{pick, minus, between, allBelow, four}
+use Rattle.definitions.specs.Basics.{pick, allBelow, four}
 use Rattle.definitions.specs.Geometry.{axesOf, inside}
-use Rattle.definitions.specs.Record.{motionOf, vectorXOf, vectorYOf, used, firstBroken}
+use Rattle.definitions.specs.Record.{fits, motionOf, vectorXOf, vectorYOf, used, firstBroken}
 use Rattle.definitions.specs.Inheriting.{intraSet, gathered, merged, liveOf, copied, resolved}
 use Rattle.definitions.specs.Demand3.{SinglyGives, Case}
 
 -- the vector words are in −L..L − 1
 unfoldable pub vectorsInRange : ℕ → List ℤ → Bool
 vectorsInRange limit r =
-    allBelow 16 (λ b. allBelow 2 (λ l. between (minus limit) (pos (limit - 1)) (vectorXOf r b l) && between (minus limit) (pos (limit - 1)) (vectorYOf r b l)))
+    allBelow 16 (λ b. allBelow 2 (λ l. fits limit (vectorXOf r b l) && fits limit (vectorYOf r b l)))
 
 -- The first broken rule of a written record, for rule 5's limit of the base and any other
 pub record AsRecord (limit : ℕ) (answer : Answer) (written : List ℤ) : Type 0 where

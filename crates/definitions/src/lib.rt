@@ -58,11 +58,11 @@ pub enum Class {
 // The words of a motion record.
 pub const RECORD_WORDS: usize = 78;
 
-// A list's part of a block's motion: its reference, -1 unused, and its vector in quarter samples.
+// A list's part of a block's motion: its reference, -1 unused, and its vector in quarter samples. (In 32 bits, for records of both widths: document 02, E12.)
 pub struct Prediction {
-    pub reference: i16,
-    pub x: i16,
-    pub y: i16,
+    pub reference: i32,
+    pub x: i32,
+    pub y: i32,
 }
 
 pub struct Motion {

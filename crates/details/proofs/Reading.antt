@@ -12,7 +12,7 @@ use lib.ListN.{getD}
 use Rattle.definitions.specs.Basics.{bitSet, pick, upTo, setOf, someOf}
 use Rattle.definitions.specs.BlockMap.{blockIn, columnOf}
 use Rattle.definitions.specs.Blocks.{quadrantOf}
-use Rattle.definitions.specs.Record.{detailOf, narrow, recordAt, rule7}
+use Rattle.definitions.specs.Record.{detailOf, recordAt, rule7}
 use Rattle.definitions.proofs.Choices.{each, four-same}
 use Rattle.definitions.proofs.Formed.{rules-of}
 use Rattle.definitions.proofs.Sameness.{set-same}
@@ -191,10 +191,10 @@ module _ (width : ℕ) (across down : List ℕ) (base : List ℤ) (a : Rising ac
         (same-square 0 0 (omega arith) (omega arith)) (same-square 2 0 (omega arith) (omega arith)) (same-square 0 2 (omega arith) (omega arith)) (same-square 2 2 (omega arith) (omega arith))))))
 
   -- ---- And those of the corners' macroblocks are enough everywhere
-  module _ (readable : Readable width across down base) where
+  module _ {limit : ℕ} (readable : Readable limit width across down base) where
     small : (i : ℕ) → i < 16 → wordRead width base (x (i % 4)) (y (i / 4)) < 16
     unfolding rule7
-    small i h = four-bits (detailOf (recordRead width base (x (i % 4)) (y (i / 4)))) (rules-of narrow _ (readable i h .formed) .detail) .1
+    small i h = four-bits (detailOf (recordRead width base (x (i % 4)) (y (i / 4)))) (rules-of limit _ (readable i h .formed) .detail) .1
 
     pub detail-corners : fourMasked (detailsBy width across down base) (halvesOf across) (halvesOf down) ≡ detailBy width across down base
     detail-corners = by-sets (detailsBy width across down base) (λ i j hi hj.

@@ -1,6 +1,6 @@
 // The detail of a macroblock (document 02, E7): which of its quadrants read base quadrants that have detail. By the block map alone, before any filling.
 ghost use Prim.Native.Nat.{_*_, _+_, _/_, _<_, _≤_};
-ghost use Rattle.definitions.specs.Record.{detailOf};
+ghost use Rattle.definitions.specs.Record.{detailOf, narrow};
 ghost use Rattle.details.specs.Bits.{InOne, detailBy, detailsBy, fourMasked, halvesOf, isOwn, masked, maskedBy};
 ghost use Rattle.gather.specs.Reads.{Readable, ReadableAt, Rising, recordRead};
 ghost use lib.IntN.{natAbs};
@@ -12,7 +12,7 @@ use records::read::detail_at;
 // ---- The bits that are read
 // Those of the macroblock that a block with coordinates x and y reads.
 fn reads_detail(base: &[i16], width: usize, x: u16, y: u16) -> u32
-    requires { ⌜ ReadableAt width (now base) x y × (width ≤ 256) ⌝ }
+    requires { ⌜ ReadableAt narrow width (now base) x y × (width ≤ 256) ⌝ }
     ensures { λ r. ⌜ (r ≡ natAbs (detailOf (recordRead width (now (base .entry)) x y))) × (r < 16) ⌝ }
 {
     detail_at(base, address_of(width, x, y)) as u32
@@ -20,7 +20,7 @@ fn reads_detail(base: &[i16], width: usize, x: u16, y: u16) -> u32
 
 // Those of the macroblocks that the corner blocks read, four bits each: the first, the one to its right, the one below and the diagonal one.
 fn details_of(base: &[i16], width: usize, across: [u16; 4], down: [u16; 4]) -> u32
-    requires { ⌜ Readable width across down (now base) × (width ≤ 256) ⌝ }
+    requires { ⌜ Readable narrow width across down (now base) × (width ≤ 256) ⌝ }
     ensures { λ r. ⌜ r ≡ detailsBy width across down (now (base .entry)) ⌝ }
 {
     let left = across[0];
@@ -160,7 +160,7 @@ pub fn detail_of_more(
     h: [u8; 2],
     v: [u8; 2],
 ) -> u8
-    requires { ⌜ Readable width across down (now base) × (width ≤ 256) × Rising across × Rising down × (h ≡ halvesOf across) × (v ≡ halvesOf down) ⌝ }
+    requires { ⌜ Readable narrow width across down (now base) × (width ≤ 256) × Rising across × Rising down × (h ≡ halvesOf across) × (v ≡ halvesOf down) ⌝ }
     ensures { λ r. ⌜ (r ≡ detailBy width across down (now (base .entry))) × (r < 16) ⌝ }
 {
     let bits = details_of(base, width, across, down);
@@ -195,7 +195,7 @@ pub fn detail_of_one(
     h: [u8; 2],
     v: [u8; 2],
 ) -> u8
-    requires { ⌜ Readable width across down (now base) × (width ≤ 256) × Rising across × Rising down × InOne 4 across × InOne 4 down × (h ≡ halvesOf across) × (v ≡ halvesOf down) ⌝ }
+    requires { ⌜ Readable narrow width across down (now base) × (width ≤ 256) × Rising across × Rising down × InOne 4 across × InOne 4 down × (h ≡ halvesOf across) × (v ≡ halvesOf down) ⌝ }
     ensures { λ r. ⌜ (r ≡ detailBy width across down (now (base .entry))) × (r < 16) ⌝ }
 {
     let bits = reads_detail(base, width, across[0], down[0]);
@@ -207,7 +207,7 @@ pub fn detail_of_one(
 
 // Where one quadrant of one is read, all four bits are its bit (`detail-quarter`).
 pub fn detail_of_quarter(base: &[i16], width: usize, across: [u16; 4], down: [u16; 4]) -> u8
-    requires { ⌜ Readable width across down (now base) × (width ≤ 256) × Rising across × Rising down × InOne 2 across × InOne 2 down ⌝ }
+    requires { ⌜ Readable narrow width across down (now base) × (width ≤ 256) × Rising across × Rising down × InOne 2 across × InOne 2 down ⌝ }
     ensures { λ r. ⌜ (r ≡ detailBy width across down (now (base .entry))) × (r < 16) ⌝ }
 {
     let x = across[0];

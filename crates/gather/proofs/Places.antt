@@ -39,5 +39,5 @@ module _ (width : ℕ) (base : List ℤ) (x y : ℕ) where
       let y1 = word-in base a (13 + 4 * b + 2 * 1 + 1) (v + 3) (omega arith) (omega arith) in
       λ i. record { list0 = record { reference = r0 i; x = x0 i; y = y0 i }; list1 = record { reference = r1 i; x = x1 i; y = y1 i } }
 
-  pub place-in : ReadableAt width base x y → PlaceIn base (acrossOf x) (downOf width y)
+  pub place-in : {limit : ℕ} → ReadableAt limit width base x y → PlaceIn base (acrossOf x) (downOf width y)
   place-in r = record { vectors = omega (arith, r .fits); references = omega (arith, r .fits) }

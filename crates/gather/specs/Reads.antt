@@ -12,7 +12,7 @@ use Rattle.gather.specs.declared.Corners.{Corners}
 use Rattle.gather.specs.declared.Spot.{Spot}
 use Rattle.definitions.specs.Basics.{four, pick, setOf}
 use Rattle.definitions.specs.BlockMap.{columnOf, blockIn}
-use Rattle.definitions.specs.Record.{recordWords, recordAt, isIntra, motionOf, wellFormed, narrow}
+use Rattle.definitions.specs.Record.{recordWords, recordAt, isIntra, motionOf, wellFormed}
 use Rattle.definitions.specs.Blocks.{rasterOf}
 
 -- the record that a block with coordinates x and y reads, which of its blocks, and the motion
@@ -29,10 +29,10 @@ unfoldable pub motionRead : ℕ → List ℤ → ℕ → ℕ → Motion
 motionRead width base x y = motionOf (recordRead width base x y) (blockAt x y)
 
 -- that record lies in the base and is well formed
-pub record ReadableAt (width : ℕ) (base : List ℤ) (x y : ℕ) : Type 0 where
+pub record ReadableAt (limit width : ℕ) (base : List ℤ) (x y : ℕ) : Type 0 where
   pub low : addressAt width x y < 65536
   pub fits : (addressAt width x y + 1) * recordWords ≤ length base
-  pub formed : wellFormed narrow (recordRead width base x y) ≡ true
+  pub formed : wellFormed limit (recordRead width base x y) ≡ true
 
 -- block i of the sixteen: the record and the motion that it reads; of all sixteen the intra set and the motions
 abbrev pub readBy : ℕ → List ℕ → List ℕ → List ℤ → ℕ → List ℤ
@@ -102,5 +102,5 @@ abbrev pub PlacesIn : List ℤ → Spot → Spot → Spot → Spot → Type 0
 PlacesIn base left right upper lower = PlaceIn base left upper × PlaceIn base right upper × PlaceIn base left lower × PlaceIn base right lower
 
 -- the records that the blocks read lie in the base and are well formed
-abbrev pub Readable : ℕ → List ℕ → List ℕ → List ℤ → Type 0
-Readable width across down base = (i : ℕ) → i < 16 → ReadableAt width base (getD across (i % 4) 0) (getD down (i / 4) 0)
+abbrev pub Readable : ℕ → ℕ → List ℕ → List ℕ → List ℤ → Type 0
+Readable limit width across down base = (i : ℕ) → i < 16 → ReadableAt limit width base (getD across (i % 4) 0) (getD down (i / 4) 0)

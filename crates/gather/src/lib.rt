@@ -2,7 +2,7 @@
 ghost use Prim.Native.Nat.{ℕ, _<_, _≤_};
 ghost use Rattle.definitions.specs.Basics.{eqZ, pick, setOf};
 ghost use Rattle.definitions.specs.Blocks.{quadrantOf};
-ghost use Rattle.definitions.specs.Record.{isIntra, subTypeOf, typeOf};
+ghost use Rattle.definitions.specs.Record.{isIntra, narrow, subTypeOf, typeOf};
 ghost use Rattle.gather.specs.Reads.{PlaceIn, PlacesIn, Readable, ReadableAt, acrossOf, addressAt, beside, blockAt, blockFrom, cornersBy, downOf, motionRead, quadrantFrom, recordRead, setAmong};
 ghost use Rattle.motion.specs.ByValue.{motionIn};
 ghost use lib.IntN.{pos};
@@ -82,7 +82,7 @@ fn block_from(base: &[i16], x: Spot, y: Spot) -> BlockMotion
 
 // The motion that the block with coordinates x and y reads.
 pub fn block_read(base: &[i16], width: usize, x: u16, y: u16) -> BlockMotion
-    requires { ⌜ ReadableAt width (now base) x y × (width ≤ 256) ⌝ }
+    requires { ⌜ ReadableAt narrow width (now base) x y × (width ≤ 256) ⌝ }
     ensures { λ r. ⌜ motionIn r ≡ motionRead width (now (base .entry)) x y ⌝ }
 {
     block_from(base, across_of(x), down_of(width, y))
@@ -109,14 +109,14 @@ pub fn quadrant_read(
 // ---- Macroblocks
 // The macroblock that a block with coordinates x and y reads is intra; is of type 1, 16×16.
 pub fn reads_intra(base: &[i16], width: usize, x: u16, y: u16) -> bool
-    requires { ⌜ ReadableAt width (now base) x y × (width ≤ 256) ⌝ }
+    requires { ⌜ ReadableAt narrow width (now base) x y × (width ≤ 256) ⌝ }
     ensures { λ r. ⌜ r ≡ isIntra (recordRead width (now (base .entry)) x y) ⌝ }
 {
     is_intra(base, address_of(width, x, y))
 }
 
 pub fn reads_whole(base: &[i16], width: usize, x: u16, y: u16) -> bool
-    requires { ⌜ ReadableAt width (now base) x y × (width ≤ 256) ⌝ }
+    requires { ⌜ ReadableAt narrow width (now base) x y × (width ≤ 256) ⌝ }
     ensures { λ r. ⌜ r ≡ eqZ (typeOf (recordRead width (now (base .entry)) x y)) (pos 1) ⌝ }
 {
     is_whole(base, address_of(width, x, y))
@@ -124,7 +124,7 @@ pub fn reads_whole(base: &[i16], width: usize, x: u16, y: u16) -> bool
 
 // The quadrant of that macroblock in which the block read lies is not divided.
 pub fn reads_single(base: &[i16], width: usize, x: u16, y: u16) -> bool
-    requires { ⌜ ReadableAt width (now base) x y × (width ≤ 256) ⌝ }
+    requires { ⌜ ReadableAt narrow width (now base) x y × (width ≤ 256) ⌝ }
     ensures { λ r. ⌜ r ≡ eqZ (subTypeOf (recordRead width (now (base .entry)) x y) (quadrantOf (blockAt x y))) (pos 0) ⌝ }
 {
     let q = (2 * (y % 4 / 2) + x % 4 / 2) as usize;
@@ -141,7 +141,7 @@ pub struct Corners {
 }
 
 pub fn corners_of(base: &[i16], width: usize, across: [u16; 4], down: [u16; 4]) -> Corners
-    requires { ⌜ Readable width across down (now base) × (width ≤ 256) ⌝ }
+    requires { ⌜ Readable narrow width across down (now base) × (width ≤ 256) ⌝ }
     ensures { λ r. ⌜ r ≡ cornersBy width across down (now (base .entry)) ⌝ }
 {
     let left = across[0];

@@ -1,5 +1,5 @@
 -- The cases of what is made of a macroblock. Assumes nothing.
-use Prim.Native.Nat.{ℕ, _-_, _/_, _%_, _<_}
+use Prim.Native.Nat.{ℕ, _/_, _%_, _<_}
 use mathlib.Core.Path.{_≡_, refl, sym, ap, subst, _∙_}
 use mathlib.Core.Bool.{Bool, true, false, true≢false, _&&_, _||_}
 use mathlib.Core.List.{List, []}
@@ -15,7 +15,7 @@ use Rattle.common.specs.declared.counts.Sort.{Sort}
 use Rattle.common.specs.declared.counts.Sort.the-variants.{Inherited, Intra, Outside}
 use Rattle.definitions.specs.Basics.{between, four, minus, pick}
 use Rattle.definitions.specs.Blocks.{rasterOf}
-use Rattle.definitions.specs.Record.{allOne, detailOf, laidOut, narrow, rule7, splitSaid}
+use Rattle.definitions.specs.Record.{allOne, detailOf, fits, laidOut, narrow, rule7, splitSaid}
 use Rattle.definitions.specs.Inheriting.{at, chosen, mostlyIntra, motionAt, resolved, zeroMotion}
 use Rattle.definitions.specs.Answer.{dividedBy, unusedMotion, withoutMotion}
 use Rattle.definitions.proofs.Choices.{and-intro, both-false, four-at, no, pick-cases, yes}
@@ -26,6 +26,7 @@ use Rattle.definitions.proofs.Sets.{set-below}
 use Rattle.details.specs.Bits.{detailBy, quadrantReads}
 use borrow.Author.Tests.{le-leb}
 use Rattle.definitions.proofs.Steps.{Both, resolved-keeps, resolved-settled}
+use Rattle.definitions.proofs.Written.{zero-between}
 use Rattle.motion.specs.ByValue.{AllWritable, InWords, Writable, motionIn, motionsIn, quadrantsIn, zeroBlock}
 use Rattle.motion.specs.declared.Scale.{Scale}
 use Rattle.motion.specs.declared.Scales.{Scales}
@@ -41,27 +42,27 @@ use Rattle.macroblock.proofs.Motions.{Kept, read-kept}
 use Rattle.macroblock.proofs.Single.{all-or-none}
 
 -- ---- what steps 1 to 3 leave can be written
-module _ (width : ℕ) (across down : List ℕ) (base : List ℤ) (readable : Readable width across down base) where
+module _ {limit : ℕ} (width : ℕ) (across down : List ℕ) (base : List ℤ) (readable : Readable limit width across down base) where
   abbrev gathered : List (List Motion)
   gathered = gatheredBy width across down base
 
-  gathered-kept : (q k : ℕ) → q < 4 → k < 4 → Both Kept (at gathered q k)
+  gathered-kept : (q k : ℕ) → q < 4 → k < 4 → Both (Kept limit) (at gathered q k)
   unfolding gatheredBy
   gathered-kept q k hq hk =
       let quadrant : ℕ → List Motion = λ j. four (λ i. motionBy width across down base (rasterOf j i)) in
       let e = ap (λ (l : List Motion). getD l k zeroMotion) (four-at quadrant [] q hq) ∙ four-at (λ i. motionBy width across down base (rasterOf q i)) zeroMotion k hk in
-      subst (Both Kept) (sym e) (read-kept width base _ _ (readable (rasterOf q k) (raster-below q k hq hk)))
+      subst (Both (Kept limit)) (sym e) (read-kept width base _ _ (readable (rasterOf q k) (raster-below q k hq hk)))
 
-  kept : (set q k : ℕ) → q < 4 → k < 4 → Both Kept (at (resolved set gathered) q k)
-  kept set = resolved-keeps Kept (record { range = record { x = refl; y = refl }; reference = refl }) set gathered gathered-kept
+  kept : (set q k : ℕ) → q < 4 → k < 4 → Both (Kept limit) (at (resolved set gathered) q k)
+  kept set = resolved-keeps (Kept limit) (record { range = record { x = zero-between limit; y = zero-between limit }; reference = refl }) set gathered gathered-kept
 
-  pub writable : (set : ℕ) (m : List (List BlockMotion)) → quadrantsIn m ≡ resolved set gathered → AllWritable m
+  pub writable : (set : ℕ) (m : List (List BlockMotion)) → quadrantsIn m ≡ resolved set gathered → AllWritable limit m
   writable set m e q hq =
       let here : getD (quadrantsIn m) q [] ≡ motionsIn (getD m q []) = four-at (λ j. motionsIn (getD m j [])) [] q hq in
       let block : (k : ℕ) → k < 4 → getD (getD (quadrantsIn m) q []) k zeroMotion ≡ motionIn (getD (getD m q []) k zeroBlock) =
       λ k hk. ap (λ (l : List Motion). getD l k zeroMotion) here ∙ four-at (λ j. motionIn (getD (getD m q []) j zeroBlock)) zeroMotion k hk in
-      let all : (k : ℕ) → k < 4 → Both Kept (motionIn (getD (getD m q []) k zeroBlock)) =
-      λ k hk. subst (Both Kept) (block k hk) (subst (λ (l : List (List Motion)). Both Kept (at l q k)) (sym e) (kept set q k hq hk)) in
+      let all : (k : ℕ) → k < 4 → Both (Kept limit) (motionIn (getD (getD m q []) k zeroBlock)) =
+      λ k hk. subst (Both (Kept limit)) (block k hk) (subst (λ (l : List (List Motion)). Both (Kept limit) (at l q k)) (sym e) (kept set q k hq hk)) in
       let settled = resolved-settled set gathered q hq in
       let same : (k : ℕ) → getD (getD (quadrantsIn m) q []) k zeroMotion ≡ getD (getD (resolved set gathered) q []) k zeroMotion = λ k. ap (λ (l : List (List Motion)). getD (getD l q []) k zeroMotion) e in
       record {
@@ -121,8 +122,8 @@ module _ (f : Fixed) (across down : List ℕ) (base : List ℤ) where
         set-is (sym (set-same 16 _ (λ i. false) (λ i h. none-beside down (i / 4) (none-beside across (i % 4) (a .0) (a .1)) (none-beside across (i % 4) (ab .1) (abc .1))) ∙ all-or-none false))
 
 -- ---- a motion that is scaled fits its words
-module _ (s : Scales) (m r : BlockMotion) (accepted : AcceptedScales s) (writable-m : Writable m) (is : motionIn r ≡ motionScaled s (motionIn m)) where
-  word-fits : (t : Scale) (v : ℤ) → AcceptedScale t → between (minus narrow) (pos (narrow - 1)) v ≡ true → SFits w16 (scaledWith t v)
+module _ (s : Scales) (m r : BlockMotion) (accepted : AcceptedScales s) (writable-m : Writable narrow m) (is : motionIn r ≡ motionScaled s (motionIn m)) where
+  word-fits : (t : Scale) (v : ℤ) → AcceptedScale t → fits narrow v ≡ true → SFits w16 (scaledWith t v)
   word-fits t v a h = let p = fitting t v a h in subst (SFits w16) (p .is) (p .fits)
 
   handed : (f : Motion → ℤ) → SFits w16 (f (motionScaled s (motionIn m))) → SFits w16 (f (motionIn r))
@@ -141,9 +142,9 @@ module _ (s : Scales) (m r : BlockMotion) (accepted : AcceptedScales s) (writabl
       }
 
 -- a block that is read can be written
-pub read-writable : (width : ℕ) (base : List ℤ) (x y : ℕ) (m : BlockMotion) → ReadableAt width base x y → motionIn m ≡ motionRead width base x y → Writable m
-read-writable width base x y m r e =
-    let k = subst (Both Kept) (sym e) (read-kept width base x y r) in
+pub read-writable : {limit : ℕ} (width : ℕ) (base : List ℤ) (x y : ℕ) (m : BlockMotion) → ReadableAt limit width base x y → motionIn m ≡ motionRead width base x y → Writable limit m
+read-writable {limit} width base x y m r e =
+    let k = subst (Both (Kept limit)) (sym e) (read-kept width base x y r) in
     record { referring = (k .0 .reference, k .1 .reference); vectors = (k .0 .range, k .1 .range) }
 
 -- ---- in or out of the window

@@ -15,7 +15,7 @@ use Rattle.gather.specs.declared.Spot.{Spot}
 use Rattle.definitions.specs.Basics.{allBelow, minus, between, eqZ, four, pick, someOf}
 use Rattle.definitions.specs.Blocks.{quadrantOf}
 use Rattle.definitions.specs.Inheriting.{clearOf, copied, copiedFrom, filled, liveOf, marked, merged, resolved, source, zeroMotion}
-use Rattle.definitions.specs.Record.{isIntra, narrow, used, motionOf, recordAt, referenceOf, rule3, vectorWord}
+use Rattle.definitions.specs.Record.{fits, isIntra, used, motionOf, recordAt, referenceOf, rule3, vectorWord}
 use Rattle.definitions.proofs.Choices.{below-true, both-true, eqZ-true, each, four-at, four-same}
 use Rattle.definitions.proofs.Formed.{Vectors, rules-of, vectors-of}
 use Rattle.definitions.proofs.Sets.{bit-is}
@@ -28,8 +28,8 @@ use Rattle.gather.proofs.Places.{place-in, spot-read}
 use Rattle.macroblock.specs.Quadrants.{Alike, Mergeable, plainAt}
 
 -- ---- The records that a quadrant's blocks read, whose columns read x0 and x1 and whose rows y0 and y1, and the motions that they read
-abbrev QuadrantReadable : ℕ → List ℤ → ℕ → ℕ → ℕ → ℕ → Type 0
-QuadrantReadable width base x0 x1 y0 y1 = ReadableAt width base x0 y0 × ReadableAt width base x1 y0 × ReadableAt width base x0 y1 × ReadableAt width base x1 y1
+abbrev QuadrantReadable : ℕ → ℕ → List ℤ → ℕ → ℕ → ℕ → ℕ → Type 0
+QuadrantReadable limit width base x0 x1 y0 y1 = ReadableAt limit width base x0 y0 × ReadableAt limit width base x1 y0 × ReadableAt limit width base x0 y1 × ReadableAt limit width base x1 y1
 
 abbrev quadrantRead : ℕ → List ℤ → ℕ → ℕ → ℕ → ℕ → List Motion
 quadrantRead width base x0 x1 y0 y1 = motionRead width base x0 y0 ∷ motionRead width base x1 y0 ∷ motionRead width base x0 y1 ∷ motionRead width base x1 y1 ∷ []
@@ -39,35 +39,35 @@ zero-word : (t : Bool) (z : ℤ) → t ≡ false → (t || eqZ z (pos 0)) ≡ tr
 zero-word true z f e = cc
 zero-word false z f e = eqZ-true z (pos 0) e
 
-empty : (p : Prediction) → vectorWord narrow (used (p .reference)) (p .x) ≡ true → vectorWord narrow (used (p .reference)) (p .y) ≡ true → Empty p
-empty p a b u =
-    let word : (z : ℤ) → vectorWord narrow (used (p .reference)) z ≡ true → z ≡ pos 0 =
-    λ z e. zero-word (used (p .reference)) z u (both-true (between (minus narrow) (pos (narrow - 1)) z) (used (p .reference) || eqZ z (pos 0)) e .1) in
+empty : (limit : ℕ) (p : Prediction) → vectorWord limit (used (p .reference)) (p .x) ≡ true → vectorWord limit (used (p .reference)) (p .y) ≡ true → Empty p
+empty limit p a b u =
+    let word : (z : ℤ) → vectorWord limit (used (p .reference)) z ≡ true → z ≡ pos 0 =
+    λ z e. zero-word (used (p .reference)) z u (both-true (fits limit z) (used (p .reference) || eqZ z (pos 0)) e .1) in
     let r = not-used (p .reference) u in
     let x = word (p .x) a in
     let y = word (p .y) b in
     λ i. record { reference = r i; x = x i; y = y i }
 
 -- what is kept from a record that is read to the one that is written: a vector in range, a reference as rule 3 asks
-pub record Kept (p : Prediction) : Type 0 where
-  pub range : InRange p
+pub record Kept (limit : ℕ) (p : Prediction) : Type 0 where
+  pub range : InRange limit p
   pub reference : Reference (p .reference)
 
-module _ (width : ℕ) (base : List ℤ) (x y : ℕ) (r : ReadableAt width base x y) where
+module _ {limit : ℕ} (width : ℕ) (base : List ℤ) (x y : ℕ) (r : ReadableAt limit width base x y) where
   abbrev block : ℕ
   block = blockAt x y
 
-  vectors : (l : ℕ) → l < 2 → Vectors narrow (recordRead width base x y) block l
-  vectors l h = vectors-of narrow (recordRead width base x y) (r .formed) block l (omega arith) h
+  vectors : (l : ℕ) → l < 2 → Vectors limit (recordRead width base x y) block l
+  vectors l h = vectors-of limit (recordRead width base x y) (r .formed) block l (omega arith) h
 
   reference-of : (l : ℕ) → l < 2 → Reference (referenceOf (recordRead width base x y) (quadrantOf block) l)
   unfolding rule3
   reference-of l h =
-      let rules = rules-of narrow (recordRead width base x y) (r .formed) in
+      let rules = rules-of limit (recordRead width base x y) (r .formed) in
       below-true 2 (λ k. between (minus 1) (pos 31) (referenceOf (recordRead width base x y) (quadrantOf block) k))
       (below-true 4 (λ q. allBelow 2 (λ k. between (minus 1) (pos 31) (referenceOf (recordRead width base x y) q k))) (rules .references) (quadrantOf block) (omega arith)) l h
 
-  pub read-kept : Both Kept (motionRead width base x y)
+  pub read-kept : Both (Kept limit) (motionRead width base x y)
   unfolding motionRead motionOf
   read-kept =
       let a = vectors 0 (omega arith) in
@@ -78,7 +78,7 @@ module _ (width : ℕ) (base : List ℤ) (x y : ℕ) (r : ReadableAt width base 
 
   pub read-empty : Both Empty (motionRead width base x y)
   unfolding motionRead motionOf
-  read-empty = (empty (motionRead width base x y .list0) (vectors 0 (omega arith) .x) (vectors 0 (omega arith) .y), empty (motionRead width base x y .list1) (vectors 1 (omega arith) .x) (vectors 1 (omega arith) .y))
+  read-empty = (empty limit (motionRead width base x y .list0) (vectors 0 (omega arith) .x) (vectors 0 (omega arith) .y), empty limit (motionRead width base x y .list1) (vectors 1 (omega arith) .x) (vectors 1 (omega arith) .y))
 
 -- ---- a quadrant, at two columns and two rows
 module _ (base : List ℤ) (left right upper lower : Spot) (ready : Mergeable base left right upper lower) where
@@ -98,7 +98,7 @@ module _ (base : List ℤ) (left right upper lower : Spot) (ready : Mergeable ba
         zero1 = λ k h. ready .empty k h .1;
       }))
 
-module _ (width : ℕ) (base : List ℤ) (x0 x1 y0 y1 : ℕ) (r : QuadrantReadable width base x0 x1 y0 y1) where
+module _ {limit : ℕ} (width : ℕ) (base : List ℤ) (x0 x1 y0 y1 : ℕ) (r : QuadrantReadable limit width base x0 x1 y0 y1) where
   abbrev blocks : List BlockMotion
   blocks = quadrantFrom base (acrossOf x0) (acrossOf x1) (downOf width y0) (downOf width y1)
 
@@ -106,11 +106,11 @@ module _ (width : ℕ) (base : List ℤ) (x0 x1 y0 y1 : ℕ) (r : QuadrantReadab
   quadrant-is = four-same (spot-read width base x0 y0) (spot-read width base x1 y0) (spot-read width base x0 y1) (spot-read width base x1 y1)
 
   -- of a block that is read, of the block as it is by value
-  empty-at : (x y : ℕ) → ReadableAt width base x y → Both Empty (motionIn (blockFrom base (acrossOf x) (downOf width y)))
+  empty-at : (x y : ℕ) → ReadableAt limit width base x y → Both Empty (motionIn (blockFrom base (acrossOf x) (downOf width y)))
   empty-at x y a = subst (Both Empty) (sym (spot-read width base x y)) (read-empty width base x y a)
 
-  kept-at : (x y : ℕ) → ReadableAt width base x y → Both Kept (motionIn (blockFrom base (acrossOf x) (downOf width y)))
-  kept-at x y a = subst (Both Kept) (sym (spot-read width base x y)) (read-kept width base x y a)
+  kept-at : (x y : ℕ) → ReadableAt limit width base x y → Both (Kept limit) (motionIn (blockFrom base (acrossOf x) (downOf width y)))
+  kept-at x y a = subst (Both (Kept limit)) (sym (spot-read width base x y)) (read-kept width base x y a)
 
   pub mergeable : Mergeable base (acrossOf x0) (acrossOf x1) (downOf width y0) (downOf width y1)
   mergeable =
@@ -160,8 +160,8 @@ module _ (width : ℕ) (across down : List ℕ) (base : List ℤ) where
       four-same (a ∙ unfilled 0 0 0 (omega arith)) (b ∙ unfilled 1 2 0 (omega arith)) (c ∙ unfilled 2 0 2 (omega arith)) (d ∙ unfilled 3 2 2 (omega arith))
 
 -- ---- the quadrants, at the places of the four columns and the four rows
-pub record Spotted (width : ℕ) (across down : List ℕ) (base : List ℤ) (x0 x1 x2 x3 y0 y1 y2 y3 : Spot) : Type 0 where
-  pub readable : Readable width across down base
+pub record Spotted (limit width : ℕ) (across down : List ℕ) (base : List ℤ) (x0 x1 x2 x3 y0 y1 y2 y3 : Spot) : Type 0 where
+  pub readable : Readable limit width across down base
   pub column-0 : x0 ≡ acrossOf (getD across 0 0)
   pub column-1 : x1 ≡ acrossOf (getD across 1 0)
   pub column-2 : x2 ≡ acrossOf (getD across 2 0)
@@ -176,12 +176,12 @@ pub record Placed (base : List ℤ) (left right upper lower : Spot) (m : List Mo
   pub mergeable : Mergeable base left right upper lower
   pub is : motionsIn (quadrantFrom base left right upper lower) ≡ m
 
-module _ {width : ℕ} {across down : List ℕ} {base : List ℤ} {x0 x1 x2 x3 y0 y1 y2 y3 : Spot} (all : Spotted width across down base x0 x1 x2 x3 y0 y1 y2 y3) where
-  placed : {a b c d : ℕ} {left right upper lower : Spot} → QuadrantReadable width base a b c d → left ≡ acrossOf a → right ≡ acrossOf b → upper ≡ downOf width c → lower ≡ downOf width d
+module _ {limit width : ℕ} {across down : List ℕ} {base : List ℤ} {x0 x1 x2 x3 y0 y1 y2 y3 : Spot} (all : Spotted limit width across down base x0 x1 x2 x3 y0 y1 y2 y3) where
+  placed : {a b c d : ℕ} {left right upper lower : Spot} → QuadrantReadable limit width base a b c d → left ≡ acrossOf a → right ≡ acrossOf b → upper ≡ downOf width c → lower ≡ downOf width d
       → Placed base left right upper lower (quadrantRead width base a b c d)
   placed {a} {b} {c} {d} r p q s t = record { mergeable = mergeable-at width base a b c d r p q s t; is = quadrant-at width base a b c d r p q s t }
 
-  ready : (i : ℕ) → i < 16 → ReadableAt width base (getD across (i % 4) 0) (getD down (i / 4) 0)
+  ready : (i : ℕ) → i < 16 → ReadableAt limit width base (getD across (i % 4) 0) (getD down (i / 4) 0)
   ready = all .readable
 
   pub placed-0 : Placed base x0 x1 y0 y1 (readFrom width across down base 0 0)
@@ -270,7 +270,7 @@ module _ (width : ℕ) (across down : List ℕ) (base : List ℤ) {set : ℕ} (i
     lower-same x = same-down width x _ _ rows-same
 
   -- in a plain quadrant all blocks are clear or none is
-  module _ {x0 x1 x2 x3 y0 y1 y2 y3 : Spot} (all : Spotted width across down base x0 x1 x2 x3 y0 y1 y2 y3) where
+  module _ {limit : ℕ} {x0 x1 x2 x3 y0 y1 y2 y3 : Spot} (all : Spotted limit width across down base x0 x1 x2 x3 y0 y1 y2 y3) where
     pub alike-0 : plainAt x0 x1 y0 y1 ≡ true → Alike (clearOf set 0)
     unfolding clearOf
     alike-0 e =

@@ -80,7 +80,7 @@ pub mostly-none : mostlyIntra 0 ≡ false
 unfolding ones onesIn
 mostly-none = refl
 
-module _ (f : Fixed) (across down : List ℕ) (base : List ℤ) (ready : Ready f across down base) (one : (onePart 4 across && onePart 4 down) ≡ true) where
+module _ {limit : ℕ} (f : Fixed) (across down : List ℕ) (base : List ℤ) (ready : Ready limit f across down base) (one : (onePart 4 across && onePart 4 down) ≡ true) where
   abbrev width : ℕ
   width = f .width
 
@@ -93,7 +93,7 @@ module _ (f : Fixed) (across down : List ℕ) (base : List ℤ) (ready : Ready f
   abbrev it : List ℤ
   it = recordRead width base x y
 
-  pub first-readable : ReadableAt width base x y
+  pub first-readable : ReadableAt limit width base x y
   first-readable = ready .readable 0 (omega arith)
 
   same-read : (i : ℕ) → i < 16 → readBy width across down base i ≡ it

@@ -123,20 +123,20 @@ madeBy f h v base = record { answer = answerBy f h v base; written = writtenBy f
 
 -- ---- What the making of a macroblock asks: what is fixed for an accepted geometry, records that lie in the base and are well formed, and coordinates as the block map gives
 -- them
-pub record Ready (f : Fixed) (across down : List ℕ) (base : List ℤ) : Type 0 where
+pub record Ready (limit : ℕ) (f : Fixed) (across down : List ℕ) (base : List ℤ) : Type 0 where
   pub scales : AcceptedScales (f .scales)
   pub width : f .width ≤ 256
-  pub readable : Readable (f .width) across down base
+  pub readable : Readable limit (f .width) across down base
   pub columns : Rising across
   pub rows : Rising down
 
 -- and of the axes that their sets are those of their coordinates, and that four blocks at most fall in the first column and row
-pub record MakeableInside (f : Fixed) (h v : AxisRead) (base : List ℤ) : Type 0 where
-  pub ready : Ready f (h .reads) (v .reads) base
+pub record MakeableInside (limit : ℕ) (f : Fixed) (h v : AxisRead) (base : List ℤ) : Type 0 where
+  pub ready : Ready limit f (h .reads) (v .reads) base
   pub columns-falling : h .falls ≤ 4
   pub rows-falling : v .falls ≤ 4
   pub columns : h .halves ≡ halvesOf (h .reads)
   pub rows : v .halves ≡ halvesOf (v .reads)
 
-abbrev pub Makeable : Fixed → AxisRead → AxisRead → List ℤ → Type 0
-Makeable f h v base = (h .inside && v .inside) ≡ true → MakeableInside f h v base
+abbrev pub Makeable : ℕ → Fixed → AxisRead → AxisRead → List ℤ → Type 0
+Makeable limit f h v base = (h .inside && v .inside) ≡ true → MakeableInside limit f h v base

@@ -5,7 +5,7 @@
 ghost use Prim.Native.Nat.{_<_, _≤_};
 ghost use Rattle.definitions.specs.Accepted.{AcceptedAxes, AcceptedAxis};
 ghost use Rattle.definitions.specs.Inheriting.{filled, merged, resolved};
-ghost use Rattle.definitions.specs.Record.{detailOf, recordWords, rule7, splitSaid, subSplitOf};
+ghost use Rattle.definitions.specs.Record.{detailOf, narrow, recordWords, rule7, splitSaid, subSplitOf};
 ghost use Rattle.details.specs.Bits.{detailBy, halvesOf};
 ghost use Rattle.gather.specs.Reads.{Readable, Rising, gatheredBy, quadrantFrom, setBy};
 ghost use Rattle.macroblock.specs.Made.{Makeable, Ready, SmallRising, answerBy, basisWith, detailInside, fixedOf, inheritedInside, nowhere, onePart, originBy, readIn, readOf, setInside, sortBy, sortInside, twoRead, writtenBy, writtenInside};
@@ -133,7 +133,7 @@ pub fn axis_read(a: Axis, x: u32) -> AxisRead
 
 // ---- In or out of the window
 pub fn make(base: &[i16], f: Fixed, h: AxisRead, v: AxisRead, out: &mut [i16]) -> Sort
-    requires { ⌜ Makeable f h v (now base) × (length (now out) ≡ recordWords) ⌝ }
+    requires { ⌜ Makeable narrow f h v (now base) × (length (now out) ≡ recordWords) ⌝ }
     ensures sort { λ r. ⌜ r ≡ sortBy f h v (now (base .entry)) ⌝ }
     ensures written { λ r. ⌜ now (out .exit) ≡ writtenBy f h v (now (base .entry)) ⌝ }
 {
@@ -177,7 +177,7 @@ fn detail_within(
     columns: [u8; 2],
     rows: [u8; 2],
 ) -> u8
-    requires { ⌜ Readable width across down (now base) × (width ≤ 256) × Rising across × Rising down × ((onePart 4 across && onePart 4 down) ≡ true) × (columns ≡ halvesOf across) × (rows ≡ halvesOf down) ⌝ }
+    requires { ⌜ Readable narrow width across down (now base) × (width ≤ 256) × Rising across × Rising down × ((onePart 4 across && onePart 4 down) ≡ true) × (columns ≡ halvesOf across) × (rows ≡ halvesOf down) ⌝ }
     ensures { λ r. ⌜ (r ≡ detailBy width across down (now (base .entry))) × (r < 16) ⌝ }
 {
     if is_half(across) & is_half(down) {
@@ -196,7 +196,7 @@ fn make_of_one(
     detail: u8,
     out: &mut [i16],
 ) -> Sort
-    requires { ⌜ Ready f across down (now base) × ((onePart 4 across && onePart 4 down) ≡ true) × (detail ≡ detailInside f across down (now base)) × (length (now out) ≡ recordWords) ⌝ }
+    requires { ⌜ Ready narrow f across down (now base) × ((onePart 4 across && onePart 4 down) ≡ true) × (detail ≡ detailInside f across down (now base)) × (length (now out) ≡ recordWords) ⌝ }
     ensures sort { λ r. ⌜ r ≡ sortInside f across down (now (base .entry)) ⌝ }
     ensures written { λ r. ⌜ now (out .exit) ≡ writtenInside f across down (now (base .entry)) ⌝ }
 {
@@ -230,7 +230,7 @@ fn make_of_more(
     detail: u8,
     out: &mut [i16],
 ) -> Sort
-    requires { ⌜ Ready f across down (now base) × (detail ≡ detailInside f across down (now base)) × (length (now out) ≡ recordWords) ⌝ }
+    requires { ⌜ Ready narrow f across down (now base) × (detail ≡ detailInside f across down (now base)) × (length (now out) ≡ recordWords) ⌝ }
     ensures sort { λ r. ⌜ r ≡ sortInside f across down (now (base .entry)) ⌝ }
     ensures written { λ r. ⌜ now (out .exit) ≡ writtenInside f across down (now (base .entry)) ⌝ }
 {
@@ -260,7 +260,7 @@ fn make_inherited(
     detail: u8,
     out: &mut [i16],
 )
-    requires { ⌜ Ready f across down (now base) × (set ≡ setInside f across down (now base)) × (detail ≡ detailInside f across down (now base)) × (length (now out) ≡ recordWords) ⌝ }
+    requires { ⌜ Ready narrow f across down (now base) × (set ≡ setInside f across down (now base)) × (detail ≡ detailInside f across down (now base)) × (length (now out) ≡ recordWords) ⌝ }
     ensures { λ _. ⌜ now (out .exit) ≡ inheritedInside f across down (now (base .entry)) ⌝ }
 {
     write_made(
@@ -279,7 +279,7 @@ fn motions_made(
     down: [u16; 4],
     set: u16,
 ) -> [[BlockMotion; 4]; 4]
-    requires { ⌜ Readable width across down (now base) × (width ≤ 256) × (set ≡ setBy width across down (now base)) ⌝ }
+    requires { ⌜ Readable narrow width across down (now base) × (width ≤ 256) × (set ≡ setBy width across down (now base)) ⌝ }
     ensures { λ r. ⌜ quadrantsIn r ≡ resolved set (gatheredBy width across down (now (base .entry))) ⌝ }
 {
     let x0 = across_of(across[0]);
@@ -418,7 +418,7 @@ fn split_said(out: &[i16]) -> Split
 }
 
 pub fn answer(base: &[i16], f: Fixed, h: AxisRead, v: AxisRead, out: &mut [i16]) -> Answer
-    requires { ⌜ Makeable f h v (now base) × (length (now out) ≡ recordWords) ⌝ }
+    requires { ⌜ Makeable narrow f h v (now base) × (length (now out) ≡ recordWords) ⌝ }
     ensures answer { λ r. ⌜ r ≡ answerBy f h v (now (base .entry)) ⌝ }
     ensures written { λ r. ⌜ now (out .exit) ≡ writtenBy f h v (now (base .entry)) ⌝ }
 {

@@ -53,14 +53,14 @@ pub record InWords (m : BlockMotion) : Type 0 where
   pub x1 : SFits w16 (m .x1)
   pub y1 : SFits w16 (m .y1)
 
--- a motion, and a quadrant, that can be written into a record of narrow words
-pub record Writable (m : BlockMotion) : Type 0 where
+-- a motion, and a quadrant, that can be scaled and written into a record of the width whose limit it is
+pub record Writable (limit : ℕ) (m : BlockMotion) : Type 0 where
   pub referring : Referring m
-  pub vectors : BothInRange (motionIn m)
+  pub vectors : BothInRange limit (motionIn m)
 
-pub record QuadrantWritable (m : List BlockMotion) : Type 0 where
-  pub blocks : (k : ℕ) → k < 4 → Writable (getD m k zeroBlock)
+pub record QuadrantWritable (limit : ℕ) (m : List BlockMotion) : Type 0 where
+  pub blocks : (k : ℕ) → k < 4 → Writable limit (getD m k zeroBlock)
   pub one : OneReference m
 
-abbrev pub AllWritable : List (List BlockMotion) → Type 0
-AllWritable m = (q : ℕ) → q < 4 → QuadrantWritable (getD m q [])
+abbrev pub AllWritable : ℕ → List (List BlockMotion) → Type 0
+AllWritable limit m = (q : ℕ) → q < 4 → QuadrantWritable limit (getD m q [])

@@ -1,17 +1,15 @@
 -- The range of vector words that rule 5 of "A motion record" allows.
-use Prim.Native.Nat.{_-_}
+use Prim.Native.Nat.{ℕ}
 use mathlib.Core.Path.{_≡_}
 use mathlib.Core.Bool.{true}
-use lib.IntN.{pos}
 use Rattle.definitions.specs.declared.Motion.{Motion}
 use Rattle.definitions.specs.declared.Prediction.{Prediction}
-use Rattle.definitions.specs.Basics.{minus, between}
-use Rattle.definitions.specs.Record.{narrow}
+use Rattle.definitions.specs.Record.{fits}
 
-pub record InRange (p : Prediction) : Type 0 where
-  pub x : between (minus narrow) (pos (narrow - 1)) (p .x) ≡ true
-  pub y : between (minus narrow) (pos (narrow - 1)) (p .y) ≡ true
+pub record InRange (limit : ℕ) (p : Prediction) : Type 0 where
+  pub x : fits limit (p .x) ≡ true
+  pub y : fits limit (p .y) ≡ true
 
 -- of a motion's both lists
-abbrev pub BothInRange : Motion → Type 0
-BothInRange m = InRange (m .list0) × InRange (m .list1)
+abbrev pub BothInRange : ℕ → Motion → Type 0
+BothInRange limit m = InRange limit (m .list0) × InRange limit (m .list1)

@@ -1,5 +1,5 @@
 -- The stages of the picture call, each refusal where it applies, are the call of document 01. Assumes nothing.
-use Prim.Native.Nat.{_*_}
+use Prim.Native.Nat.{ℕ, _*_}
 use mathlib.Core.Path.{_≡_, sym, ap, _∙_}
 use mathlib.Core.Bool.{true, false, not}
 use mathlib.Core.List.{List, _∷_}
@@ -16,7 +16,7 @@ use Rattle.definitions.specs.declared.PictureReply.{PictureReply}
 use Rattle.definitions.specs.declared.PictureReply.the-variants.{Counted, Refused as NotMade}
 use Rattle.definitions.specs.Basics.{upTo, forEach}
 use Rattle.definitions.specs.Geometry.{axesOf}
-use Rattle.definitions.specs.Record.{recordWords, narrow}
+use Rattle.definitions.specs.Record.{recordWords}
 use Rattle.definitions.specs.Answer.{Made}
 use Rattle.definitions.specs.Refusals.{refusal, verdictOf, geometryTests, geometryVerdict, baseTest, outputTest, recordTests, allAddresses}
 use Rattle.definitions.specs.Calls.{Outcome, byVerdict, madeAt, countsOf, pictureTests, pictureCall}
@@ -26,7 +26,7 @@ use Rattle.definitions.proofs.Verdicts.{then-verdict, refused-first}
 use Rattle.picture.specs.Staged.{axesPicture}
 use Rattle.upsample.proofs.Staging.{Handed, handed}
 
-module _ (g : Axes) (base words : List ℤ) where
+module _ (limit : ℕ) (g : Axes) (base words : List ℤ) where
   abbrev made : List Made
   made = upTo (fullCount g) (madeAt g base)
 
@@ -34,9 +34,9 @@ module _ (g : Axes) (base words : List ℤ) where
   makes = record { reply = Counted (countsOf made); words = forEach made (λ m. m .written) }
 
   abbrev call : Outcome PictureReply
-  call = axesPicture g base words
+  call = axesPicture limit g base words
 
-  by-tests : (v : Verdict) → verdictOf (baseTest g base ∷ outputTest (fullCount g) words ∷ recordTests narrow base (allAddresses g)) ≡ v → call ≡ byVerdict v NotMade words makes
+  by-tests : (v : Verdict) → verdictOf (baseTest g base ∷ outputTest (fullCount g) words ∷ recordTests limit base (allAddresses g)) ≡ v → call ≡ byVerdict v NotMade words makes
   unfolding axesPicture
   by-tests v e = ap (λ (u : Verdict). byVerdict u NotMade words makes) e
 
@@ -51,21 +51,21 @@ module _ (g : Axes) (base words : List ℤ) where
     wrong-output n = handed _ _ _ (by-tests _ (no _ _ base-passed ∙ yes _ _ (ap not n)))
 
     module _ (output-right : eqb (length words) (recordWords * fullCount g) ≡ true) where
-      by-records : (v : Verdict) → verdictOf (recordTests narrow base (allAddresses g)) ≡ v → call ≡ byVerdict v NotMade words makes
+      by-records : (v : Verdict) → verdictOf (recordTests limit base (allAddresses g)) ≡ v → call ≡ byVerdict v NotMade words makes
       by-records v e = by-tests v (no _ _ base-passed ∙ (no _ _ (ap not output-right) ∙ e))
 
-      pub wrong-record : (r : Refusal) → verdictOf (recordTests narrow base (allAddresses g)) ≡ Refused r → Handed (NotMade r) words call
+      pub wrong-record : (r : Refusal) → verdictOf (recordTests limit base (allAddresses g)) ≡ Refused r → Handed (NotMade r) words call
       wrong-record r e = handed _ _ _ (by-records (Refused r) e)
 
-      pub all-right : verdictOf (recordTests narrow base (allAddresses g)) ≡ Accepted → (counts : Counts) (out : List ℤ) → counts ≡ countsOf made → out ≡ forEach made (λ m. m .written) → Handed (Counted counts) out call
+      pub all-right : verdictOf (recordTests limit base (allAddresses g)) ≡ Accepted → (counts : Counts) (out : List ℤ) → counts ≡ countsOf made → out ≡ forEach made (λ m. m .written) → Handed (Counted counts) out call
       all-right e counts out c w = handed _ _ _ (by-records Accepted e ∙ (λ i. record { reply = Counted (sym c i); words = sym w i }))
 
 -- ---- refusals 1 to 4
-module _ (n : Numbers) (base words : List ℤ) where
-  pub wrong-geometry : (r : Refusal) → geometryVerdict n ≡ Refused r → Handed (NotMade r) words (pictureCall narrow n base words)
+module _ (limit : ℕ) (n : Numbers) (base words : List ℤ) where
+  pub wrong-geometry : (r : Refusal) → geometryVerdict n ≡ Refused r → Handed (NotMade r) words (pictureCall limit n base words)
   unfolding pictureCall pictureTests
-  wrong-geometry r e = handed _ _ _ (ap (λ (u : Verdict). byVerdict u NotMade words (makes (axesOf n) base words)) (refused-first (geometryTests n) _ r e))
+  wrong-geometry r e = handed _ _ _ (ap (λ (u : Verdict). byVerdict u NotMade words (makes limit (axesOf n) base words)) (refused-first (geometryTests n) _ r e))
 
-  pub right-geometry : geometryVerdict n ≡ Accepted → pictureCall narrow n base words ≡ axesPicture (axesOf n) base words
+  pub right-geometry : geometryVerdict n ≡ Accepted → pictureCall limit n base words ≡ axesPicture limit (axesOf n) base words
   unfolding pictureCall pictureTests axesPicture
-  right-geometry e = ap (λ (u : Verdict). byVerdict u NotMade words (makes (axesOf n) base words)) (then-verdict (geometryTests n) _ e)
+  right-geometry e = ap (λ (u : Verdict). byVerdict u NotMade words (makes limit (axesOf n) base words)) (then-verdict (geometryTests n) _ e)

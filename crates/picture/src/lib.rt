@@ -117,8 +117,8 @@ fn fill(g: Axes, base: &[i16], out: &mut [i16]) -> Counts
 // The geometry is accepted: refusals 5, 6 and 8, or the picture.
 fn accepted_picture(g: Axes, base: &[i16], out: &mut [i16]) -> PictureReply
     requires { ⌜ AcceptedAxes g ⌝ }
-    ensures reply { λ r. ⌜ r ≡ axesPicture g (now (base .entry)) (now (out .entry)) .reply ⌝ }
-    ensures words { λ r. ⌜ now (out .exit) ≡ axesPicture g (now (base .entry)) (now (out .entry)) .words ⌝ }
+    ensures reply { λ r. ⌜ r ≡ axesPicture narrow g (now (base .entry)) (now (out .entry)) .reply ⌝ }
+    ensures words { λ r. ⌜ now (out .exit) ≡ axesPicture narrow g (now (base .entry)) (now (out .entry)) .words ⌝ }
 {
     if !base_right(g, base.len()) {
         return PictureReply::Refused(refused(refusals::BASE_LENGTH));
@@ -136,8 +136,8 @@ fn accepted_picture(g: Axes, base: &[i16], out: &mut [i16]) -> PictureReply
 pub fn upsample_picture(n: Numbers, base: &[i16], out: &mut [i16]) -> PictureReply
     ensures reply { λ r. ⌜ r ≡ pictureCall narrow n (now (base .entry)) (now (out .entry)) .reply ⌝ }
     ensures words { λ r. ⌜ now (out .exit) ≡ pictureCall narrow n (now (base .entry)) (now (out .entry)) .words ⌝ }
-    ensures demand3 { λ r. ⌜ PicturePromised n (now (base .entry)) (now (out .entry)) r (now (out .exit)) ⌝ }
-    ensures singly { λ r. ⌜ SinglyCounted n (now (base .entry)) r (now (out .exit)) ⌝ }
+    ensures demand3 { λ r. ⌜ PicturePromised narrow n (now (base .entry)) (now (out .entry)) r (now (out .exit)) ⌝ }
+    ensures singly { λ r. ⌜ SinglyCounted narrow n (now (base .entry)) r (now (out .exit)) ⌝ }
 {
     match Geometry::new(n) {
         Checked::Geometry(g) => accepted_picture(g.axes(), base, out),

@@ -25,11 +25,11 @@ module _ (s : State) (h : sound s ≡ true) (base words : List ℤ) (reply : Mac
   next-promised r w = record { demand3 = kept; refusals = λ x e. state-these s h base words x (sym r ∙ e) }
     where
       kept : (n : Numbers) (c : Counts) → s ≡ begun n c → finished s ≡ false
-          → SinglyPromised n base (pos (columnAt (axesOf n) (sumOf c))) (pos (rowAt (axesOf n) (sumOf c))) words reply new
+          → SinglyPromised narrow n base (pos (columnAt (axesOf n) (sumOf c))) (pos (rowAt (axesOf n) (sumOf c))) words reply new
       kept n c e f =
           let q : nextCall s base words ≡ macroblockCall narrow n base (pos (columnAt (axesOf n) (sumOf c))) (pos (rowAt (axesOf n) (sumOf c))) words =
           ap (λ (t : State). nextCall t base words) e ∙ next-going n c base words (sym (ap finished e) ∙ f) in
-          singly-promised n base _ _ words reply new (r ∙ ap (λ (o : Outcome MacroblockReply). o .reply) q) (w ∙ ap (λ (o : Outcome MacroblockReply). o .words) q)
+          singly-promised narrow n base _ _ words reply new (r ∙ ap (λ (o : Outcome MacroblockReply). o .reply) q) (w ∙ ap (λ (o : Outcome MacroblockReply). o .words) q)
 
 pub totals-promised : (v : Session) (counts : Counts) → counts ≡ totalsOf (stateOf v) → TotalsPromised v counts
 totals-promised v counts e = record {

@@ -4,6 +4,7 @@ use mathlib.Core.Bool.{false}
 use mathlib.Core.List.{List, List·Memᴰ}
 use lib.IntN.{ℤ, pos}
 use lib.ListN.{length}
+use Rattle.definitions.specs.Record.{narrow}
 use Rattle.definitions.specs.declared.Numbers.{Numbers}
 use Rattle.definitions.specs.declared.Counts.{Counts}
 use Rattle.definitions.specs.declared.Refusal.{Refusal}
@@ -20,7 +21,7 @@ use Rattle.session.specs.Values.{freshSession, valueAfter}
 -- next: while a picture is unfinished, what the one-macroblock call promises for the next address in raster order, demand 3; refused, it is by 20, 21, 5, 6 or 8
 pub record NextPromised (s : State) (base words : List ℤ) (reply : MacroblockReply) (new : List ℤ) : Type 0 where
   pub demand3 : (n : Numbers) (c : Counts) → s ≡ begun n c → finished s ≡ false
-      → SinglyPromised n base (pos (columnAt (axesOf n) (sumOf c))) (pos (rowAt (axesOf n) (sumOf c))) words reply new
+      → SinglyPromised narrow n base (pos (columnAt (axesOf n) (sumOf c))) (pos (rowAt (axesOf n) (sumOf c))) words reply new
   pub refusals : (r : Refusal) → reply ≡ Declined r → List·Memᴰ (r .number) refusesNext
 
 -- totals, after any list of calls from a fresh session: the counts of accepted next calls of each sort since the last accepted begin or abandon, and their sum is

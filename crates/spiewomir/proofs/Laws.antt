@@ -111,17 +111,17 @@ of-geometry : (n : Numbers) → EachGives NotZero (geometryTests n)
 unfolding geometryTests
 of-geometry n = (λ e. omega arith, (λ e. omega arith, (λ e. omega arith, (λ e. omega arith, tt))))
 
-of-records : (base : List ℤ) (addresses : List ℕ) → EachGives NotZero (recordTests narrow base addresses)
-of-records base addresses = records-give narrow NotZero base addresses (λ a m e. omega arith)
+of-records : (limit : ℕ) (base : List ℤ) (addresses : List ℕ) → EachGives NotZero (recordTests limit base addresses)
+of-records limit base addresses = records-give limit NotZero base addresses (λ a m e. omega arith)
 
-of-macroblock : (n : Numbers) (base : List ℤ) (column row : ℤ) (words : List ℤ) → EachGives NotZero (macroblockTests narrow n base column row words)
+of-macroblock : (limit : ℕ) (n : Numbers) (base : List ℤ) (column row : ℤ) (words : List ℤ) → EachGives NotZero (macroblockTests limit n base column row words)
 unfolding macroblockTests
-of-macroblock n base column row words =
-    each-both (geometryTests n) _ (of-geometry n) (λ e. omega arith, (λ e. omega arith, (λ e. omega arith, of-records base (addressesRead (axesOf n) (natAbs column) (natAbs row)))))
+of-macroblock limit n base column row words =
+    each-both (geometryTests n) _ (of-geometry n) (λ e. omega arith, (λ e. omega arith, (λ e. omega arith, of-records limit base (addressesRead (axesOf n) (natAbs column) (natAbs row)))))
 
-of-picture : (n : Numbers) (base words : List ℤ) → EachGives NotZero (pictureTests narrow n base words)
+of-picture : (limit : ℕ) (n : Numbers) (base words : List ℤ) → EachGives NotZero (pictureTests limit n base words)
 unfolding pictureTests
-of-picture n base words = each-both (geometryTests n) _ (of-geometry n) (λ e. omega arith, (λ e. omega arith, of-records base (allAddresses (axesOf n))))
+of-picture limit n base words = each-both (geometryTests n) _ (of-geometry n) (λ e. omega arith, (λ e. omega arith, of-records limit base (allAddresses (axesOf n))))
 
 of-onward : (s : State) → EachGives NotZero (onwardTests s)
 of-onward s = (λ e. omega arith, (λ e. omega arith, tt))
@@ -146,13 +146,13 @@ written-zero : (n : ℕ) (v : Verdict) (b : Bool) → ((r : Refusal) → v ≡ R
 written-zero n Accepted b h = (λ e. refl, λ w. refl)
 written-zero n (Refused r) b h = (λ e. absurd (h r refl e), λ w. absurd (let z : _≡_ {A = ℕ} 0 1 = cc in omega arith))
 
-call-zero : (n : Numbers) (base : List ℤ) (column row : ℤ) (words : List ℤ) (r : Refusal) → macroblockCall narrow n base column row words .reply ≡ Declined r → NotZero r
-call-zero n base column row words r e = given-by NotZero (macroblockTests narrow n base column row words) (of-macroblock n base column row words) r (declined narrow n base column row words r e)
+call-zero : (limit : ℕ) (n : Numbers) (base : List ℤ) (column row : ℤ) (words : List ℤ) (r : Refusal) → macroblockCall limit n base column row words .reply ≡ Declined r → NotZero r
+call-zero limit n base column row words r e = given-by NotZero (macroblockTests limit n base column row words) (of-macroblock limit n base column row words) r (declined limit n base column row words r e)
 
-made-zero : (n : Numbers) (base words : List ℤ) (r : Refusal) → pictureCall narrow n base words .reply ≡ NotMade r → NotZero r
+made-zero : (limit : ℕ) (n : Numbers) (base words : List ℤ) (r : Refusal) → pictureCall limit n base words .reply ≡ NotMade r → NotZero r
 unfolding pictureCall
-made-zero n base words r e =
-    given-by NotZero (pictureTests narrow n base words) (of-picture n base words) r (reply-refused (verdictOf (pictureTests narrow n base words)) NotMade words _ r (λ q p. cc) (λ p. let z : _≡_ {A = ℕ} 0 1 = cc in omega arith) e)
+made-zero limit n base words r e =
+    given-by NotZero (pictureTests limit n base words) (of-picture limit n base words) r (reply-refused (verdictOf (pictureTests limit n base words)) NotMade words _ r (λ q p. cc) (λ p. let z : _≡_ {A = ℕ} 0 1 = cc in omega arith) e)
 
 begin-zero : (s : State) (n : Numbers) (r : Refusal) → beginVerdict s n ≡ Refused r → NotZero r
 unfolding beginVerdict
@@ -169,7 +169,7 @@ declined-by (Refused q) words made h k r e = let same : q ≡ r = cc in subst No
 
 at-next-zero : (s : State) (base words : List ℤ) (r : Refusal) → callAtNext s base words .reply ≡ Declined r → NotZero r
 at-next-zero fresh base words r e = let same : refusal 20 ≡ r = cc in subst NotZero same (λ z. omega arith)
-at-next-zero (begun n c) base words r e = call-zero n base _ _ words r e
+at-next-zero (begun n c) base words r e = call-zero narrow n base _ _ words r e
 
 next-zero : (s : State) (base words : List ℤ) (r : Refusal) → nextCall s base words .reply ≡ Declined r → NotZero r
 unfolding nextCall
@@ -237,8 +237,8 @@ empty-when-no-picture = record { text = text-empty; log = λ l. written-empty (l
 
 pub zero-when-answered : ZeroWhenAnswered
 zero-when-answered = record {
-  macroblock = λ n base column row words. reply-zero (macroblockCall narrow n base column row words .reply) (call-zero n base column row words);
-  picture = λ n base words. picture-zero (pictureCall narrow n base words .reply) (made-zero n base words);
+  macroblock = λ limit n base column row words. reply-zero (macroblockCall limit n base column row words .reply) (call-zero limit n base column row words);
+  picture = λ limit n base words. picture-zero (pictureCall limit n base words .reply) (made-zero limit n base words);
   begins = λ s g. verdict-zero s (beginVerdict (stateOf (sessionFromC s)) (numbersFromC g)) _ (begin-zero (stateOf (sessionFromC s)) (numbersFromC g));
   nexts = λ s base words. reply-zero (nextCall (stateOf (sessionFromC s)) base words .reply) (next-zero (stateOf (sessionFromC s)) base words);
   abandons = λ s. verdict-zero s (abandonVerdict (stateOf (sessionFromC s))) _ (abandon-zero (stateOf (sessionFromC s)));

@@ -1,11 +1,11 @@
--- One macroblock, the picture and a session's next, as the C interface hands them over: the numbers of the call's reply, with demand 3 of it.
+-- One macroblock, the picture (each at the limit of its width) and a session's next, as the C interface hands them over: the numbers of the call's reply, with demand 3 of it.
+use Prim.Native.Nat.{ℕ}
 use mathlib.Core.Path.{_≡_}
 use mathlib.Core.List.{List}
 use lib.IntN.{ℤ}
 use Rattle.definitions.specs.declared.Numbers.{Numbers}
 use Rattle.definitions.specs.declared.MacroblockReply.{MacroblockReply}
 use Rattle.definitions.specs.declared.PictureReply.{PictureReply}
-use Rattle.definitions.specs.Record.{narrow}
 use Rattle.definitions.specs.Calls.{macroblockCall, pictureCall}
 use Rattle.definitions.specs.Session.{nextCall}
 use Rattle.upsample.specs.Promised.{SinglyPromised}
@@ -19,17 +19,17 @@ use Rattle.spiewomir.specs.declared.AdvancedResult.{AdvancedResult}
 use Rattle.spiewomir.specs.Results.{macroblockResult, pictureResult}
 use Rattle.spiewomir.specs.Sessions.{sessionFromC}
 
-pub record MacroblockGiven (n : Numbers) (base : List ℤ) (column row : ℤ) (words : List ℤ) (result : MacroblockResult) (new : List ℤ) : Type 0 where
+pub record MacroblockGiven (limit : ℕ) (n : Numbers) (base : List ℤ) (column row : ℤ) (words : List ℤ) (result : MacroblockResult) (new : List ℤ) : Type 0 where
   pub reply : MacroblockReply
-  pub answer : reply ≡ macroblockCall narrow n base column row words .reply
-  pub demand3 : SinglyPromised n base column row words reply new
+  pub answer : reply ≡ macroblockCall limit n base column row words .reply
+  pub demand3 : SinglyPromised limit n base column row words reply new
   pub is : result ≡ macroblockResult reply
 
-pub record PictureGiven (n : Numbers) (base words : List ℤ) (result : PictureResult) (new : List ℤ) : Type 0 where
+pub record PictureGiven (limit : ℕ) (n : Numbers) (base words : List ℤ) (result : PictureResult) (new : List ℤ) : Type 0 where
   pub reply : PictureReply
-  pub answer : reply ≡ pictureCall narrow n base words .reply
-  pub demand3 : PicturePromised n base words reply new
-  pub singly : SinglyCounted n base reply new
+  pub answer : reply ≡ pictureCall limit n base words .reply
+  pub demand3 : PicturePromised limit n base words reply new
+  pub singly : SinglyCounted limit n base reply new
   pub is : result ≡ pictureResult reply
 
 -- Next, of the session that the numbers stand for. (What session it hands back: the clause result of its contract.)

@@ -21,7 +21,6 @@ use Rattle.definitions.specs.declared.TextReply.the-variants.{NoPicture, Read}
 use Rattle.definitions.specs.declared.Logged.{Logged}
 use Rattle.definitions.specs.declared.LogReply.{LogReply}
 use Rattle.definitions.specs.declared.LogReply.the-variants.{Written}
-use Rattle.definitions.specs.Record.{narrow}
 use Rattle.definitions.specs.Calls.{macroblockCall, pictureCall, countsOf, sumOf}
 use Rattle.definitions.specs.Session.{Call, begin, next, abandon, totals, State, fresh, Exchange, beginGave, nextGave, abandonGave, totalsGave, beginVerdict, abandonVerdict, nextCall, exchange, stateNext, stateAfter, madeSince}
 use Rattle.definitions.specs.Text.{TextAnswer}
@@ -49,13 +48,13 @@ pub record ThereAndBack : Type 0 where
 abbrev pub ClassesDiffer : Type 0
 ClassesDiffer = (c d : Class) → classNumber c ≡ classNumber d → c ≡ d
 
--- ---- Refusal 0 exactly where a call is answered (of the log call: where a log is written; and its text 0 exactly where the text is accepted)
+-- ---- Refusal 0 exactly where a call is answered (of the log call: where a log is written; and its text 0 exactly where the text is accepted). Of the calls on records at every limit, and so for both widths
 pub record ZeroWhenAnswered : Type 0 where
-  pub macroblock : (n : Numbers) (base : List ℤ) (column row : ℤ) (words : List ℤ)
-      → (macroblockResult (macroblockCall narrow n base column row words .reply) .refusal ≡ 0)
-      ↔ ((a : Answer) × (macroblockCall narrow n base column row words .reply ≡ Answered a))
-  pub picture : (n : Numbers) (base words : List ℤ)
-      → (pictureResult (pictureCall narrow n base words .reply) .refusal ≡ 0) ↔ ((c : Counts) × (pictureCall narrow n base words .reply ≡ Counted c))
+  pub macroblock : (limit : ℕ) (n : Numbers) (base : List ℤ) (column row : ℤ) (words : List ℤ)
+      → (macroblockResult (macroblockCall limit n base column row words .reply) .refusal ≡ 0)
+      ↔ ((a : Answer) × (macroblockCall limit n base column row words .reply ≡ Answered a))
+  pub picture : (limit : ℕ) (n : Numbers) (base words : List ℤ)
+      → (pictureResult (pictureCall limit n base words .reply) .refusal ≡ 0) ↔ ((c : Counts) × (pictureCall limit n base words .reply ≡ Counted c))
   pub begins : (s : SessionNumbers) (g : GeometryNumbers)
       → (beginGives s g .refusal ≡ 0) ↔ (beginVerdict (stateOf (sessionFromC s)) (numbersFromC g) ≡ Accepted)
   pub nexts : (s : SessionNumbers) (base words : List ℤ)

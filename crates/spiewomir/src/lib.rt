@@ -271,7 +271,7 @@ pub extern "C" fn spiewomir_macroblock(
 ) -> MacroblockResult
     ensures result { λ r. ⌜ r ≡ macroblockResult (macroblockCall narrow (numbersFromC g) (now (base .entry)) column row (now (out .entry)) .reply) ⌝ }
     ensures words { λ r. ⌜ now (out .exit) ≡ macroblockCall narrow (numbersFromC g) (now (base .entry)) column row (now (out .entry)) .words ⌝ }
-    ensures demand3 { λ r. ⌜ MacroblockGiven (numbersFromC g) (now (base .entry)) column row (now (out .entry)) r (now (out .exit)) ⌝ }
+    ensures demand3 { λ r. ⌜ MacroblockGiven narrow (numbersFromC g) (now (base .entry)) column row (now (out .entry)) r (now (out .exit)) ⌝ }
 {
     reply_result(upsample_macroblock(numbers_from_c(g), base, column, row, out))
 }
@@ -285,7 +285,7 @@ pub extern "C" fn spiewomir_picture(
 ) -> PictureResult
     ensures result { λ r. ⌜ r ≡ pictureResult (pictureCall narrow (numbersFromC g) (now (base .entry)) (now (out .entry)) .reply) ⌝ }
     ensures words { λ r. ⌜ now (out .exit) ≡ pictureCall narrow (numbersFromC g) (now (base .entry)) (now (out .entry)) .words ⌝ }
-    ensures demand3 { λ r. ⌜ PictureGiven (numbersFromC g) (now (base .entry)) (now (out .entry)) r (now (out .exit)) ⌝ }
+    ensures demand3 { λ r. ⌜ PictureGiven narrow (numbersFromC g) (now (base .entry)) (now (out .entry)) r (now (out .exit)) ⌝ }
 {
     match upsample_picture(numbers_from_c(g), base, out) {
         PictureReply::Counted(c) => PictureResult {

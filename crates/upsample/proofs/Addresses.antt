@@ -6,7 +6,6 @@ use native.Mathlib.Omega.{arith}
 use lib.IntN.{ℤ}
 use Rattle.definitions.specs.declared.Axes.{Axes}
 use Rattle.definitions.specs.Geometry.{fullSize, macroblocks}
-use Rattle.definitions.specs.Record.{narrow}
 use Rattle.definitions.specs.Answer.{madeOf}
 use Rattle.definitions.specs.Calls.{madeAt}
 use Rattle.common.specs.Bases.{BaseFormed}
@@ -16,11 +15,11 @@ use Rattle.macroblock.specs.Made.{fixedOf, readOf, madeBy, Makeable}
 use Rattle.macroblock.proofs.Paper.{placed-by}
 use Rattle.upsample.proofs.Readiness.{Known, known-of}
 
-module _ (g : Axes) (column row : ℕ) (base : List ℤ) (f : BaseFormed narrow g base) (h v : AxisRead) (p : h ≡ readOf (g .horizontal) column) (q : v ≡ readOf (g .vertical) row) where
+module _ {limit : ℕ} (g : Axes) (column row : ℕ) (base : List ℤ) (f : BaseFormed limit g base) (h v : AxisRead) (p : h ≡ readOf (g .horizontal) column) (q : v ≡ readOf (g .vertical) row) where
   known : Known g base (f .right) column row h v
   known = known-of g base (f .right) column row h v p q
 
-  pub makeable : Makeable (fixedOf g) h v base
+  pub makeable : Makeable limit (fixedOf g) h v base
   makeable t =
       known .made-ready t (λ a m. f .formed a (omega (arith, known .named-below t a (subst (List·Memᴰ a) (known .named t) m) .0, f .right .base-length)))
 

@@ -14,7 +14,7 @@ use Rattle.definitions.specs.declared.Verdict.the-variants.{Accepted, Refused}
 use Rattle.definitions.specs.Basics.{forEach}
 use Rattle.definitions.specs.Geometry.{columnsRead}
 use Rattle.definitions.specs.BlockMap.{columnOf}
-use Rattle.definitions.specs.Record.{recordWords, narrow}
+use Rattle.definitions.specs.Record.{recordWords}
 use Rattle.definitions.specs.Answer.{addressesOf}
 use Rattle.definitions.specs.Refusals.{Test, verdictOf, recordTest, recordTests}
 use Rattle.definitions.specs.Raster.{baseAddress}
@@ -58,10 +58,10 @@ module _ (g : Axes) (first row : ℕ) where
         (subst (λ (m : ℕ). m * recordWords ≤ length base) n (k .0), k .1)
 
 -- ---- one row or two
-tests-join : (base : List ℤ) (xs ys : List ℕ) → recordTests narrow base (xs ++ ys) ≡ recordTests narrow base xs ++ recordTests narrow base ys
+tests-join : (limit : ℕ) (base : List ℤ) (xs ys : List ℕ) → recordTests limit base (xs ++ ys) ≡ recordTests limit base xs ++ recordTests limit base ys
 unfolding recordTests
-tests-join base [] ys = refl
-tests-join base (x ∷ xs) ys = ap (λ (l : List Test). recordTest narrow base x ∷ l) (tests-join base xs ys)
+tests-join limit base [] ys = refl
+tests-join limit base (x ∷ xs) ys = ap (λ (l : List Test). recordTest limit base x ∷ l) (tests-join limit base xs ys)
 
 -- the first column (row) of an axis: that of its first coordinate
 abbrev pub firstOf : AxisRead → ℕ
@@ -88,24 +88,24 @@ module _ (g : Axes) (h v : AxisRead) where
       by-rows ∙ (ap (λ (l : List ℕ). forEach l rowOf) (yes (firstOf v ∷ (firstOf v + 1) ∷ []) (firstOf v ∷ []) e)
       ∙ ap (λ (l : List ℕ). rowOf (firstOf v) ++ l) (append-nil (rowOf (firstOf v + 1))))
 
-  module _ (base : List ℤ) where
+  module _ (limit : ℕ) (base : List ℤ) where
     abbrev verdictAt : ℕ → Verdict
-    verdictAt row = verdictOf (recordTests narrow base (rowOf row))
+    verdictAt row = verdictOf (recordTests limit base (rowOf row))
 
     abbrev verdict : Verdict
-    verdict = verdictOf (recordTests narrow base (addressesOf g (originBy h v)))
+    verdict = verdictOf (recordTests limit base (addressesOf g (originBy h v)))
 
     pub one-row : twoRead v ≡ false → verdictAt (firstOf v) ≡ verdict
-    one-row e = ap (λ (l : List ℕ). verdictOf (recordTests narrow base l)) (sym (named-one e))
+    one-row e = ap (λ (l : List ℕ). verdictOf (recordTests limit base l)) (sym (named-one e))
 
-    split-rows : twoRead v ≡ true → verdict ≡ verdictOf (recordTests narrow base (rowOf (firstOf v)) ++ recordTests narrow base (rowOf (firstOf v + 1)))
-    split-rows e = ap (λ (l : List ℕ). verdictOf (recordTests narrow base l)) (named-two e) ∙ ap verdictOf (tests-join base (rowOf (firstOf v)) (rowOf (firstOf v + 1)))
+    split-rows : twoRead v ≡ true → verdict ≡ verdictOf (recordTests limit base (rowOf (firstOf v)) ++ recordTests limit base (rowOf (firstOf v + 1)))
+    split-rows e = ap (λ (l : List ℕ). verdictOf (recordTests limit base l)) (named-two e) ∙ ap verdictOf (tests-join limit base (rowOf (firstOf v)) (rowOf (firstOf v + 1)))
 
     pub second-row : twoRead v ≡ true → verdictAt (firstOf v) ≡ Accepted → verdictAt (firstOf v + 1) ≡ verdict
-    second-row e p = sym (split-rows e ∙ then-verdict (recordTests narrow base (rowOf (firstOf v))) _ p)
+    second-row e p = sym (split-rows e ∙ then-verdict (recordTests limit base (rowOf (firstOf v))) _ p)
 
     pub first-row : twoRead v ≡ true → (r : Refusal) → verdictAt (firstOf v) ≡ Refused r → Refused r ≡ verdict
-    first-row e r p = sym (split-rows e ∙ refused-first (recordTests narrow base (rowOf (firstOf v))) _ r p)
+    first-row e r p = sym (split-rows e ∙ refused-first (recordTests limit base (rowOf (firstOf v))) _ r p)
 
     pub one-below : twoRead v ≡ false → InBase base (addressesOf g (originBy h v)) → InBase base (rowOf (firstOf v))
     one-below e n = subst (InBase base) (named-one e) n

@@ -12,7 +12,7 @@ use Rattle.definitions.specs.declared.Origin.{Origin}
 use Rattle.definitions.specs.Accepted.{Inside}
 use Rattle.definitions.specs.Geometry.{baseSize, scaledSize, cOf, insideAxis, inside, sampleOf}
 use Rattle.definitions.specs.BlockMap.{columnOf, stepOf, addressRead}
-use Rattle.definitions.specs.Record.{recordWords, recordAt, wellFormed, narrow}
+use Rattle.definitions.specs.Record.{recordWords, recordAt, wellFormed}
 use Rattle.definitions.specs.Answer.{originAt, addressesOf}
 use Rattle.definitions.specs.Refusals.{addressesRead}
 use Rattle.definitions.specs.Raster.{baseCount}
@@ -55,7 +55,7 @@ module _ (g : Axes) (base : List ℤ) (right : BaseRight g base) (column row : �
         let within = both-true (insideAxis (g .horizontal) (sampleOf column)) (insideAxis (g .vertical) (sampleOf row)) e in
         omega (arith, step-small (g .vertical) row (right .axes .vertical) (within .1) refl .reads 0 (omega arith))
 
-    ready : ((a : ℕ) → List·Memᴰ a (addressesOf g (originAt g column row)) → wellFormed narrow (recordAt base a) ≡ true) → Ready (fixedOf g) (hor .reads) (ver .reads) base
+    ready : {limit : ℕ} → ((a : ℕ) → List·Memᴰ a (addressesOf g (originAt g column row)) → wellFormed limit (recordAt base a) ≡ true) → Ready limit (fixedOf g) (hor .reads) (ver .reads) base
     unfolding addressRead
     ready formed =
         let within = both-true (insideAxis (g .horizontal) (sampleOf column)) (insideAxis (g .vertical) (sampleOf row)) e in
@@ -75,7 +75,8 @@ module _ (g : Axes) (base : List ℤ) (right : BaseRight g base) (column row : �
     pub named-below : (h .inside && v .inside) ≡ true → InBase base (addressesOf g (originBy h v))
     pub named : (h .inside && v .inside) ≡ true → addressesRead g column row ≡ addressesOf g (originBy h v)
     pub unnamed : (h .inside && v .inside) ≡ false → addressesRead g column row ≡ []
-    pub made-ready : (h .inside && v .inside) ≡ true → ((a : ℕ) → List·Memᴰ a (addressesRead g column row) → wellFormed narrow (recordAt base a) ≡ true) → MakeableInside (fixedOf g) h v base
+    pub made-ready : {limit : ℕ} → (h .inside && v .inside) ≡ true → ((a : ℕ) → List·Memᴰ a (addressesRead g column row) → wellFormed limit (recordAt base a) ≡ true)
+        → MakeableInside limit (fixedOf g) h v base
 
   known : Known (readOf (g .horizontal) column) (readOf (g .vertical) row)
   unfolding readOf addressesRead
@@ -97,7 +98,7 @@ module _ (g : Axes) (base : List ℤ) (right : BaseRight g base) (column row : �
             let e = sym says ∙ t in
             yes _ _ e ∙ (ap (addressesOf g) (origin-same g (right .axes) column row base e) ∙ (λ i. addressesOf g (originBy (sym (x e) i) (sym (y e) i))));
         unnamed = λ t. no _ _ (sym says ∙ t);
-        made-ready = λ t f. let e = sym says ∙ t in to (λ h v. MakeableInside (fixedOf g) h v base) e (record {
+        made-ready = λ {limit} t f. let e = sym says ∙ t in to (λ h v. MakeableInside limit (fixedOf g) h v base) e (record {
           ready = ready e (λ a m. f a (subst (List·Memᴰ a) (sym (yes _ _ e)) m));
           columns-falling = falls-low (g .horizontal) column (right .axes .horizontal) (both-true (insideAxis (g .horizontal) (sampleOf column)) (insideAxis (g .vertical) (sampleOf row)) e .0);
           rows-falling = falls-low (g .vertical) row (right .axes .vertical) (both-true (insideAxis (g .horizontal) (sampleOf column)) (insideAxis (g .vertical) (sampleOf row)) e .1);

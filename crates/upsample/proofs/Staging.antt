@@ -16,7 +16,7 @@ use Rattle.definitions.specs.declared.Verdict.the-variants.{Accepted, Refused}
 use Rattle.definitions.specs.declared.MacroblockReply.{MacroblockReply}
 use Rattle.definitions.specs.declared.MacroblockReply.the-variants.{Answered, Refused as Declined}
 use Rattle.definitions.specs.Geometry.{axesOf, fullSize}
-use Rattle.definitions.specs.Record.{recordWords, narrow}
+use Rattle.definitions.specs.Record.{recordWords}
 use Rattle.definitions.specs.Answer.{Made, madeOf}
 use Rattle.definitions.specs.Refusals.{refusal, verdictOf, geometryTests, geometryVerdict, baseTest, outputTest, withinAxis, recordTests, addressesRead}
 use Rattle.definitions.specs.Calls.{Outcome, byVerdict, macroblockTests, macroblockCall}
@@ -37,11 +37,11 @@ handed {Reply} reply words outcome e = (sym (ap (λ (o : Outcome Reply). o .repl
 
 -- ---- refusal 8
 -- no record is read, so none is refused
-pub none-read : (base : List ℤ) {v : Verdict} → v ≡ verdictOf (recordTests narrow base []) → v ≡ Accepted
+pub none-read : (limit : ℕ) (base : List ℤ) {v : Verdict} → v ≡ verdictOf (recordTests limit base []) → v ≡ Accepted
 unfolding recordTests
-none-read base e = e
+none-read limit base e = e
 
-module _ (g : Axes) (base : List ℤ) (column row : ℕ) (words : List ℤ) where
+module _ (limit : ℕ) (g : Axes) (base : List ℤ) (column row : ℕ) (words : List ℤ) where
   abbrev made : Made
   made = madeOf g base column row
 
@@ -49,14 +49,14 @@ module _ (g : Axes) (base : List ℤ) (column row : ℕ) (words : List ℤ) wher
   answers = record { reply = Answered (made .answer); words = made .written }
 
   abbrev verdict : Verdict
-  verdict = verdictOf (recordTests narrow base (addressesRead g column row))
+  verdict = verdictOf (recordTests limit base (addressesRead g column row))
 
-  pub sized-refused : (r : Refusal) → verdict ≡ Refused r → Handed (Declined r) words (sizedCall g base column row words)
+  pub sized-refused : (r : Refusal) → verdict ≡ Refused r → Handed (Declined r) words (sizedCall limit g base column row words)
   unfolding sizedCall
   sized-refused r e = handed _ _ _ (ap (λ (v : Verdict). byVerdict v Declined words answers) e)
 
   pub sized-answered : AcceptedAxes g → verdict ≡ Accepted → (h v : AxisRead) → h ≡ readOf (g .horizontal) column → v ≡ readOf (g .vertical) row → (answer : Answer) (written : List ℤ)
-      → answer ≡ answerBy (fixedOf g) h v base → written ≡ writtenBy (fixedOf g) h v base → Handed (Answered answer) written (sizedCall g base column row words)
+      → answer ≡ answerBy (fixedOf g) h v base → written ≡ writtenBy (fixedOf g) h v base → Handed (Answered answer) written (sizedCall limit g base column row words)
   unfolding sizedCall madeBy
   sized-answered accepted e h v p q answer written a w =
       let m : madeBy (fixedOf g) h v base ≡ made = (λ i. madeBy (fixedOf g) (p i) (q i) base) ∙ sym (placed-by g accepted column row base) in
@@ -65,14 +65,14 @@ module _ (g : Axes) (base : List ℤ) (column row : ℕ) (words : List ℤ) wher
       handed _ _ _ (ap (λ (u : Verdict). byVerdict u Declined words answers) e ∙ (λ i. record { reply = Answered (sym x i); words = sym y i }))
 
 -- ---- refusals 5 to 7
-module _ (g : Axes) (base : List ℤ) (column row : ℤ) (words : List ℤ) where
+module _ (limit : ℕ) (g : Axes) (base : List ℤ) (column row : ℤ) (words : List ℤ) where
   abbrev call : Outcome MacroblockReply
-  call = axesCall g base column row words
+  call = axesCall limit g base column row words
 
   abbrev made₂ : Outcome MacroblockReply
-  made₂ = answers g base (natAbs column) (natAbs row) words
+  made₂ = answers limit g base (natAbs column) (natAbs row) words
 
-  by-tests : (v : Verdict) → verdictOf (axesTests g base column row words) ≡ v → call ≡ byVerdict v Declined words made₂
+  by-tests : (v : Verdict) → verdictOf (axesTests limit g base column row words) ≡ v → call ≡ byVerdict v Declined words made₂
   unfolding axesCall
   by-tests v e = ap (λ (u : Verdict). byVerdict u Declined words made₂) e
 
@@ -96,19 +96,19 @@ module _ (g : Axes) (base : List ℤ) (column row : ℤ) (words : List ℤ) wher
       unfolding axesTests
       wrong-position n = handed _ _ _ (by-tests _ (no _ _ base-passed ∙ (no _ _ output-passed ∙ yes _ _ (ap not n))))
 
-      pub right-position : (withinAxis (fullSize (g .horizontal)) column && withinAxis (fullSize (g .vertical)) row) ≡ true → call ≡ sizedCall g base (natAbs column) (natAbs row) words
+      pub right-position : (withinAxis (fullSize (g .horizontal)) column && withinAxis (fullSize (g .vertical)) row) ≡ true → call ≡ sizedCall limit g base (natAbs column) (natAbs row) words
       unfolding axesTests sizedCall
       right-position n = by-tests _ (no _ _ base-passed ∙ (no _ _ output-passed ∙ no _ _ (ap not n)))
 
 -- ---- refusals 1 to 4
-module _ (n : Numbers) (base : List ℤ) (column row : ℤ) (words : List ℤ) where
+module _ (limit : ℕ) (n : Numbers) (base : List ℤ) (column row : ℤ) (words : List ℤ) where
   abbrev whole : Outcome MacroblockReply
-  whole = macroblockCall narrow n base column row words
+  whole = macroblockCall limit n base column row words
 
   pub wrong-geometry : (r : Refusal) → geometryVerdict n ≡ Refused r → Handed (Declined r) words whole
   unfolding macroblockCall macroblockTests
-  wrong-geometry r e = handed _ _ _ (ap (λ (u : Verdict). byVerdict u Declined words (made₂ (axesOf n) base column row words)) (refused-first (geometryTests n) _ r e))
+  wrong-geometry r e = handed _ _ _ (ap (λ (u : Verdict). byVerdict u Declined words (made₂ limit (axesOf n) base column row words)) (refused-first (geometryTests n) _ r e))
 
-  pub right-geometry : geometryVerdict n ≡ Accepted → whole ≡ axesCall (axesOf n) base column row words
+  pub right-geometry : geometryVerdict n ≡ Accepted → whole ≡ axesCall limit (axesOf n) base column row words
   unfolding macroblockCall macroblockTests axesCall axesTests
-  right-geometry e = ap (λ (u : Verdict). byVerdict u Declined words (made₂ (axesOf n) base column row words)) (then-verdict (geometryTests n) _ e)
+  right-geometry e = ap (λ (u : Verdict). byVerdict u Declined words (made₂ limit (axesOf n) base column row words)) (then-verdict (geometryTests n) _ e)

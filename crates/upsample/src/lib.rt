@@ -73,8 +73,8 @@ fn sized_macroblock(
     out: &mut [i16],
 ) -> MacroblockReply
     requires { ⌜ BaseRight g (now base) × (length (now out) ≡ recordWords) × (column < 256) × (row < 256) ⌝ }
-    ensures reply { λ r. ⌜ r ≡ sizedCall g (now (base .entry)) column row (now (out .entry)) .reply ⌝ }
-    ensures words { λ r. ⌜ now (out .exit) ≡ sizedCall g (now (base .entry)) column row (now (out .entry)) .words ⌝ }
+    ensures reply { λ r. ⌜ r ≡ sizedCall narrow g (now (base .entry)) column row (now (out .entry)) .reply ⌝ }
+    ensures words { λ r. ⌜ now (out .exit) ≡ sizedCall narrow g (now (base .entry)) column row (now (out .entry)) .words ⌝ }
 {
     let fixed = fixed_of(g);
     let h = axis_read(g.horizontal, column);
@@ -97,8 +97,8 @@ fn accepted_macroblock(
     out: &mut [i16],
 ) -> MacroblockReply
     requires { ⌜ AcceptedAxes g ⌝ }
-    ensures reply { λ r. ⌜ r ≡ axesCall g (now (base .entry)) column row (now (out .entry)) .reply ⌝ }
-    ensures words { λ r. ⌜ now (out .exit) ≡ axesCall g (now (base .entry)) column row (now (out .entry)) .words ⌝ }
+    ensures reply { λ r. ⌜ r ≡ axesCall narrow g (now (base .entry)) column row (now (out .entry)) .reply ⌝ }
+    ensures words { λ r. ⌜ now (out .exit) ≡ axesCall narrow g (now (base .entry)) column row (now (out .entry)) .words ⌝ }
 {
     if !base_right(g, base.len()) {
         return MacroblockReply::Refused(refused(refusals::BASE_LENGTH));
@@ -122,7 +122,7 @@ pub fn upsample_macroblock(
 ) -> MacroblockReply
     ensures reply { λ r. ⌜ r ≡ macroblockCall narrow n (now (base .entry)) column row (now (out .entry)) .reply ⌝ }
     ensures words { λ r. ⌜ now (out .exit) ≡ macroblockCall narrow n (now (base .entry)) column row (now (out .entry)) .words ⌝ }
-    ensures demand3 { λ r. ⌜ SinglyPromised n (now (base .entry)) column row (now (out .entry)) r (now (out .exit)) ⌝ }
+    ensures demand3 { λ r. ⌜ SinglyPromised narrow n (now (base .entry)) column row (now (out .entry)) r (now (out .exit)) ⌝ }
 {
     match Geometry::new(n) {
         Checked::Geometry(g) => accepted_macroblock(g.axes(), base, column, row, out),

@@ -1,10 +1,9 @@
 // Writing what was made of a macroblock into a record of narrow words: step 4 of "Inheriting", as document 02's E3 has it, while the vectors are written, and step 5, the split.
-ghost use Prim.Native.Nat.{_-_, _<_, _≤_};
+ghost use Prim.Native.Nat.{_<_, _≤_};
 ghost use Rattle.definitions.specs.Answer.{dividedBy};
-ghost use Rattle.definitions.specs.Basics.{between, minus};
 ghost use Rattle.definitions.specs.Blocks.{rasterOf};
 ghost use Rattle.definitions.specs.Inheriting.{chosen, motionAt};
-ghost use Rattle.definitions.specs.Record.{laidOut, motionOf, narrow, recordWords, referencesOf, subTypeNumber, vectorsOf};
+ghost use Rattle.definitions.specs.Record.{fits, laidOut, motionOf, narrow, recordWords, referencesOf, subTypeNumber, vectorsOf};
 ghost use Rattle.definitions.specs.Splits.{sameMotion};
 ghost use Rattle.motion.specs.ByValue.{AllWritable, QuadrantWritable, Referring, Writable, motionIn, motionsIn, quadrantsIn};
 ghost use Rattle.motion.specs.Scales.{AcceptedScale, AcceptedScales, allScaled, motionScaled, scaledWith};
@@ -27,7 +26,7 @@ use split::sub_type_of;
 // ---- Step 4
 // A vector word: (v · scale + 32,768) / 65,536, rounded down, with the scale in its two parts (`fitting` of proofs/Rounded). The shift rounds down, below zero too.
 fn scale_word(s: Scale, v: i32) -> i16
-    requires { ⌜ AcceptedScale s × (between (minus narrow) (pos (narrow - 1)) v ≡ true) ⌝ }
+    requires { ⌜ AcceptedScale s × (fits narrow v ≡ true) ⌝ }
     ensures { λ r. ⌜ r ≡ scaledWith s v ⌝ }
 {
     let word = v as i16;
@@ -36,7 +35,7 @@ fn scale_word(s: Scale, v: i32) -> i16
 
 // A block's motion, scaled.
 pub fn scaled(s: Scales, m: BlockMotion) -> BlockMotion
-    requires { ⌜ AcceptedScales s × Writable m ⌝ }
+    requires { ⌜ AcceptedScales s × Writable narrow m ⌝ }
     ensures { λ r. ⌜ motionIn r ≡ motionScaled s (motionIn m) ⌝ }
 {
     BlockMotion {
@@ -61,7 +60,7 @@ fn put_references(out: &mut [i16], m: BlockMotion)
 
 // A row of two blocks: their vectors, scaled.
 fn put_pair(out: &mut [i16], s: Scales, a: BlockMotion, b: BlockMotion)
-    requires { ⌜ (length (now out) ≡ 8) × AcceptedScales s × Writable a × Writable b ⌝ }
+    requires { ⌜ (length (now out) ≡ 8) × AcceptedScales s × Writable narrow a × Writable narrow b ⌝ }
     ensures { λ _. ⌜ now (out .exit) ≡ vectorsOf (motionScaled s (motionIn a)) ++ vectorsOf (motionScaled s (motionIn b)) ⌝ }
 {
     let h = s.horizontal;
@@ -82,7 +81,7 @@ const FIRST_BLOCK: [usize; 4] = [0, 2, 8, 10];
 // Quadrant q, whose first block is i (the caller looks it up, where q is a constant): its references, and its two rows of blocks. Gives its sub-type.
 // Its sub-type is found before step 4: scaling keeps different motions different (`motion-apart` of proofs/Choosing).
 fn put_quadrant(out: &mut [i16], s: Scales, q: usize, i: usize, m: [BlockMotion; 4]) -> u8
-    requires { ⌜ (length (now out) ≡ recordWords) × (q < 4) × (i ≡ rasterOf q 0) × AcceptedScales s × QuadrantWritable m ⌝ }
+    requires { ⌜ (length (now out) ≡ recordWords) × (q < 4) × (i ≡ rasterOf q 0) × AcceptedScales s × QuadrantWritable narrow m ⌝ }
     ensures words { λ _. ⌜ now (out .exit) ≡ quadrantPut s q (motionsIn m) (now (out .entry)) ⌝ }
     ensures sub { λ t. ⌜ (t ≡ subTypeNumber (subChosen (motionsIn m))) × (t ≤ 3) ⌝ }
 {
@@ -138,7 +137,7 @@ fn put_types(out: &mut [i16], kind: u8, a: u8, b: u8, c: u8, d: u8)
 // The record of four quadrants of four blocks, as steps 1 to 3 have left them: scaled, and with the fewest pieces.
 // With a divided quadrant the type is 4 (`chosen-quarters`), else the first blocks of the quadrants tell it (`chosen-whole`).
 pub fn write_made(out: &mut [i16], s: Scales, m: [[BlockMotion; 4]; 4], detail: u8)
-    requires { ⌜ (length (now out) ≡ recordWords) × AcceptedScales s × AllWritable m ⌝ }
+    requires { ⌜ (length (now out) ≡ recordWords) × AcceptedScales s × AllWritable narrow m ⌝ }
     ensures { λ _. ⌜ now (out .exit) ≡ laidOut (dividedBy (chosen (allScaled s (quadrantsIn m))) (motionAt (allScaled s (quadrantsIn m))) (pos detail)) ⌝ }
 {
     let a = put_quadrant(out, s, 0, FIRST_BLOCK[0], m[0]);

@@ -34,7 +34,7 @@ answer-requires : tie.Need-answer-requires
 answer-requires c κs =
     let r = c .before .before in
     let s = r .before .before .before in (
-      subst (λ (f : Fixed). Makeable f (r .before .before .axis-read .result) (r .axis-read2 .result) (s .args .base .now)) (sym (s .pre .3))
+      subst (λ (f : Fixed). Makeable narrow f (r .before .before .axis-read .result) (r .axis-read2 .result) (s .args .base .now)) (sym (s .pre .3))
           (makeable (s .args .g) (s .args .column) (s .args .row) (s .args .base .now) (s .pre .0) _ _ (r .before .before .axis-read .ensures) (r .axis-read2 .ensures)),
       length-replicate 78 (pos 0),
     )

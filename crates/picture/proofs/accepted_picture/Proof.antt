@@ -46,7 +46,7 @@ refused-requires c κs = search needs
 returns : tie.Need-returns
 returns c =
     let s = c .before .before .before in
-    let w = wrong-base (s .args .g) (s .args .base .now) (s .args .out .now) (failed (c .before .before .base-right .ensures) (c .before .if1 .taken)) in
+    let w = wrong-base narrow (s .args .g) (s .args .base .now) (s .args .out .now) (failed (c .before .before .base-right .ensures) (c .before .if1 .taken)) in
     (ap NotMade (c .refused .ensures) ∙ w .0, w .1)
 
 full-count-requires : tie.Need-full-count-requires
@@ -62,7 +62,7 @@ returns-2 : tie.Need-returns-2
 returns-2 c =
     let o = c .before .before in
     let s = o .before .before .before .before in
-    let w = wrong-output (s .args .g) (s .args .base .now) (s .args .out .now) (base-passed (o .before .before)) (failed (output-is o) (c .before .if2 .taken)) in
+    let w = wrong-output narrow (s .args .g) (s .args .base .now) (s .args .out .now) (base-passed (o .before .before)) (failed (output-is o) (c .before .if2 .taken)) in
     (ap NotMade (c .refused2 .ensures) ∙ w .0, w .1)
 
 base-count-requires : tie.Need-base-count-requires
@@ -102,14 +102,14 @@ returns-3 c =
     let k = c .before .before .before .before .before in
     let o = k .before .before in
     let s = o .before .before .before .before .before in
-    all-right (s .args .g) (s .args .base .now) (s .args .out .now) (base-passed (o .before .before .before)) (output-passed o) (checked k ∙ c .before .before .before .enum-told .given .1) _ _ (c .before .fill .ensures .0) (c .before .fill .ensures .1)
+    all-right narrow (s .args .g) (s .args .base .now) (s .args .out .now) (base-passed (o .before .before .before)) (output-passed o) (checked k ∙ c .before .before .before .enum-told .given .1) _ _ (c .before .fill .ensures .0) (c .before .fill .ensures .1)
 
 returns-4 : tie.Need-returns-4
 returns-4 c =
     let k = c .before .before .before in
     let o = k .before .before in
     let s = o .before .before .before .before .before in
-    wrong-record (s .args .g) (s .args .base .now) (s .args .out .now) (base-passed (o .before .before .before)) (output-passed o) (c .before .r .given .0 .0) (checked k ∙ c .before .r .given .1)
+    wrong-record narrow (s .args .g) (s .args .base .now) (s .args .out .now) (base-passed (o .before .before .before)) (output-passed o) (c .before .r .given .0 .0) (checked k ∙ c .before .r .given .1)
 
 pub accepted-picture-spec : {M : Type 1} → statement M
 accepted-picture-spec =

@@ -5,7 +5,7 @@ use mathlib.Core.Path.{_≡_, refl, sym, ap, subst, _∙_}
 use native.Mathlib.Omega.{arith}
 use lib.ListN.{length, getD, drop, length-take, length-drop}
 use Rattle.definitions.specs.Basics.{upTo}
-use Rattle.definitions.specs.Record.{recordWords}
+use Rattle.definitions.specs.Record.{recordWords, narrow}
 use Rattle.definitions.specs.Answer.{Made}
 use Rattle.definitions.specs.Calls.{madeAt, countsOf}
 use Rattle.definitions.specs.Raster.{fullCount}
@@ -98,7 +98,7 @@ make-requires c κs =
     let s = c .before .before .before .before .before .before .before .before .before .before .before in
     let h = getD (c .before .before .before .before .before .before .before .before .before .column-reads .result) (l .loop .at .column) noRead in
     let v = c .before .row-read .result in (
-      subst (λ (f : Fixed). Makeable f h v (s .args .base .now)) (sym (c .before .before .before .before .before .before .before .before .before .before .fixed-of .ensures))
+      subst (λ (f : Fixed). Makeable narrow f h v (s .args .base .now)) (sym (c .before .before .before .before .before .before .before .before .before .before .fixed-of .ensures))
           (makeable (s .args .g) (l .loop .at .column) (l .loop .at .row) (s .args .base .now) (s .pre .0) h v (column-there (c .before .before .before .before)) (c .before .row-read .ensures)),
       simp (length-take, length-drop) (omega arith),
     )

@@ -1,4 +1,5 @@
 -- `picture::upsample_picture` meets its contract. Assumes nothing.
+use Rattle.definitions.specs.Record.{narrow}
 use Rattle.picture.proofs.Promises.{picture-kept}
 use Rattle.picture.proofs.Stages.{wrong-geometry, right-geometry}
 use Rattle.picture.specs.Staged.{axesPicture}
@@ -36,14 +37,14 @@ returns : tie.Need-returns
 returns c =
     let s = c .before .before .before .before .before .before .before .before in
     let k = checked-accepted (s .args .n) (c .before .before .before .before .before .g .given .0 .0) (sym (c .before .before .before .before .before .before .before .new .ensures) ∙ c .before .before .before .before .before .g .given .1) in
-    let e = ap (λ (g : Axes). axesPicture g (s .args .base .now) (s .args .out .now)) (c .before .before .before .axes .ensures ∙ k .1) ∙ sym (right-geometry (s .args .n) (s .args .base .now) (s .args .out .now) (k .0)) in
-    picture-kept (s .args .n) (s .args .base .now) (s .args .out .now) _ _ (c .before .accepted-picture .ensures .0 ∙ ap (λ (o : Outcome PictureReply). o .reply) e) (c .before .accepted-picture .ensures .1 ∙ ap (λ (o : Outcome PictureReply). o .words) e)
+    let e = ap (λ (g : Axes). axesPicture narrow g (s .args .base .now) (s .args .out .now)) (c .before .before .before .axes .ensures ∙ k .1) ∙ sym (right-geometry narrow (s .args .n) (s .args .base .now) (s .args .out .now) (k .0)) in
+    picture-kept narrow (s .args .n) (s .args .base .now) (s .args .out .now) _ _ (c .before .accepted-picture .ensures .0 ∙ ap (λ (o : Outcome PictureReply). o .reply) e) (c .before .accepted-picture .ensures .1 ∙ ap (λ (o : Outcome PictureReply). o .words) e)
 
 returns-2 : tie.Need-returns-2
 returns-2 c =
     let s = c .before .before .before .before in
-    let h = wrong-geometry (s .args .n) (s .args .base .now) (s .args .out .now) (c .before .r .given .0 .0) (checked-refused (s .args .n) (c .before .r .given .0 .0) (sym (c .before .before .before .new .ensures) ∙ c .before .r .given .1)) in
-    picture-kept (s .args .n) (s .args .base .now) (s .args .out .now) _ _ (h .0) (h .1)
+    let h = wrong-geometry narrow (s .args .n) (s .args .base .now) (s .args .out .now) (c .before .r .given .0 .0) (checked-refused (s .args .n) (c .before .r .given .0 .0) (sym (c .before .before .before .new .ensures) ∙ c .before .r .given .1)) in
+    picture-kept narrow (s .args .n) (s .args .base .now) (s .args .out .now) _ _ (h .0) (h .1)
 
 pub upsample-picture-spec : {M : Type 1} → statement M
 upsample-picture-spec =

@@ -6,7 +6,7 @@ use Rattle.upsample.specs.Staged.{sizedCall}
 use Rattle.definitions.proofs.Choices.{both-true}
 use Rattle.definitions.specs.Calls.{Outcome}
 use Rattle.definitions.specs.Refusals.{withinAxis}
-use Rattle.definitions.specs.Record.{recordWords}
+use Rattle.definitions.specs.Record.{recordWords, narrow}
 use Rattle.definitions.specs.Geometry.{fullSize}
 use Rattle.definitions.specs.Raster.{baseCount}
 use Rattle.definitions.specs.declared.MacroblockReply.the-variants.{Refused as Declined}
@@ -60,7 +60,7 @@ refused-requires c κs = search needs
 returns : tie.Need-returns
 returns c =
     let s = c .before .before .before in
-    let w = wrong-base (s .args .g) (s .args .base .now) (s .args .column) (s .args .row) (s .args .out .now) (failed (c .before .before .base-right .ensures) (c .before .if1 .taken)) in
+    let w = wrong-base narrow (s .args .g) (s .args .base .now) (s .args .column) (s .args .row) (s .args .out .now) (failed (c .before .before .base-right .ensures) (c .before .if1 .taken)) in
     (ap Declined (c .refused .ensures) ∙ w .0, w .1)
 
 output-right-requires : tie.Need-output-right-requires
@@ -72,7 +72,7 @@ refused-requires-2 c κs = search needs
 returns-2 : tie.Need-returns-2
 returns-2 c =
     let s = c .before .before .before .before .before in
-    let w = wrong-output (s .args .g) (s .args .base .now) (s .args .column) (s .args .row) (s .args .out .now) (base-passed (c .before .before .before)) (failed (c .before .before .output-right .ensures) (c .before .if2 .taken)) in
+    let w = wrong-output narrow (s .args .g) (s .args .base .now) (s .args .column) (s .args .row) (s .args .out .now) (base-passed (c .before .before .before)) (failed (c .before .before .output-right .ensures) (c .before .if2 .taken)) in
     (ap Declined (c .refused2 .ensures) ∙ w .0, w .1)
 
 position-right-requires : tie.Need-position-right-requires
@@ -108,9 +108,9 @@ returns-3 c =
     let s = start p in
     let x = toZ-ofZ (s .fits .column) in
     let y = toZ-ofZ (s .fits .row) in
-    let e = right-position (s .args .g) (s .args .base .now) (s .args .column) (s .args .row) (s .args .out .now) (base-passed (p .before .before .before)) (output-passed (p .before)) (sym (both p) ∙ t .if3 .taken) in (
-      c .before .sized-macroblock .ensures .0 ∙ ((λ i. sizedCall (s .args .g) (s .args .base .now) (natAbs (x i)) (natAbs (y i)) (s .args .out .now) .reply) ∙ sym (ap (λ (o : Outcome MacroblockReply). o .reply) e)),
-      c .before .sized-macroblock .ensures .1 ∙ ((λ i. sizedCall (s .args .g) (s .args .base .now) (natAbs (x i)) (natAbs (y i)) (s .args .out .now) .words) ∙ sym (ap (λ (o : Outcome MacroblockReply). o .words) e)),
+    let e = right-position narrow (s .args .g) (s .args .base .now) (s .args .column) (s .args .row) (s .args .out .now) (base-passed (p .before .before .before)) (output-passed (p .before)) (sym (both p) ∙ t .if3 .taken) in (
+      c .before .sized-macroblock .ensures .0 ∙ ((λ i. sizedCall narrow (s .args .g) (s .args .base .now) (natAbs (x i)) (natAbs (y i)) (s .args .out .now) .reply) ∙ sym (ap (λ (o : Outcome MacroblockReply). o .reply) e)),
+      c .before .sized-macroblock .ensures .1 ∙ ((λ i. sizedCall narrow (s .args .g) (s .args .base .now) (natAbs (x i)) (natAbs (y i)) (s .args .out .now) .words) ∙ sym (ap (λ (o : Outcome MacroblockReply). o .words) e)),
     )
 
 refused-requires-3 : tie.Need-refused-requires-3
@@ -120,7 +120,7 @@ returns-4 : tie.Need-returns-4
 returns-4 c =
     let p = c .before .before in
     let s = start p in
-    let w = wrong-position (s .args .g) (s .args .base .now) (s .args .column) (s .args .row) (s .args .out .now) (base-passed (p .before .before .before)) (output-passed (p .before)) (sym (both p) ∙ c .before .if3 .left) in
+    let w = wrong-position narrow (s .args .g) (s .args .base .now) (s .args .column) (s .args .row) (s .args .out .now) (base-passed (p .before .before .before)) (output-passed (p .before)) (sym (both p) ∙ c .before .if3 .left) in
     (ap Declined (c .refused3 .ensures) ∙ w .0, w .1)
 
 pub accepted-macroblock-spec : {M : Type 1} → statement M

@@ -47,7 +47,7 @@ check-row-requires c κs =
     let s = h .before .before .before in (
       s .pre .0,
       in-row (s .args .g) (s .args .base .now) (firstOf (s .args .t3)) (firstOf (s .args .t4)) (h .is-two .ensures)
-          (first-below (s .args .g) (s .args .t3) (s .args .t4) (s .args .base .now) (sym (v .is-two2 .ensures) ∙ c .if1 .taken) (s .pre .2)),
+          (first-below (s .args .g) (s .args .t3) (s .args .t4) narrow (s .args .base .now) (sym (v .is-two2 .ensures) ∙ c .if1 .taken) (s .pre .2)),
     )
 
 enum-told : tie.Need-enum-told
@@ -64,7 +64,7 @@ check-row-requires-2 c κs =
     let s = h .before .before .before in (
       s .pre .0,
       in-row (s .args .g) (s .args .base .now) (firstOf (s .args .t3)) (firstOf (s .args .t4) + 1) (h .is-two .ensures)
-          (second-below (s .args .g) (s .args .t3) (s .args .t4) (s .args .base .now) (sym (v .is-two2 .ensures) ∙ i .if1 .taken) (s .pre .2)),
+          (second-below (s .args .g) (s .args .t3) (s .args .t4) narrow (s .args .base .now) (sym (v .is-two2 .ensures) ∙ i .if1 .taken) (s .pre .2)),
     )
 
 enum-known-r : tie.Need-enum-known-r
@@ -79,7 +79,7 @@ returns c =
     let e = h .is-two .ensures in
     c .check-row2 .ensures
     ∙ (at-row (s .args .g) (s .args .base .now) (firstOf (s .args .t3)) (firstOf (s .args .t4) + 1) e
-    ∙ second-row (s .args .g) (s .args .t3) (s .args .t4) (s .args .base .now) (sym (v .is-two2 .ensures) ∙ i .if1 .taken)
+    ∙ second-row (s .args .g) (s .args .t3) (s .args .t4) narrow (s .args .base .now) (sym (v .is-two2 .ensures) ∙ i .if1 .taken)
     (sym (c .before .before .before .check-row .ensures ∙ at-row (s .args .g) (s .args .base .now) (firstOf (s .args .t3)) (firstOf (s .args .t4)) e) ∙ c .before .enum-told .given .1))
 
 returns-2 : tie.Need-returns-2
@@ -88,7 +88,7 @@ returns-2 c =
     let v = i .before in
     let h = v .before in
     let s = h .before .before .before in
-    first-row (s .args .g) (s .args .t3) (s .args .t4) (s .args .base .now) (sym (v .is-two2 .ensures) ∙ i .if1 .taken) (c .before .r .given .0 .0)
+    first-row (s .args .g) (s .args .t3) (s .args .t4) narrow (s .args .base .now) (sym (v .is-two2 .ensures) ∙ i .if1 .taken) (c .before .r .given .0 .0)
     (sym (c .before .before .before .check-row .ensures ∙ at-row (s .args .g) (s .args .base .now) (firstOf (s .args .t3)) (firstOf (s .args .t4)) (h .is-two .ensures)) ∙ c .before .r .given .1)
 
 check-row-requires-3 : tie.Need-check-row-requires-3
@@ -98,7 +98,7 @@ check-row-requires-3 c κs =
     let s = h .before .before .before in (
       s .pre .0,
       in-row (s .args .g) (s .args .base .now) (firstOf (s .args .t3)) (firstOf (s .args .t4)) (h .is-two .ensures)
-          (one-below (s .args .g) (s .args .t3) (s .args .t4) (s .args .base .now) (sym (v .is-two2 .ensures) ∙ c .if1 .left) (s .pre .2)),
+          (one-below (s .args .g) (s .args .t3) (s .args .t4) narrow (s .args .base .now) (sym (v .is-two2 .ensures) ∙ c .if1 .left) (s .pre .2)),
     )
 
 returns-3 : tie.Need-returns-3
@@ -108,7 +108,7 @@ returns-3 c =
     let s = h .before .before .before in
     c .check-row3 .ensures
     ∙ (at-row (s .args .g) (s .args .base .now) (firstOf (s .args .t3)) (firstOf (s .args .t4)) (h .is-two .ensures)
-    ∙ one-row (s .args .g) (s .args .t3) (s .args .t4) (s .args .base .now) (sym (v .is-two2 .ensures) ∙ c .before .if1 .left))
+    ∙ one-row (s .args .g) (s .args .t3) (s .args .t4) narrow (s .args .base .now) (sym (v .is-two2 .ensures) ∙ c .before .if1 .left))
 
 pub check-read-spec : {M : Type 1} → statement M
 check-read-spec =

@@ -52,7 +52,7 @@ answer-requires c κs =
     let r = c .before .before .before .before .before .before .before in
     let k = known r in
     let e = checked-is (c .before .before .before) ∙ c .before .enum-told .given .1 in
-    (λ t. subst (λ (f : Fixed). MakeableInside f (r .before .axis-read .result) (r .axis-read2 .result) (s .args .base .now)) (sym (a .fixed-of .ensures)) (k .made-ready t (all-formed narrow (s .args .base .now) (addressesRead (s .args .g) (s .args .column) (s .args .row)) e)), s .pre .1)
+    (λ t. subst (λ (f : Fixed). MakeableInside narrow f (r .before .axis-read .result) (r .axis-read2 .result) (s .args .base .now)) (sym (a .fixed-of .ensures)) (k .made-ready t (all-formed narrow (s .args .base .now) (addressesRead (s .args .g) (s .args .column) (s .args .row)) e)), s .pre .1)
 
 enum-known-r : tie.Need-enum-known-r
 enum-known-r c = search needs
@@ -65,12 +65,12 @@ returns c =
     let a = c .before .before .before .before .before .before .before .before .before in
     let s = a .before .before .before in
     let e = checked-is (c .before .before .before .before .before) ∙ c .before .before .before .enum-told .given .1 in
-    sized-answered (s .args .g) (s .args .base .now) (s .args .column) (s .args .row) (s .args .out .now) (s .pre .0 .axes) e (a .before .axis-read .result) (a .axis-read2 .result) (a .before .axis-read .ensures) (a .axis-read2 .ensures) _ _ (c .before .answer .ensures .0 ∙ ap (λ (f : Fixed). answerBy f (a .before .axis-read .result) (a .axis-read2 .result) (s .args .base .now)) (a .before .before .fixed-of .ensures)) (c .before .answer .ensures .1 ∙ ap (λ (f : Fixed). writtenBy f (a .before .axis-read .result) (a .axis-read2 .result) (s .args .base .now)) (a .before .before .fixed-of .ensures))
+    sized-answered narrow (s .args .g) (s .args .base .now) (s .args .column) (s .args .row) (s .args .out .now) (s .pre .0 .axes) e (a .before .axis-read .result) (a .axis-read2 .result) (a .before .axis-read .ensures) (a .axis-read2 .ensures) _ _ (c .before .answer .ensures .0 ∙ ap (λ (f : Fixed). answerBy f (a .before .axis-read .result) (a .axis-read2 .result) (s .args .base .now)) (a .before .before .fixed-of .ensures)) (c .before .answer .ensures .1 ∙ ap (λ (f : Fixed). writtenBy f (a .before .axis-read .result) (a .axis-read2 .result) (s .args .base .now)) (a .before .before .fixed-of .ensures))
 
 returns-2 : tie.Need-returns-2
 returns-2 c =
     let s = c .before .before .before .before .before .before .before .before .before .before in
-    sized-refused (s .args .g) (s .args .base .now) (s .args .column) (s .args .row) (s .args .out .now) (c .before .r .given .0 .0) (checked-is (c .before .before .before) ∙ c .before .r .given .1)
+    sized-refused narrow (s .args .g) (s .args .base .now) (s .args .column) (s .args .row) (s .args .out .now) (c .before .r .given .0 .0) (checked-is (c .before .before .before) ∙ c .before .r .given .1)
 
 answer-requires-2 : tie.Need-answer-requires-2
 answer-requires-2 c κs = (λ t. absurd (true≢false (sym t ∙ c .before .if1 .left)), c .before .before .before .before .before .before .before .pre .1)
@@ -83,7 +83,7 @@ returns-3 c =
     let a = c .before .before .before .before .before .before in
     let s = a .before .before .before in
     let e = ap (λ (l : List ℕ). verdictOf (recordTests narrow (s .args .base .now) l)) (known a .unnamed (c .before .before .before .if1 .left)) in
-    sized-answered (s .args .g) (s .args .base .now) (s .args .column) (s .args .row) (s .args .out .now) (s .pre .0 .axes) (none-read (s .args .base .now) e) (a .before .axis-read .result) (a .axis-read2 .result) (a .before .axis-read .ensures) (a .axis-read2 .ensures) _ _ (c .before .answer2 .ensures .0 ∙ ap (λ (f : Fixed). answerBy f (a .before .axis-read .result) (a .axis-read2 .result) (s .args .base .now)) (a .before .before .fixed-of .ensures)) (c .before .answer2 .ensures .1 ∙ ap (λ (f : Fixed). writtenBy f (a .before .axis-read .result) (a .axis-read2 .result) (s .args .base .now)) (a .before .before .fixed-of .ensures))
+    sized-answered narrow (s .args .g) (s .args .base .now) (s .args .column) (s .args .row) (s .args .out .now) (s .pre .0 .axes) (none-read narrow (s .args .base .now) e) (a .before .axis-read .result) (a .axis-read2 .result) (a .before .axis-read .ensures) (a .axis-read2 .ensures) _ _ (c .before .answer2 .ensures .0 ∙ ap (λ (f : Fixed). answerBy f (a .before .axis-read .result) (a .axis-read2 .result) (s .args .base .now)) (a .before .before .fixed-of .ensures)) (c .before .answer2 .ensures .1 ∙ ap (λ (f : Fixed). writtenBy f (a .before .axis-read .result) (a .axis-read2 .result) (s .args .base .now)) (a .before .before .fixed-of .ensures))
 
 pub sized-macroblock-spec : {M : Type 1} → statement M
 sized-macroblock-spec =

@@ -1,4 +1,5 @@
 -- `upsample::upsample_macroblock` meets its contract. Assumes nothing.
+use Rattle.definitions.specs.Record.{narrow}
 use Rattle.upsample.proofs.Promises.{singly-kept}
 use Rattle.upsample.proofs.Staging.{wrong-geometry, right-geometry}
 use Rattle.upsample.specs.Staged.{axesCall}
@@ -39,14 +40,14 @@ returns c =
     let g = c .before .before .before .axes .ensures ∙ k .1 in
     let p = toZ-ofZ (s .fits .column) in
     let q = toZ-ofZ (s .fits .row) in
-    let e = (λ i. axesCall (g i) (s .args .base .now) (p i) (q i) (s .args .out .now)) ∙ sym (right-geometry (s .args .n) (s .args .base .now) (s .args .column) (s .args .row) (s .args .out .now) (k .0)) in
-    singly-kept (s .args .n) (s .args .base .now) (s .args .column) (s .args .row) (s .args .out .now) _ _ (c .before .accepted-macroblock .ensures .0 ∙ ap (λ (o : Outcome MacroblockReply). o .reply) e) (c .before .accepted-macroblock .ensures .1 ∙ ap (λ (o : Outcome MacroblockReply). o .words) e)
+    let e = (λ i. axesCall narrow (g i) (s .args .base .now) (p i) (q i) (s .args .out .now)) ∙ sym (right-geometry narrow (s .args .n) (s .args .base .now) (s .args .column) (s .args .row) (s .args .out .now) (k .0)) in
+    singly-kept narrow (s .args .n) (s .args .base .now) (s .args .column) (s .args .row) (s .args .out .now) _ _ (c .before .accepted-macroblock .ensures .0 ∙ ap (λ (o : Outcome MacroblockReply). o .reply) e) (c .before .accepted-macroblock .ensures .1 ∙ ap (λ (o : Outcome MacroblockReply). o .words) e)
 
 returns-2 : tie.Need-returns-2
 returns-2 c =
     let s = c .before .before .before .before in
-    let h = wrong-geometry (s .args .n) (s .args .base .now) (s .args .column) (s .args .row) (s .args .out .now) (c .before .r .given .0 .0) (checked-refused (s .args .n) (c .before .r .given .0 .0) (sym (c .before .before .before .new .ensures) ∙ c .before .r .given .1)) in
-    singly-kept (s .args .n) (s .args .base .now) (s .args .column) (s .args .row) (s .args .out .now) _ _ (h .0) (h .1)
+    let h = wrong-geometry narrow (s .args .n) (s .args .base .now) (s .args .column) (s .args .row) (s .args .out .now) (c .before .r .given .0 .0) (checked-refused (s .args .n) (c .before .r .given .0 .0) (sym (c .before .before .before .new .ensures) ∙ c .before .r .given .1)) in
+    singly-kept narrow (s .args .n) (s .args .base .now) (s .args .column) (s .args .row) (s .args .out .now) _ _ (h .0) (h .1)
 
 pub upsample-macroblock-spec : {M : Type 1} → statement M
 upsample-macroblock-spec =
