@@ -5,7 +5,7 @@ use mathlib.Core.Bool.{Bool, true, false, not, _&&_}
 use mathlib.Core.Path.{_≡_}
 use mathlib.Core.List.{List, [], _∷_}
 use lib.Dec.{eqb}
-use lib.IntN.{ℤ, pos}
+use lib.IntN.{ℤ, pos, natAbs}
 use lib.ListN.{getD}
 use Rattle.definitions.specs.declared.Axis.{Axis}
 use Rattle.definitions.specs.declared.Axes.{Axes}
@@ -15,15 +15,18 @@ use Rattle.definitions.specs.declared.Origin.{Origin}
 use Rattle.definitions.specs.declared.Basis.{Basis}
 use Rattle.definitions.specs.declared.Answer.{Answer}
 use Rattle.definitions.specs.declared.Answer.the-variants.{Outside, Intra, Inherited}
+use Rattle.definitions.specs.declared.Split.{Split}
+use Rattle.definitions.specs.declared.Split.the-variants.{S16x16, S16x8, S8x16, S8x8 as Quarters}
 use Rattle.macroblock.specs.declared.AxisRead.{AxisRead}
+use Rattle.macroblock.specs.declared.Said.{Said}
 use Rattle.macroblock.specs.declared.Fixed.{Fixed}
 use Rattle.common.specs.declared.counts.Sort.{Sort}
 use Rattle.common.specs.declared.counts.Sort.the-variants.{Inherited as SortInherited, Intra as SortIntra, Outside as SortOutside}
-use Rattle.definitions.specs.Basics.{pick}
+use Rattle.definitions.specs.Basics.{eqZ, pick}
 use Rattle.definitions.specs.Geometry.{baseSize, classOf, macroblocks, insideAxis, sampleOf}
 use Rattle.definitions.specs.BlockMap.{columnOf, stepOf}
 use Rattle.details.specs.Bits.{detailBy, halvesOf}
-use Rattle.definitions.specs.Record.{laidOut}
+use Rattle.definitions.specs.Record.{detailOf, laidOut, subSplitOf, subTypeOf, typeOf}
 use Rattle.definitions.specs.Inheriting.{mostlyIntra, motionAt, resolved, chosen}
 use Rattle.definitions.specs.Answer.{Made, dividedBy, withoutMotion}
 use Rattle.motion.specs.Scales.{AcceptedScales, allScaled, scalesOf}
@@ -105,6 +108,22 @@ basisWith h v detail = record {
   below = h .falls * (4 - v .falls);
   diagonal = (4 - h .falls) * (4 - v .falls);
 }
+
+-- the same from what a written record says: its type, its sub-types and its detail
+abbrev pub saidBy : List ℤ → Said
+saidBy r = record { kind = typeOf r; a = subTypeOf r 0; b = subTypeOf r 1; c = subTypeOf r 2; d = subTypeOf r 3; detail = natAbs (detailOf r) }
+
+unfoldable pub splitIn : Said → Split
+splitIn s =
+    pick (eqZ (s .kind) (pos 1)) S16x16
+    (pick (eqZ (s .kind) (pos 2)) S16x8
+    (pick (eqZ (s .kind) (pos 3)) S8x16
+    (Quarters (record { a = subSplitOf (s .a); b = subSplitOf (s .b); c = subSplitOf (s .c); d = subSplitOf (s .d) }))))
+
+abbrev pub answerSaid : Sort → AxisRead → AxisRead → Said → Answer
+answerSaid SortOutside h v s = Outside
+answerSaid SortIntra h v s = Intra (basisWith h v (s .detail))
+answerSaid SortInherited h v s = Inherited (basisWith h v (s .detail)) (splitIn s)
 
 abbrev pub basisBy : Fixed → AxisRead → AxisRead → List ℤ → Basis
 basisBy f h v base = basisWith h v (detailInside f (h .reads) (v .reads) base)

@@ -5,13 +5,12 @@
 ghost use Prim.Native.Nat.{_<_, _≤_};
 ghost use Rattle.definitions.specs.Accepted.{AcceptedAxes, AcceptedAxis};
 ghost use Rattle.definitions.specs.Inheriting.{filled, merged, resolved};
-ghost use Rattle.definitions.specs.Record.{detailOf, narrow, recordWords, rule7, splitSaid, subSplitOf};
+ghost use Rattle.definitions.specs.Record.{narrow, recordWords, rule7, subSplitOf};
 ghost use Rattle.details.specs.Bits.{detailBy, halvesOf};
 ghost use Rattle.gather.specs.Reads.{Readable, Rising, gatheredBy, quadrantFrom, setBy};
-ghost use Rattle.macroblock.specs.Made.{Makeable, Ready, SmallRising, answerBy, basisWith, detailInside, fixedOf, inheritedInside, nowhere, onePart, originBy, readIn, readOf, setInside, sortBy, sortInside, twoRead, writtenBy, writtenInside};
+ghost use Rattle.macroblock.specs.Made.{Makeable, Ready, SmallRising, answerBy, answerSaid, basisWith, detailInside, fixedOf, inheritedInside, nowhere, onePart, originBy, readIn, readOf, saidBy, setInside, sortBy, sortInside, splitIn, twoRead, writtenBy, writtenInside};
 ghost use Rattle.macroblock.specs.Quadrants.{Alike, Mergeable, plainAt};
 ghost use Rattle.motion.specs.ByValue.{motionsIn, quadrantsIn};
-ghost use lib.IntN.{natAbs};
 ghost use lib.ListN.{length};
 ghost use mathlib.Core.Bool.{_&&_, true};
 ghost use mathlib.Core.Path.{_≡_};
@@ -362,17 +361,17 @@ fn origin_of(h: AxisRead, v: AxisRead) -> Origin
     }
 }
 
-// With the detail that a written record says. Each count is a product: how many of the four columns of blocks fall in its column, times how many of the four rows fall in its row (`reading-product`).
-fn basis_of(h: AxisRead, v: AxisRead, out: &[i16]) -> Basis
-    requires { ⌜ (length (now out) ≡ recordWords) × (rule7 (now out) ≡ true) × (h .falls ≤ 4) × (v .falls ≤ 4) ⌝ }
-    ensures { λ r. ⌜ r ≡ basisWith h v (natAbs (detailOf (now (out .entry)))) ⌝ }
+// Each count is a product: how many of the four columns of blocks fall in its column, times how many of the four rows fall in its row (`reading-product`).
+fn basis_of(h: AxisRead, v: AxisRead, detail: u8) -> Basis
+    requires { ⌜ (h .falls ≤ 4) × (v .falls ≤ 4) ⌝ }
+    ensures { λ r. ⌜ r ≡ basisWith h v detail ⌝ }
 {
     let origin = origin_of(h, v);
     let columns = h.falls;
     let rows = v.falls;
     Basis {
         origin,
-        detail: out[DETAIL] as u8,
+        detail,
         first: columns * rows,
         right: (4 - columns) * rows,
         below: columns * (4 - rows),
@@ -380,7 +379,7 @@ fn basis_of(h: AxisRead, v: AxisRead, out: &[i16]) -> Basis
     }
 }
 
-fn sub_split_of(word: i16) -> SubSplit
+fn sub_split_of(word: i32) -> SubSplit
     ensures { λ r. ⌜ r ≡ subSplitOf word ⌝ }
 {
     if word == 0 {
@@ -395,12 +394,21 @@ fn sub_split_of(word: i16) -> SubSplit
     SubSplit::S4x4
 }
 
-// The split that a written record says.
-fn split_said(out: &[i16]) -> Split
-    requires { ⌜ length (now out) ≡ recordWords ⌝ }
-    ensures { λ r. ⌜ r ≡ splitSaid (now (out .entry)) ⌝ }
+// What a written record says of its answer: the type, the sub-types and the detail, by value, for records of both widths.
+pub struct Said {
+    pub kind: i32,
+    pub a: i32,
+    pub b: i32,
+    pub c: i32,
+    pub d: i32,
+    pub detail: u8,
+}
+
+// The split that it says.
+fn split_of(s: Said) -> Split
+    ensures { λ r. ⌜ r ≡ splitIn s ⌝ }
 {
-    let kind = out[TYPE];
+    let kind = s.kind;
     if kind == 1 {
         return Split::S16x16;
     }
@@ -410,11 +418,42 @@ fn split_said(out: &[i16]) -> Split
     if kind == 3 {
         return Split::S8x16;
     }
-    let a = sub_split_of(out[SUB_TYPES]);
-    let b = sub_split_of(out[SUB_TYPES + 1]);
-    let c = sub_split_of(out[SUB_TYPES + 2]);
-    let d = sub_split_of(out[SUB_TYPES + 3]);
+    let a = sub_split_of(s.a);
+    let b = sub_split_of(s.b);
+    let c = sub_split_of(s.c);
+    let d = sub_split_of(s.d);
     Split::S8x8(SubSplits { a, b, c, d })
+}
+
+// The answer of a sort, by what its record says.
+pub fn answer_of(sort: Sort, h: AxisRead, v: AxisRead, s: Said) -> Answer
+    requires { ⌜ (h .falls ≤ 4) × (v .falls ≤ 4) ⌝ }
+    ensures { λ r. ⌜ r ≡ answerSaid sort h v s ⌝ }
+{
+    let basis = basis_of(h, v, s.detail);
+    match sort {
+        Sort::Outside => Answer::Outside,
+        Sort::Intra => Answer::Intra(basis),
+        Sort::Inherited => {
+            let split = split_of(s);
+            Answer::Inherited(basis, split)
+        }
+    }
+}
+
+// What a record of narrow words says.
+fn said(out: &[i16]) -> Said
+    requires { ⌜ (length (now out) ≡ recordWords) × (rule7 (now out) ≡ true) ⌝ }
+    ensures { λ r. ⌜ r ≡ saidBy (now (out .entry)) ⌝ }
+{
+    Said {
+        kind: out[TYPE] as i32,
+        a: out[SUB_TYPES] as i32,
+        b: out[SUB_TYPES + 1] as i32,
+        c: out[SUB_TYPES + 2] as i32,
+        d: out[SUB_TYPES + 3] as i32,
+        detail: out[DETAIL] as u8,
+    }
 }
 
 pub fn answer(base: &[i16], f: Fixed, h: AxisRead, v: AxisRead, out: &mut [i16]) -> Answer
@@ -422,16 +461,7 @@ pub fn answer(base: &[i16], f: Fixed, h: AxisRead, v: AxisRead, out: &mut [i16])
     ensures answer { λ r. ⌜ r ≡ answerBy f h v (now (base .entry)) ⌝ }
     ensures written { λ r. ⌜ now (out .exit) ≡ writtenBy f h v (now (base .entry)) ⌝ }
 {
-    match make(base, f, h, v, out) {
-        Sort::Outside => Answer::Outside,
-        Sort::Intra => {
-            let basis = basis_of(h, v, out);
-            Answer::Intra(basis)
-        }
-        Sort::Inherited => {
-            let basis = basis_of(h, v, out);
-            let split = split_said(out);
-            Answer::Inherited(basis, split)
-        }
-    }
+    let sort = make(base, f, h, v, out);
+    let s = said(out);
+    answer_of(sort, h, v, s)
 }

@@ -2,6 +2,7 @@
 use Prim.Native.Nat.{ℕ}
 use mathlib.Core.Path.{ap, subst, sym, _∙_}
 use Rattle.definitions.specs.Inheriting.{filled, merged, resolved}
+use Rattle.definitions.specs.Record.{narrow}
 use Rattle.gather.specs.Reads.{gatheredBy}
 use Rattle.macroblock.specs.Quadrants.{Alike}
 use Rattle.macroblock.proofs.Motions.{Spotted, alike-0, alike-1, alike-2, alike-3, made-of-quadrants, merged-only, placed-0, placed-1, placed-2, placed-3}
@@ -62,7 +63,7 @@ module _ (c : tie.After-down-of4) where
   abbrev s : tie.Start
   s = c .before .before .before .before .before .before .before .before
 
-  spotted : Spotted (s .args .width) (s .args .t3) (s .args .t4) (s .args .base .now) (c .before .before .before .before .before .before .before .across-of .result) (c .before .before .before .before .before .before .across-of2 .result) (c .before .before .before .before .before .across-of3 .result) (c .before .before .before .before .across-of4 .result) (c .before .before .before .down-of .result) (c .before .before .down-of2 .result) (c .before .down-of3 .result) (c .down-of4 .result)
+  spotted : Spotted narrow (s .args .width) (s .args .t3) (s .args .t4) (s .args .base .now) (c .before .before .before .before .before .before .before .across-of .result) (c .before .before .before .before .before .before .across-of2 .result) (c .before .before .before .before .before .across-of3 .result) (c .before .before .before .before .across-of4 .result) (c .before .before .before .down-of .result) (c .before .before .down-of2 .result) (c .before .down-of3 .result) (c .down-of4 .result)
   spotted = record {
     readable = s .pre .0;
     column-0 = c .before .before .before .before .before .before .before .across-of .ensures;
