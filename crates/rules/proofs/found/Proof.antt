@@ -3,9 +3,9 @@ use mathlib.Core.Path.{sym}
 use borrow.Author.Tests.{eq-eqb, ne-eqb}
 use borrow.Author.Needs.{needs}
 use Rattle.definitions.proofs.Choices.{yes, no}
 use Rattle.records.specs.Checking.{foundAt}
-use Rattle.records.proofs.check.found.Statement.{statement}
-use Rattle.records.proofs.check.found.Tie as tie
+use Rattle.rules.proofs.found.Statement.{statement}
+use Rattle.rules.proofs.found.Tie as tie
 
 returns : tie.Need-returns
 unfolding foundAt
