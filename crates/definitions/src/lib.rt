@@ -58,6 +58,11 @@ pub enum Class {
 // The words of a motion record.
 pub const RECORD_WORDS: usize = 78;
 
+// The limits of vectors by width (document 02, E12).
+pub const NARROW: u32 = 8192;
+
+pub const WIDE: u32 = 131072;
+
 // A list's part of a block's motion: its reference, -1 unused, and its vector in quarter samples. (In 32 bits, for records of both widths: document 02, E12.)
 pub struct Prediction {
     pub reference: i32,

@@ -37,5 +37,9 @@ pub addresses-all : (n : ℕ) → addresses 0 n ≡ upTo n (λ a. a)
 addresses-all n = ap (λ (k : ℕ). upTo k (λ k. 0 + k)) (sub-zero n) ∙ upTo-same n (λ k. 0 + k) (λ k. k) (λ k l. zero-add k)
 
 -- the check of records 0 .. n−1 is that of all
+pub all-checked-at :
+    (limit : ℕ) (g : Axes) (base : List ℤ) (n : ℕ) → n ≡ baseCount g → verdictOf (recordTests limit base (allAddresses g)) ≡ verdictOf (recordTests limit base (addresses 0 n))
+all-checked-at limit g base n e = ap (λ (l : List ℕ). verdictOf (recordTests limit base l)) (sym (addresses-all n ∙ ap (λ (k : ℕ). upTo k (λ a. a)) e))
+
 pub all-checked : (g : Axes) (base : List ℤ) (n : ℕ) → n ≡ baseCount g → verdictOf (recordTests narrow base (allAddresses g)) ≡ verdictOf (recordTests narrow base (addresses 0 n))
-all-checked g base n e = ap (λ (l : List ℕ). verdictOf (recordTests narrow base l)) (sym (addresses-all n ∙ ap (λ (k : ℕ). upTo k (λ a. a)) e))
+all-checked = all-checked-at narrow

@@ -1,17 +1,14 @@
--- Rule 6 by quadrants: each block has the motion of the first block of its piece, whose number is the block's with some bits alone kept. Assumes nothing.
+-- Rule 6 by blocks: each has the motion of the first block of its piece; which that is, by type and sub-type. Assumes nothing.
 use Prim.Native.Nat.{ℕ, _+_, _*_, _/_, _%_, _<_}
 use mathlib.Core.Path.{_≡_, refl, sym, ap, _∙_}
 use mathlib.Core.Bool.{Bool, true, false, _&&_, _||_, and-assoc, and-true}
 use mathlib.Core.List.{List, [], _∷_, _++_}
 use native.Mathlib.Nat.{add-zero}
 use native.Mathlib.Omega.{arith}
-use lib.Bits.{bitAnd, and-zero-r, and-le-r}
-use lib.Dec.{eqb}
 use lib.IntN.{ℤ, pos}
 use lib.ListN.{getD}
 use mir.Syntax.{w16}
 use mir.Val.{SFits, ofZ}
-use borrow.Author.Tests.{eqb-true}
 use Rattle.definitions.specs.declared.Motion.{Motion}
 use Rattle.definitions.specs.declared.SubSplit.{SubSplit}
 use Rattle.definitions.specs.declared.SubSplit.the-variants.{S8x8, S8x4, S4x8, S4x4}
@@ -22,10 +19,10 @@ use Rattle.definitions.specs.Basics.{pick, eqZ, allBelow, allOf}
 use Rattle.definitions.specs.Splits.{samePrediction, sameMotion, subPieces, alike, oneEach}
 use Rattle.definitions.specs.Record.{wordOf, typeOf, subTypeOf, isIntra, motionOf, subSplitOf, splitSaid, rule6}
 use Rattle.definitions.specs.Blocks.{quadrantOf, rasterOf}
-use Rattle.definitions.proofs.Choices.{yes, no, each, below-true, below-intro, below-same}
+use Rattle.definitions.proofs.Choices.{yes, no, each, below-intro, below-same}
 use Rattle.definitions.proofs.Motions.{motion-same}
-use Rattle.definitions.proofs.Records.{raster-quadrant, raster-within, raster-below}
-use Rattle.records.specs.Checking.{subFirstBlock, subSplitAt, firstBlockIn, firstBlockOf, sameReferences, sameVectors, sameAsFirst}
+use Rattle.definitions.proofs.Records.{raster-quadrant, raster-within}
+use Rattle.records.specs.Checking.{subFirstBlock, subSplitAt, firstBlockIn, firstBlockOf, sameReferences, sameVectors}
 use Rattle.records.proofs.Words.{word-is, word-is-not}
 use Rattle.records.proofs.Searches.{and-swap, below-both, by-quadrants}
 
@@ -111,11 +108,31 @@ module _ (r : List ℤ) where
   by-type true = below-intro 16 _ (λ b h. motion-same (motionOf r b) (motionOf r b) refl)
   by-type false = by-first-blocks (motionOf r) (splitSaid r)
 
-  pub same-all : rule6 r ≡ allBelow 4 (sameAsFirst r)
-  unfolding rule6 firstBlockOf sameAsFirst
-  same-all = sym (by-type (isIntra r)) ∙ by-quadrants (asAt (motionOf r) (firstBlockOf r))
+  -- block b has the motion of the first block of its piece
+  abbrev pub asFirst : ℕ → Bool
+  asFirst = asAt (motionOf r) (firstBlockOf r)
 
--- ---- The tests of the type and of the sub-type
+  pub same-all : rule6 r ≡ allBelow 16 asFirst
+  unfolding rule6 firstBlockOf
+  same-all = sym (by-type (isIntra r))
+
+-- ---- By the sub-type
+module _ (z : ℤ) where
+  pub said-8x8 : eqZ z (pos 0) ≡ true → subSplitOf z ≡ S8x8
+  said-8x8 e = yes _ _ e
+
+  module _ (n0 : eqZ z (pos 0) ≡ false) where
+    pub said-8x4 : eqZ z (pos 1) ≡ true → subSplitOf z ≡ S8x4
+    said-8x4 e = no _ _ n0 ∙ yes _ _ e
+
+    module _ (n1 : eqZ z (pos 1) ≡ false) where
+      pub said-4x8 : eqZ z (pos 2) ≡ true → subSplitOf z ≡ S4x8
+      said-4x8 e = no _ _ n0 ∙ (no _ _ n1 ∙ yes _ _ e)
+
+      pub said-4x4 : eqZ z (pos 2) ≡ false → subSplitOf z ≡ S4x4
+      said-4x4 n2 = no _ _ n0 ∙ (no _ _ n1 ∙ no _ _ n2)
+
+-- read as a word of sixteen bits
 module _ (z : ℤ) (fits : SFits w16 z) where
   is : (n : ℕ) → n < 5 → ofZ w16 z ≡ n → eqZ z (pos n) ≡ true
   is n h e = word-is z (pos n) fits (record { sfits = omega arith }) e
@@ -124,110 +141,56 @@ module _ (z : ℤ) (fits : SFits w16 z) where
   is-not n h e = word-is-not z (pos n) fits (record { sfits = omega arith }) e
 
   pub sub-8x8 : ofZ w16 z ≡ 0 → subSplitOf z ≡ S8x8
-  sub-8x8 e = yes _ _ (is 0 (omega arith) e)
+  sub-8x8 e = said-8x8 z (is 0 (omega arith) e)
 
   module _ (n0 : ofZ w16 z ≡ 0 → ⊥) where
     pub sub-8x4 : ofZ w16 z ≡ 1 → subSplitOf z ≡ S8x4
-    sub-8x4 e = no _ _ (is-not 0 (omega arith) n0) ∙ yes _ _ (is 1 (omega arith) e)
+    sub-8x4 e = said-8x4 z (is-not 0 (omega arith) n0) (is 1 (omega arith) e)
 
     pub sub-4x8 : (ofZ w16 z ≡ 1 → ⊥) → ofZ w16 z ≡ 2 → subSplitOf z ≡ S4x8
-    sub-4x8 n1 e = no _ _ (is-not 0 (omega arith) n0) ∙ (no _ _ (is-not 1 (omega arith) n1) ∙ yes _ _ (is 2 (omega arith) e))
+    sub-4x8 n1 e = said-4x8 z (is-not 0 (omega arith) n0) (is-not 1 (omega arith) n1) (is 2 (omega arith) e)
 
     pub sub-4x4 : (ofZ w16 z ≡ 1 → ⊥) → (ofZ w16 z ≡ 2 → ⊥) → subSplitOf z ≡ S4x4
-    sub-4x4 n1 n2 = no _ _ (is-not 0 (omega arith) n0) ∙ (no _ _ (is-not 1 (omega arith) n1) ∙ no _ _ (is-not 2 (omega arith) n2))
+    sub-4x4 n1 n2 = said-4x4 z (is-not 0 (omega arith) n0) (is-not 1 (omega arith) n1) (is-not 2 (omega arith) n2)
 
-module _ (r : List ℤ) (fits : SFits w16 (typeOf r)) (b : ℕ) where
-  abbrev type : ℕ
-  type = ofZ w16 (typeOf r)
-
-  pub first-intra : type ≡ 0 → firstBlockOf r b ≡ b
+-- ---- By the type
+module _ (r : List ℤ) (b : ℕ) where
+  pub first-intra : eqZ (typeOf r) (pos 0) ≡ true → firstBlockOf r b ≡ b
   unfolding firstBlockOf
-  first-intra e = yes _ _ (is (typeOf r) fits 0 (omega arith) e)
+  first-intra e = yes _ _ e
 
   abbrev said : SubSplits
   said = record { a = subSplitOf (subTypeOf r 0); b = subSplitOf (subTypeOf r 1); c = subSplitOf (subTypeOf r 2); d = subSplitOf (subTypeOf r 3) }
 
-  module _ (n0 : type ≡ 0 → ⊥) where
+  module _ (n0 : eqZ (typeOf r) (pos 0) ≡ false) where
     said-first : (s : Split) → splitSaid r ≡ s → firstBlockOf r b ≡ firstBlockIn s b
     unfolding firstBlockOf
-    said-first s e = no _ _ (is-not (typeOf r) fits 0 (omega arith) n0) ∙ ap (λ (x : Split). firstBlockIn x b) e
+    said-first s e = no _ _ n0 ∙ ap (λ (x : Split). firstBlockIn x b) e
 
-    pub first-16x16 : type ≡ 1 → firstBlockOf r b ≡ 0
+    pub first-16x16 : eqZ (typeOf r) (pos 1) ≡ true → firstBlockOf r b ≡ 0
     unfolding splitSaid
-    first-16x16 e = said-first S16x16 (yes _ _ (is (typeOf r) fits 1 (omega arith) e))
+    first-16x16 e = said-first S16x16 (yes _ _ e)
 
-    module _ (n1 : type ≡ 1 → ⊥) where
-      pub first-16x8 : type ≡ 2 → firstBlockOf r b ≡ b / 8 * 8
+    module _ (n1 : eqZ (typeOf r) (pos 1) ≡ false) where
+      pub first-16x8 : eqZ (typeOf r) (pos 2) ≡ true → firstBlockOf r b ≡ b / 8 * 8
       unfolding splitSaid
-      first-16x8 e = said-first S16x8 (no _ _ (is-not (typeOf r) fits 1 (omega arith) n1) ∙ yes _ _ (is (typeOf r) fits 2 (omega arith) e))
+      first-16x8 e = said-first S16x8 (no _ _ n1 ∙ yes _ _ e)
 
-      module _ (n2 : type ≡ 2 → ⊥) where
+      module _ (n2 : eqZ (typeOf r) (pos 2) ≡ false) where
         past : {s : Split} → pick (eqZ (typeOf r) (pos 3)) S8x16 (Quarters said) ≡ s → splitSaid r ≡ s
         unfolding splitSaid
-        past e = no _ _ (is-not (typeOf r) fits 1 (omega arith) n1) ∙ (no _ _ (is-not (typeOf r) fits 2 (omega arith) n2) ∙ e)
+        past e = no _ _ n1 ∙ (no _ _ n2 ∙ e)
 
-        pub first-8x16 : type ≡ 3 → firstBlockOf r b ≡ b % 4 / 2 * 2
-        first-8x16 e = said-first S8x16 (past (yes _ _ (is (typeOf r) fits 3 (omega arith) e)))
+        pub first-8x16 : eqZ (typeOf r) (pos 3) ≡ true → firstBlockOf r b ≡ b % 4 / 2 * 2
+        first-8x16 e = said-first S8x16 (past (yes _ _ e))
 
-        pub first-8x8 : (type ≡ 3 → ⊥) → b < 16 → firstBlockOf r b ≡ subFirstBlock (subSplitOf (subTypeOf r (quadrantOf b))) b
+        pub first-8x8 : eqZ (typeOf r) (pos 3) ≡ false → b < 16 → firstBlockOf r b ≡ subFirstBlock (subSplitOf (subTypeOf r (quadrantOf b))) b
         first-8x8 n3 h =
-            said-first (Quarters said) (past (no _ _ (is-not (typeOf r) fits 3 (omega arith) n3)))
+            said-first (Quarters said) (past (no _ _ n3))
             ∙ ap (λ (s : SubSplit). subFirstBlock s b)
             (each (λ q. subSplitAt said q ≡ subSplitOf (subTypeOf r q)) refl refl refl refl (quadrantOf b) (omega arith))
 
--- ---- The bits kept
--- two functions that agree below 16, as computed
-agree : (f g : ℕ → ℕ) → allBelow 16 (λ b. eqb (f b) (g b)) ≡ true → (b : ℕ) → b < 16 → f b ≡ g b
-agree f g e b h = eqb-true (f b) (g b) (below-true 16 (λ b. eqb (f b) (g b)) e b h)
-
-abbrev subBits : SubSplit → ℕ
-subBits S8x8 = 10
-subBits S8x4 = 14
-subBits S4x8 = 11
-subBits S4x4 = 15
-
-sub-bits : (s : SubSplit) (b : ℕ) → b < 16 → bitAnd b (subBits s) ≡ subFirstBlock s b
-unfolding allBelow
-sub-bits S8x8 = agree (λ b. bitAnd b 10) (subFirstBlock S8x8) refl
-sub-bits S8x4 = agree (λ b. bitAnd b 14) (subFirstBlock S8x4) refl
-sub-bits S4x8 = agree (λ b. bitAnd b 11) (subFirstBlock S4x8) refl
-sub-bits S4x4 = agree (λ b. bitAnd b 15) (subFirstBlock S4x4) refl
-
-pub sub-kept : (z : ℤ) (s : SubSplit) → subSplitOf z ≡ s → (b : ℕ) → b < 16 → bitAnd b (subBits s) ≡ subFirstBlock (subSplitOf z) b
-sub-kept z s e b h = sub-bits s b h ∙ ap (λ (s : SubSplit). subFirstBlock s b) (sym e)
-
-pub kept-all : (b : ℕ) → b < 16 → bitAnd b 15 ≡ b
-kept-all = sub-bits S4x4
-
-pub kept-none : (b : ℕ) → b < 16 → bitAnd b 0 ≡ 0
-kept-none b h = and-zero-r b
-
-pub kept-row : (b : ℕ) → b < 16 → bitAnd b 8 ≡ b / 8 * 8
-unfolding allBelow
-kept-row = agree (λ b. bitAnd b 8) (λ b. b / 8 * 8) refl
-
-pub kept-column : (b : ℕ) → b < 16 → bitAnd b 2 ≡ b % 4 / 2 * 2
-unfolding allBelow
-kept-column = agree (λ b. bitAnd b 2) (λ b. b % 4 / 2 * 2) refl
-
-pub kept-below : (b keep : ℕ) → keep < 16 → bitAnd b keep < 16
-kept-below b keep h = omega (arith, and-le-r b keep)
-
--- whichever bits are kept, the blocks of a quadrant go to one quadrant
-abbrev test : ℕ → ℕ → ℕ → Bool
-test keep q k = eqb (quadrantOf (bitAnd (rasterOf q k) keep)) (quadrantOf (bitAnd (rasterOf q 0) keep))
-
-tested : allBelow 16 (λ keep. allBelow 4 (λ q. allBelow 4 (test keep q))) ≡ true
-unfolding allBelow
-tested = refl
-
-one-quadrant :
-    (keep : ℕ) → keep < 16 → (q : ℕ) → q < 4 → (k : ℕ) → k < 4 → quadrantOf (bitAnd (rasterOf q k) keep) ≡ quadrantOf (bitAnd (rasterOf q 0) keep)
-one-quadrant keep h q hq k hk =
-    let of-keep = below-true 16 (λ keep. allBelow 4 (λ q. allBelow 4 (test keep q))) tested keep h in
-    eqb-true _ _ (below-true 4 (test keep q) (below-true 4 (λ q. allBelow 4 (test keep q)) of-keep q hq) k hk)
-
--- ---- A quadrant's references once, and the vectors of its blocks
+-- ---- The references of quadrants, and the vectors of blocks
 module _ (r : List ℤ) where
   abbrev sameWord : ℕ → ℕ → Bool
   sameWord v w = eqZ (wordOf r v) (wordOf r w)
@@ -256,39 +219,3 @@ module _ (r : List ℤ) where
 
       vector : ℕ → Bool
       vector l = sameWord (13 + 4 * b + 2 * l) (13 + 4 * d + 2 * l) && sameWord (13 + 4 * b + 2 * l + 1) (13 + 4 * d + 2 * l + 1)
-
-once : (t : Bool) (f : ℕ → Bool) → ((((t && f 0) && f 1) && f 2) && f 3) ≡ allBelow 4 (λ k. t && f k)
-unfolding allBelow
-once true f = refl
-once false f = refl
-
-module _ (r : List ℤ) (q keep : ℕ) (hq : q < 4) (small : keep < 16) (firsts : (b : ℕ) → b < 16 → quadrantOf b ≡ q → bitAnd b keep ≡ firstBlockOf r b) where
-  abbrev i : ℕ
-  i = 8 * (q / 2) + 2 * (q % 2)
-
-  at : i ≡ first q
-  at = each (λ q. 8 * (q / 2) + 2 * (q % 2) ≡ first q) refl refl refl refl q hq
-
-  abbrev references : ℕ → Bool
-  references b = sameReferences r q (quadrantOf (bitAnd b keep))
-
-  abbrev vectors : ℕ → Bool
-  vectors b = sameVectors r b (bitAnd b keep)
-
-  one-block :
-      (k : ℕ) →
-      k < 4 →
-      (references (rasterOf q 0) && vectors (rasterOf q k)) ≡ sameMotion (motionOf r (rasterOf q k)) (motionOf r (firstBlockOf r (rasterOf q k)))
-  one-block k hk =
-      let here : quadrantOf (rasterOf q k) ≡ q = raster-quadrant q k hq hk in
-      let there = one-quadrant keep small q hq k hk in
-      sym
-      (ap (λ (d : ℕ). sameMotion (motionOf r (rasterOf q k)) (motionOf r d)) (sym (firsts (rasterOf q k) (raster-below q k hq hk) here))
-      ∙ (motion-parts r (rasterOf q k) (bitAnd (rasterOf q k) keep) ∙ (λ j. sameReferences r (here j) (there j) && vectors (rasterOf q k))))
-
-  pub quadrant-same : ((((references i && vectors i) && vectors (i + 1)) && vectors (i + 4)) && vectors (i + 5)) ≡ sameAsFirst r q
-  unfolding sameAsFirst
-  quadrant-same =
-      let at0 : i ≡ rasterOf q 0 = at ∙ sym (add-zero (first q)) in
-      (λ j. (((references (at0 j) && vectors (at0 j)) && vectors (at j + 1)) && vectors (at j + 4)) && vectors (at j + 5))
-      ∙ (once (references (rasterOf q 0)) (λ k. vectors (rasterOf q k)) ∙ below-same 4 _ _ one-block)

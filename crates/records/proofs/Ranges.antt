@@ -1,5 +1,5 @@
--- Rules 2 to 5 as ranges of words. Assumes nothing.
-use Prim.Native.Nat.{ℕ, _+_, _-_, _*_, _/_, _%_, _<_}
+-- Rules 1 to 5 as ranges of words, rule 5 for a limit. Assumes nothing.
+use Prim.Native.Nat.{ℕ, zero, suc, _+_, _-_, _*_}
 use mathlib.Core.Path.{_≡_, refl, sym, ap, _∙_}
 use mathlib.Core.Bool.{Bool, true, false, not, _&&_, and-assoc, and-comm, and-true, and-false, Bool·not-not}
 use mathlib.Core.List.{List}
@@ -7,12 +7,11 @@ use native.Mathlib.Nat.{le-antisymm, add-zero}
 use native.Mathlib.Omega.{arith}
 use lib.Dec.{leb, eqb}
 use lib.IntN.{ℤ, pos, negsuc}
-use borrow.Author.Tests.{leb-true, leb-false, eq-eqb, ne-eqb}
+use borrow.Author.Tests.{leb-true, leb-false, le-leb, eq-eqb, ne-eqb}
 use Rattle.definitions.specs.Basics.{minus, eqZ, between, allBelow}
-use Rattle.definitions.specs.Record.{narrow, wordOf, typeOf, isIntra, referenceOf, used, vectorWord, rule1, rule2, rule3, rule4, rule5}
-use Rattle.definitions.proofs.Choices.{eqZ-true, yes, no, below-same, each}
-use Rattle.records.specs.declared.check.Range.{Range}
-use Rattle.records.specs.Checking.{liesIn, allWithin, quadrantUsed, listRight, blockWithin, vectorsRight}
+use Rattle.definitions.specs.Record.{wordOf, typeOf, isIntra, used, fits, vectorWord, rule1, rule2, rule3, rule4, rule5}
+use Rattle.definitions.proofs.Choices.{eqZ-true, yes, no, below-same}
+use Rattle.records.specs.Checking.{allWithin, quadrantUsed, listRight, blockWithin, vectorsRight}
 use Rattle.records.proofs.Searches.{below-both, by-quadrants}
 
 -- ---- A range of one number
@@ -35,39 +34,33 @@ narrowed low high z holds = rw (one-number (pos 0) z) (by (eqZ z (pos 0)) refl)
     by true e = and-true (between low high z) ∙ (ap (between low high) (eqZ-true z (pos 0) e) ∙ holds)
     by false e = and-false (between low high z)
 
--- ---- Rules 2 to 4
-abbrev pub only : ℤ → Range
-only z = record { low = z; high = z }
-
-abbrev pub from-to : ℤ → ℤ → Range
-from-to a b = record { low = a; high = b }
-
+-- ---- Rules 1 to 4
 -- the references of the quadrants are words 5 to 12
 pairs : (f : ℕ → Bool) → allBelow 4 (λ q. allBelow 2 (λ l. f (5 + 2 * q + l))) ≡ allBelow 8 (λ k. f (5 + k))
 unfolding allBelow
 pairs f = simp and-assoc
 
 module _ (r : List ℤ) where
-  pub types : rule1 r ≡ allWithin r 0 1 (from-to (pos 0) (pos 4))
+  pub types : rule1 r ≡ allWithin r 0 1 (pos 0) (pos 4)
   unfolding rule1 allWithin allBelow
   types = refl
 
-  pub sub-types-any : eqZ (typeOf r) (pos 4) ≡ true → rule2 r ≡ allWithin r 1 4 (from-to (pos 0) (pos 3))
+  pub sub-types-any : eqZ (typeOf r) (pos 4) ≡ true → rule2 r ≡ allWithin r 1 4 (pos 0) (pos 3)
   unfolding rule2 allWithin
   sub-types-any e = rw e (and-true (allBelow 4 (λ q. between (pos 0) (pos 3) (wordOf r (1 + q)))))
 
-  pub sub-types-zero : eqZ (typeOf r) (pos 4) ≡ false → rule2 r ≡ allWithin r 1 4 (only (pos 0))
+  pub sub-types-zero : eqZ (typeOf r) (pos 4) ≡ false → rule2 r ≡ allWithin r 1 4 (pos 0) (pos 0)
   unfolding rule2 allWithin
   sub-types-zero e =
       rw e
       (below-both 4 (λ q. between (pos 0) (pos 3) (wordOf r (1 + q))) (λ q. eqZ (wordOf r (1 + q)) (pos 0))
       (λ q. between (pos 0) (pos 0) (wordOf r (1 + q))) (λ q. narrowed (pos 0) (pos 3) (wordOf r (1 + q)) refl))
 
-  pub references : rule3 r ≡ allWithin r 5 8 (from-to (minus 1) (pos 31))
+  pub references : rule3 r ≡ allWithin r 5 8 (minus 1) (pos 31)
   unfolding rule3 allWithin
   references = pairs (λ w. between (minus 1) (pos 31) (wordOf r w))
 
-  pub use-none : isIntra r ≡ true → rule4 r ≡ allWithin r 5 8 (only (minus 1))
+  pub use-none : isIntra r ≡ true → rule4 r ≡ allWithin r 5 8 (minus 1) (minus 1)
   unfolding rule4 allWithin
   use-none e =
       yes _ _ e
@@ -86,52 +79,30 @@ module _ (r : List ℤ) where
     used-second e = rw (add-zero (5 + 2 * q), e)
 
 -- ---- Rule 5
-abbrev vectorRange : Range
-vectorRange = from-to (minus narrow) (pos (narrow - 1))
+-- 0 fits every limit
+pub zero-fits : (limit : ℕ) → fits limit (pos 0) ≡ true
+zero-fits zero = refl
+zero-fits (suc n) = le-leb 0 (suc n - 1) (omega arith)
 
-word-zero : (t : Bool) (v : ℤ) → t ≡ false → vectorWord narrow t v ≡ liesIn (only (pos 0)) v
-word-zero t v e = rw e (narrowed (minus narrow) (pos (narrow - 1)) v refl)
+module _ (limit : ℕ) where
+  word-zero : (t : Bool) (v : ℤ) → t ≡ false → vectorWord limit t v ≡ between (pos 0) (pos 0) v
+  word-zero t v e = rw e (narrowed (minus limit) (pos (limit - 1)) v (zero-fits limit))
 
-word-any : (t : Bool) (v : ℤ) → t ≡ true → vectorWord narrow t v ≡ liesIn vectorRange v
-word-any t v e = rw e (and-true (liesIn vectorRange v))
+  word-any : (t : Bool) (v : ℤ) → t ≡ true → vectorWord limit t v ≡ fits limit v
+  word-any t v e = rw e (and-true (fits limit v))
 
-module _ (reference : ℤ) where
-  pub range-zero : eqZ reference (minus 1) ≡ true → (v : ℤ) → liesIn (only (pos 0)) v ≡ vectorWord narrow (used reference) v
-  range-zero e v = sym (word-zero (used reference) v (ap not e))
+  module _ (reference : ℤ) where
+    pub range-zero : eqZ reference (minus 1) ≡ true → (v : ℤ) → between (pos 0) (pos 0) v ≡ vectorWord limit (used reference) v
+    range-zero e v = sym (word-zero (used reference) v (ap not e))
 
-  pub range-any : eqZ reference (minus 1) ≡ false → (v : ℤ) → liesIn vectorRange v ≡ vectorWord narrow (used reference) v
-  range-any e v = sym (word-any (used reference) v (ap not e))
+    pub range-any : eqZ reference (minus 1) ≡ false → (v : ℤ) → fits limit v ≡ vectorWord limit (used reference) v
+    range-any e v = sym (word-any (used reference) v (ap not e))
 
--- the words of a block, and of a quadrant's four blocks
-module _ (r : List ℤ) where
-  pub block-words :
-      (f g : ℤ → Bool) (w : ℕ) → (((f (wordOf r w) && f (wordOf r (w + 1))) && g (wordOf r (w + 2))) && g (wordOf r (w + 3))) ≡ blockWithin f g r w
-  block-words f g w = and-assoc (f (wordOf r w) && f (wordOf r (w + 1))) (g (wordOf r (w + 2))) (g (wordOf r (w + 3)))
+  pub vectors-all : (r : List ℤ) → rule5 limit r ≡ allBelow 4 (vectorsRight limit r)
+  unfolding rule5 vectorsRight
+  vectors-all r = by-quadrants (λ b. allBelow 2 (listRight limit r b))
 
-  abbrev quadrantWithin : (ℤ → Bool) → (ℤ → Bool) → ℕ → Bool
-  quadrantWithin f g w = ((blockWithin f g r w && blockWithin f g r (w + 4)) && blockWithin f g r (w + 16)) && blockWithin f g r (w + 20)
-
-  by-words :
-      (q : ℕ) →
-      q < 4 →
-      quadrantWithin (vectorWord narrow (used (referenceOf r q 0))) (vectorWord narrow (used (referenceOf r q 1))) (13 + 32 * (q / 2) + 8 * (q % 2)) ≡ vectorsRight r q
-  unfolding vectorsRight allBelow
-  by-words =
-      each
-      (λ q. quadrantWithin (vectorWord narrow (used (referenceOf r q 0))) (vectorWord narrow (used (referenceOf r q 1))) (13 + 32 * (q / 2) + 8 * (q % 2)) ≡ vectorsRight r q)
-      refl refl refl refl
-
-  pub quadrant-right :
-      (q : ℕ) →
-      q < 4 →
-      (f g : ℤ → Bool) →
-      ((v : ℤ) → f v ≡ vectorWord narrow (used (wordOf r (5 + 2 * q))) v) →
-      ((v : ℤ) → g v ≡ vectorWord narrow (used (wordOf r (5 + 2 * q + 1))) v) →
-      quadrantWithin f g (13 + 32 * (q / 2) + 8 * (q % 2)) ≡ vectorsRight r q
-  quadrant-right q h f g e0 e1 =
-      (λ i. quadrantWithin (λ v. (e0 v ∙ ap (λ (w : ℕ). vectorWord narrow (used (wordOf r w)) v) (sym (add-zero (5 + 2 * q)))) i) (λ v. e1 v i) (13 + 32 * (q / 2) + 8 * (q % 2)))
-      ∙ by-words q h
-
-pub vectors-all : (r : List ℤ) → rule5 narrow r ≡ allBelow 4 (vectorsRight r)
-unfolding rule5 vectorsRight
-vectors-all r = by-quadrants (λ b. allBelow 2 (listRight r b))
+-- the words of a block
+pub block-words :
+    (r : List ℤ) (f g : ℤ → Bool) (w : ℕ) → (((f (wordOf r w) && f (wordOf r (w + 1))) && g (wordOf r (w + 2))) && g (wordOf r (w + 3))) ≡ blockWithin f g r w
+block-words r f g w = and-assoc (f (wordOf r w) && f (wordOf r (w + 1))) (g (wordOf r (w + 2))) (g (wordOf r (w + 3)))

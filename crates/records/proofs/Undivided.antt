@@ -13,7 +13,7 @@ use Rattle.definitions.specs.declared.Split.{Split}
 use Rattle.definitions.specs.declared.Split.the-variants.{S16x16, S16x8, S8x16, S8x8 as Quarters}
 use Rattle.definitions.specs.Basics.{pick, eqZ}
 use Rattle.definitions.specs.Splits.{sameMotion, oneEach}
-use Rattle.definitions.specs.Record.{typeOf, subTypeOf, isIntra, motionOf, subSplitOf, splitSaid, rule6, wellFormed, narrow}
+use Rattle.definitions.specs.Record.{typeOf, subTypeOf, isIntra, motionOf, subSplitOf, splitSaid, rule6, wellFormed}
 use Rattle.definitions.specs.Blocks.{quadrantOf, rasterOf}
 use Rattle.definitions.proofs.Choices.{yes, each, below-true}
 use Rattle.definitions.proofs.Formed.{rules-of}
@@ -29,10 +29,10 @@ said-quarters false true c u t e = cc
 said-quarters false false true u t e = cc
 said-quarters false false false u t e = cc
 
-module _ (r : List ℤ) (formed : wellFormed narrow r ≡ true) (inter : isIntra r ≡ false) where
+module _ (limit : ℕ) (r : List ℤ) (formed : wellFormed limit r ≡ true) (inter : isIntra r ≡ false) where
   one : oneEach (motionOf r) (splitSaid r) ≡ true
   unfolding rule6
-  one = by (isIntra r) inter (rules-of narrow r formed .pieces)
+  one = by (isIntra r) inter (rules-of limit r formed .pieces)
     where
       by : {o : Bool} (t : Bool) → t ≡ false → (t || o) ≡ true → o ≡ true
       by true e s = cc

@@ -8,18 +8,25 @@ use lib.IntN.{ℤ, pos, negsuc, natAbs}
 use lib.Signed.{nonNeg}
 use borrow.Author.Tests.{eq-eqb, ne-eqb, leb-true}
 use mir.Facts.{sfits-widen, toZ-ofZ}
-use mir.Syntax.{w16, w32}
+use mir.Syntax.{Width, w16, w32}
 use mir.Val.{SFits, ofZ, toZ}
 use Rattle.definitions.specs.Basics.{between, eqZ}
 use Rattle.definitions.proofs.Choices.{both-true}
-use Rattle.definitions.proofs.Motions.{word-same}
+use Rattle.definitions.proofs.Motions.{bits-same}
 
-module _ (a b : ℤ) (fa : SFits w16 a) (fb : SFits w16 b) where
-  pub word-is : ofZ w16 a ≡ ofZ w16 b → eqZ a b ≡ true
-  word-is e = sym (word-same a b fa fb) ∙ eq-eqb _ _ e
+module _ (w : Width) (a b : ℤ) (fa : SFits w a) (fb : SFits w b) where
+  pub bits-are : ofZ w a ≡ ofZ w b → eqZ a b ≡ true
+  bits-are e = sym (bits-same w a b fa fb) ∙ eq-eqb _ _ e
 
-  pub word-is-not : (ofZ w16 a ≡ ofZ w16 b → ⊥) → eqZ a b ≡ false
-  word-is-not ne = sym (word-same a b fa fb) ∙ ne-eqb _ _ ne
+  pub bits-are-not : (ofZ w a ≡ ofZ w b → ⊥) → eqZ a b ≡ false
+  bits-are-not ne = sym (bits-same w a b fa fb) ∙ ne-eqb _ _ ne
+
+-- of sixteen bits
+pub word-is : (a b : ℤ) → SFits w16 a → SFits w16 b → ofZ w16 a ≡ ofZ w16 b → eqZ a b ≡ true
+word-is = bits-are w16
+
+pub word-is-not : (a b : ℤ) → SFits w16 a → SFits w16 b → (ofZ w16 a ≡ ofZ w16 b → ⊥) → eqZ a b ≡ false
+word-is-not = bits-are-not w16
 
 -- A number of sixteen bits that is held in 32 is cut to itself.
 module _ (z : ℤ) (f : SFits w16 z) where

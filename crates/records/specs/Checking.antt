@@ -1,6 +1,6 @@
--- The parts of "Well formed" that the inner functions of the check answer for, and the addresses that a check runs over.
+-- The parts of "Well formed" that the inner functions of the checks answer for, of both widths, and the addresses that a check runs over.
 use Prim.Native.Nat.{ℕ, _+_, _*_, _-_, _/_, _%_}
-use mathlib.Core.Bool.{Bool, not, _&&_, _||_}
+use mathlib.Core.Bool.{Bool, _&&_, _||_}
 use mathlib.Core.List.{List, [], _∷_}
 use lib.Dec.{eqb}
 use lib.IntN.{ℤ}
@@ -13,33 +13,24 @@ use Rattle.definitions.specs.declared.Split.the-variants.{S16x16, S16x8, S8x16,
 use Rattle.definitions.specs.declared.Verdict.{Verdict}
 use Rattle.definitions.specs.declared.Verdict.the-variants.{Accepted, Refused}
 use Rattle.definitions.specs.Basics.{pick, eqZ, between, allBelow, upTo}
-use Rattle.definitions.specs.Splits.{sameMotion}
-use Rattle.definitions.specs.Record.{wordOf, referenceOf, vectorXOf, vectorYOf, motionOf, isIntra, used, splitSaid, vectorWord, rule1, rule2, rule3, rule4, narrow}
+use Rattle.definitions.specs.Record.{wordOf, referenceOf, vectorXOf, vectorYOf, isIntra, used, splitSaid, vectorWord}
 use Rattle.definitions.specs.Blocks.{quadrantOf, inQuadrant, rasterOf}
-use Rattle.records.specs.declared.check.Range.{Range}
 
--- a word is in the range; count words from the first on are
-abbrev pub liesIn : Range → ℤ → Bool
-liesIn range z = between (range .low) (range .high) z
-
-unfoldable pub allWithin : List ℤ → ℕ → ℕ → Range → Bool
-allWithin r first count range = allBelow count (λ k. liesIn range (wordOf r (first + k)))
-
--- the first of rules 1 to 4 that is broken, or 0
-unfoldable pub headBroken : List ℤ → ℕ
-headBroken r = pick (not (rule1 r)) 1 (pick (not (rule2 r)) 2 (pick (not (rule3 r)) 3 (pick (not (rule4 r)) 4 0)))
+-- count words from the first on are in low..high
+unfoldable pub allWithin : List ℤ → ℕ → ℕ → ℤ → ℤ → Bool
+allWithin r first count low high = allBelow count (λ k. between low high (wordOf r (first + k)))
 
 -- rule 4 of a quadrant: it has a used list
 abbrev pub quadrantUsed : List ℤ → ℕ → Bool
 quadrantUsed r q = used (referenceOf r q 0) || used (referenceOf r q 1)
 
 -- rule 5 of a block in one list, and of the blocks of a quadrant
-abbrev pub listRight : List ℤ → ℕ → ℕ → Bool
-listRight r b l =
-    vectorWord narrow (used (referenceOf r (quadrantOf b) l)) (vectorXOf r b l) && vectorWord narrow (used (referenceOf r (quadrantOf b) l)) (vectorYOf r b l)
+abbrev pub listRight : ℕ → List ℤ → ℕ → ℕ → Bool
+listRight limit r b l =
+    vectorWord limit (used (referenceOf r (quadrantOf b) l)) (vectorXOf r b l) && vectorWord limit (used (referenceOf r (quadrantOf b) l)) (vectorYOf r b l)
 
-unfoldable pub vectorsRight : List ℤ → ℕ → Bool
-vectorsRight r q = allBelow 4 (λ k. allBelow 2 (listRight r (rasterOf q k)))
+unfoldable pub vectorsRight : ℕ → List ℤ → ℕ → Bool
+vectorsRight limit r q = allBelow 4 (λ k. allBelow 2 (listRight limit r (rasterOf q k)))
 
 -- the vector words of a block, from word w on, pass: those of list 0 a test f, those of list 1 a test g
 abbrev pub blockWithin : (ℤ → Bool) → (ℤ → Bool) → List ℤ → ℕ → Bool
@@ -64,10 +55,6 @@ firstBlockIn (Quarters t) b = subFirstBlock (subSplitAt t (quadrantOf b)) b
 -- of an intra record, which has no pieces, the block itself
 unfoldable pub firstBlockOf : List ℤ → ℕ → ℕ
 firstBlockOf r b = pick (isIntra r) b (firstBlockIn (splitSaid r) b)
-
--- the blocks of a quadrant have the motions of those blocks
-unfoldable pub sameAsFirst : List ℤ → ℕ → Bool
-sameAsFirst r q = allBelow 4 (λ k. sameMotion (motionOf r (rasterOf q k)) (motionOf r (firstBlockOf r (rasterOf q k))))
 
 -- two quadrants have the same references, two blocks the same vectors
 unfoldable pub sameReferences : List ℤ → ℕ → ℕ → Bool

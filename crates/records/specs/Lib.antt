@@ -1,2 +1,2 @@
--- The definitions that only this crate's contracts cite.
+-- The definitions that the contracts of this crate and of the checks cite.
 pub mod Checking

@@ -8,24 +8,24 @@ use lib.Dec.{eqb, leb}
 use lib.IntN.{ℤ, pos, negsuc}
 use borrow.Author.Tests.{not-true, not-false, eqb-false, eq-eqb, lt-leb}
 use Rattle.definitions.specs.Basics.{eqZ, between}
-use Rattle.definitions.specs.Record.{narrow, typeOf, rule1, rule7, firstBroken, wellFormed}
+use Rattle.definitions.specs.Record.{typeOf, rule1, rule7, firstBroken, wellFormed}
 use Rattle.definitions.proofs.Choices.{yes, no, and-no}
 use Rattle.definitions.proofs.Formed.{Rules, rules-of}
 
 -- ---- All rules
-pub rules-formed : (r : List ℤ) → Rules narrow r → wellFormed narrow r ≡ true
+pub rules-formed : (limit : ℕ) (r : List ℤ) → Rules limit r → wellFormed limit r ≡ true
 unfolding firstBroken
-rules-formed r k =
-    eq-eqb (firstBroken narrow r) 0
+rules-formed limit r k =
+    eq-eqb (firstBroken limit r) 0
     (no _ _ (ap not (k .types))
     ∙ (no _ _ (ap not (k .sub-types)) ∙ (no _ _ (ap not (k .references)) ∙ (no _ _ (ap not (k .lists)) ∙ (no _ _ (ap not (k .vectors)) ∙ (no _ _ (ap not (k .pieces)) ∙ no _ _ (ap not (k .detail))))))))
 
 -- ---- Rule 7 broken
-pub detail-broken : (r : List ℤ) → rule7 r ≡ false → wellFormed narrow r ≡ false
-detail-broken r e = by (wellFormed narrow r) refl
+pub detail-broken : (limit : ℕ) (r : List ℤ) → rule7 r ≡ false → wellFormed limit r ≡ false
+detail-broken limit r e = by (wellFormed limit r) refl
   where
-    by : (t : Bool) → wellFormed narrow r ≡ t → t ≡ false
-    by true f = absurd (true≢false (sym (rules-of narrow r f .detail) ∙ e))
+    by : (t : Bool) → wellFormed limit r ≡ t → t ≡ false
+    by true f = absurd (true≢false (sym (rules-of limit r f .detail) ∙ e))
     by false f = refl
 
 -- ---- Rule 1 broken
@@ -35,10 +35,10 @@ no-type (pos n) e0 e1 e2 e3 e4 =
 no-type (negsuc n) e0 e1 e2 e3 e4 = refl
 
 pub none-formed :
-    (r : List ℤ) → eqZ (typeOf r) (pos 0) ≡ false → eqZ (typeOf r) (pos 1) ≡ false → eqZ (typeOf r) (pos 2) ≡ false → eqZ (typeOf r) (pos 3) ≡ false →
-    eqZ (typeOf r) (pos 4) ≡ false → wellFormed narrow r ≡ false
+    (limit : ℕ) (r : List ℤ) → eqZ (typeOf r) (pos 0) ≡ false → eqZ (typeOf r) (pos 1) ≡ false → eqZ (typeOf r) (pos 2) ≡ false → eqZ (typeOf r) (pos 3) ≡ false →
+    eqZ (typeOf r) (pos 4) ≡ false → wellFormed limit r ≡ false
 unfolding rule1 firstBroken
-none-formed r e0 e1 e2 e3 e4 = ap (λ (n : ℕ). eqb n 0) (yes _ _ (ap not (no-type (typeOf r) e0 e1 e2 e3 e4)))
+none-formed limit r e0 e1 e2 e3 e4 = ap (λ (n : ℕ). eqb n 0) (yes _ _ (ap not (no-type (typeOf r) e0 e1 e2 e3 e4)))
 
 -- ---- Two parts, a and b; h is what the test of a said
 module _ {h a w : Bool} (b : Bool) (said : h ≡ a) (whole : (a && b) ≡ w) where

@@ -5,3 +5,4 @@ mod Intra
 mod Undivided
 mod Quarters
 mod Passed
+mod Copied

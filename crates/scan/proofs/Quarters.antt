@@ -1,4 +1,4 @@
--- A record of type 4 is well formed where it keeps rules 1 to 4, and its quadrants rules 5 and 6. Assumes nothing.
+-- A record of type 4 is well formed where it keeps rules 2 to 4, and its quadrants rules 5 and 6. Assumes nothing.
 use Prim.Native.Nat.{ℕ, _+_, _*_, _/_, _%_, _<_}
 use mathlib.Core.Path.{_≡_, refl, sym, ap, _∙_, subst}
 use mathlib.Core.Bool.{Bool, true, false, not, _&&_, _||_, true≢false}
@@ -6,22 +6,21 @@ use mathlib.Core.List.{List}
 use native.Mathlib.Omega.{arith}
 use lib.Dec.{eqb}
 use lib.IntN.{ℤ, pos}
-use borrow.Author.Tests.{eq-eqb, ne-eqb}
 use Rattle.definitions.specs.declared.SubSplit.{SubSplit}
 use Rattle.definitions.specs.declared.SubSplit.the-variants.{S8x8, S8x4, S4x8, S4x4}
 use Rattle.definitions.specs.declared.SubSplits.{SubSplits}
 use Rattle.definitions.specs.declared.Split.{Split}
 use Rattle.definitions.specs.declared.Split.the-variants.{S8x8 as Quarters}
-use Rattle.definitions.specs.Basics.{pick, eqZ, allBelow}
+use Rattle.definitions.specs.Basics.{minus, pick, eqZ, between, allBelow}
 use Rattle.definitions.specs.Blocks.{quadrantOf, inQuadrant, rasterOf}
-use Rattle.definitions.specs.Record.{narrow, typeOf, subTypeOf, motionOf, subSplitOf, splitSaid, rule1, rule2, rule3, rule4, rule5, rule6, rule7, firstBroken, wellFormed}
+use Rattle.definitions.specs.Record.{typeOf, isIntra, subTypeOf, motionOf, subSplitOf, splitSaid, rule1, rule2, rule3, rule4, rule5, rule6, rule7, firstBroken, wellFormed}
 use Rattle.definitions.specs.Splits.{sameMotion}
-use Rattle.definitions.proofs.Choices.{no, both-true, both-ways, and-intro, and-no, or-left, or-right, eqZ-true, below-true, below-intro, below-same, each}
+use Rattle.definitions.proofs.Choices.{no, both-true, both-ways, and-intro, or-left, or-right, eqZ-true, below-true, below-intro, below-same, each}
 use Rattle.definitions.proofs.Records.{raster-quadrant, raster-below}
-use Rattle.records.specs.Checking.{listRight, headBroken, vectorsRight, subFirstBlock, subSplitAt, firstBlockOf, firstBlockIn, sameReferences, sameVectors, sameAsFirst}
-use Rattle.records.proofs.Ranges.{vectors-all}
-use Rattle.records.proofs.FirstBlocks.{firstPlace, sub-first-is, motion-parts, same-all}
-use Rattle.records.proofs.Searches.{below-both, search-fault}
+use Rattle.records.specs.Checking.{allWithin, quadrantUsed, listRight, vectorsRight, subFirstBlock, subSplitAt, firstBlockOf, firstBlockIn, sameReferences, sameVectors}
+use Rattle.records.proofs.Ranges.{sub-types-any, references, use-each, vectors-all}
+use Rattle.records.proofs.FirstBlocks.{firstPlace, sub-first-is, motion-parts, asFirst, same-all}
+use Rattle.records.proofs.Searches.{below-both, by-quadrants}
 use Rattle.scan.specs.Quick.{subAsFirst, quadrantRight}
 use Rattle.scan.proofs.Alike.{references-self, Alike, alike, alike-same, alike-self, alike-back, alike-then}
 
@@ -149,16 +148,16 @@ module _ (r : List ℤ) (q : ℕ) (hq : q < 4) where
       (λ a. and-intro (to-test (B 0) (B 2) i (i + 4) b0 b2 (a .0)) (to-test (B 1) (B 3) (i + 1) (i + 5) b1 b3 (a .1)))
 
   pub quadrant-is :
-      {v0 v1 v4 v5 same : Bool} →
-      v0 ≡ allBelow 2 (listRight r i) → v1 ≡ allBelow 2 (listRight r (i + 1)) → v4 ≡ allBelow 2 (listRight r (i + 4)) → v5 ≡ allBelow 2 (listRight r (i + 5)) →
-      same ≡ subAsFirst r q → ((((v0 && v1) && v4) && v5) && same) ≡ quadrantRight r q
+      (limit : ℕ) {v0 v1 v4 v5 same : Bool} →
+      v0 ≡ allBelow 2 (listRight limit r i) → v1 ≡ allBelow 2 (listRight limit r (i + 1)) → v4 ≡ allBelow 2 (listRight limit r (i + 4)) → v5 ≡ allBelow 2 (listRight limit r (i + 5)) →
+      same ≡ subAsFirst r q → ((((v0 && v1) && v4) && v5) && same) ≡ quadrantRight limit r q
   unfolding quadrantRight vectorsRight allBelow
-  quadrant-is e0 e1 e4 e5 s =
+  quadrant-is limit e0 e1 e4 e5 s =
       (λ j. (((e0 j && e1 j) && e4 j) && e5 j) && s j)
       ∙ sym (λ j. (((block (b0 j) && block (b1 j)) && block (b2 j)) && block (b3 j)) && subAsFirst r q)
     where
       block : ℕ → Bool
-      block b = allBelow 2 (listRight r b)
+      block b = allBelow 2 (listRight limit r b)
 
 -- ---- A block has the motion of the first block of its sub-partition where it has its vectors
 sub-quadrant : (s : SubSplit) (b : ℕ) → b < 16 → quadrantOf (subFirstBlock s b) ≡ quadrantOf b
@@ -174,21 +173,20 @@ module _ (r : List ℤ) where
       motion-parts r b (subFirstBlock s b) ∙ ap (λ (t : Bool). t && sameVectors r b (subFirstBlock s b)) one
 
 -- ---- The record
--- rules 1 to 4, and then 5 and 6, where 7 is kept
+-- rules 2 to 4, and then 5 and 6, where 1 and 7 are kept
 head-and-tail :
-    (a b c d e f : Bool) →
-    (eqb (pick (not a) 1 (pick (not b) 2 (pick (not c) 3 (pick (not d) 4 0)))) 0 && (e && f))
-    ≡ eqb (pick (not a) 1 (pick (not b) 2 (pick (not c) 3 (pick (not d) 4 (pick (not e) 5 (pick (not f) 6 (pick (not true) 7 0))))))) 0
+    (b c d e f : Bool) →
+    (((b && c) && d) && (e && f))
+    ≡ eqb (pick (not true) 1 (pick (not b) 2 (pick (not c) 3 (pick (not d) 4 (pick (not e) 5 (pick (not f) 6 (pick (not true) 7 0))))))) 0
 unfolding pick
-head-and-tail false b c d e f = refl
-head-and-tail true false c d e f = refl
-head-and-tail true true false d e f = refl
-head-and-tail true true true false e f = refl
-head-and-tail true true true true false f = refl
-head-and-tail true true true true true false = refl
-head-and-tail true true true true true true = refl
+head-and-tail false c d e f = refl
+head-and-tail true false d e f = refl
+head-and-tail true true false e f = refl
+head-and-tail true true true false f = refl
+head-and-tail true true true true false = refl
+head-and-tail true true true true true = refl
 
-module _ (r : List ℤ) (quarters : eqZ (typeOf r) (pos 4) ≡ true) (seven : rule7 r ≡ true) where
+module _ (limit : ℕ) (r : List ℤ) (quarters : eqZ (typeOf r) (pos 4) ≡ true) (seven : rule7 r ≡ true) where
   type : typeOf r ≡ pos 4
   type = eqZ-true (typeOf r) (pos 4) quarters
 
@@ -209,32 +207,41 @@ module _ (r : List ℤ) (quarters : eqZ (typeOf r) (pos 4) ≡ true) (seven : ru
       ∙ (ap (λ (s : Split). firstBlockIn s (rasterOf q k)) split
       ∙ ap (λ (s : SubSplit). subFirstBlock s (rasterOf q k)) (ap (subSplitAt said) (raster-quadrant q k hq hk) ∙ sub-at q hq))
 
-  sub-as-first : (q : ℕ) → q < 4 → sameAsFirst r q ≡ subAsFirst r q
-  unfolding sameAsFirst subAsFirst
+  sub-as-first : (q : ℕ) → q < 4 → allBelow 4 (λ k. asFirst r (rasterOf q k)) ≡ subAsFirst r q
+  unfolding subAsFirst
   sub-as-first q hq =
       below-same 4 _ _ (λ k hk.
       ap (λ (d : ℕ). sameMotion (motionOf r (rasterOf q k)) (motionOf r d)) (first-is q k hq hk)
       ∙ sub-motion r (subSplitOf (subTypeOf r q)) (rasterOf q k) (raster-below q k hq hk))
 
-  tail : allBelow 4 (quadrantRight r) ≡ (rule5 narrow r && rule6 r)
+  tail : allBelow 4 (quadrantRight limit r) ≡ (rule5 limit r && rule6 r)
   unfolding quadrantRight
   tail =
-      let e5 = vectors-all r in
-      let e6 = same-all r ∙ below-same 4 (sameAsFirst r) (subAsFirst r) sub-as-first in
-      sym ((λ i. e5 i && e6 i) ∙ below-both 4 (vectorsRight r) (subAsFirst r) (quadrantRight r) (λ k. refl))
+      let e5 = vectors-all limit r in
+      let e6 = same-all r ∙ (by-quadrants (asFirst r) ∙ below-same 4 (λ q. allBelow 4 (λ k. asFirst r (rasterOf q k))) (subAsFirst r) sub-as-first) in
+      sym ((λ i. e5 i && e6 i) ∙ below-both 4 (vectorsRight limit r) (subAsFirst r) (quadrantRight limit r) (λ k. refl))
 
-  quarters-is : (eqb (headBroken r) 0 && allBelow 4 (quadrantRight r)) ≡ wellFormed narrow r
-  unfolding headBroken firstBroken
+  one : rule1 r ≡ true
+  unfolding rule1
+  one = ap (between (pos 0) (pos 4)) type
+
+  pub quarters-is : (((rule2 r && rule3 r) && rule4 r) && allBelow 4 (quadrantRight limit r)) ≡ wellFormed limit r
+  unfolding firstBroken
   quarters-is =
-      ap (λ (t : Bool). eqb (headBroken r) 0 && t) tail ∙ (head-and-tail (rule1 r) (rule2 r) (rule3 r) (rule4 r) (rule5 narrow r) (rule6 r)
-      ∙ sym (ap (λ (t : Bool). eqb (pick (not (rule1 r)) 1 (pick (not (rule2 r)) 2 (pick (not (rule3 r)) 3 (pick (not (rule4 r)) 4 (pick (not (rule5 narrow r)) 5
-      (pick (not (rule6 r)) 6 (pick (not t) 7 0))))))) 0) seven))
+      ap (λ (t : Bool). ((rule2 r && rule3 r) && rule4 r) && t) tail ∙ (head-and-tail (rule2 r) (rule3 r) (rule4 r) (rule5 limit r) (rule6 r)
+      ∙ sym (λ i. eqb (pick (not (one i)) 1 (pick (not (rule2 r)) 2 (pick (not (rule3 r)) 3 (pick (not (rule4 r)) 4 (pick (not (rule5 limit r)) 5
+      (pick (not (rule6 r)) 6 (pick (not (seven i)) 7 0))))))) 0))
 
-  pub head-broken : (headBroken r ≡ 0 → ⊥) → false ≡ wellFormed narrow r
-  head-broken ne = sym (ap (λ (t : Bool). t && allBelow 4 (quadrantRight r)) (ne-eqb (headBroken r) 0 ne)) ∙ quarters-is
-
-  pub quadrant-broken : (q : ℕ) → q < 4 → quadrantRight r q ≡ false → false ≡ wellFormed narrow r
-  quadrant-broken q h e = sym (and-no (eqb (headBroken r) 0) (search-fault (quadrantRight r) 4 q h e)) ∙ quarters-is
-
-  pub quarters-formed : headBroken r ≡ 0 → allBelow 4 (quadrantRight r) ≡ true → wellFormed narrow r ≡ true
-  quarters-formed head all = sym quarters-is ∙ and-intro (eq-eqb (headBroken r) 0 head) all
+-- rules 2 to 4 by their words
+pub head-is :
+    (r : List ℤ) → eqZ (typeOf r) (pos 4) ≡ true → {s t u0 u1 u2 u3 : Bool} →
+    s ≡ allWithin r 1 4 (pos 0) (pos 3) → t ≡ allWithin r 5 8 (minus 1) (pos 31) →
+    u0 ≡ quadrantUsed r 0 → u1 ≡ quadrantUsed r 1 → u2 ≡ quadrantUsed r 2 → u3 ≡ quadrantUsed r 3 →
+    ((s && t) && (((u0 && u1) && u2) && u3)) ≡ ((rule2 r && rule3 r) && rule4 r)
+unfolding allBelow
+head-is r quarters e2 e3 u0 u1 u2 u3 =
+    let inter : isIntra r ≡ false = ap (λ (z : ℤ). eqZ z (pos 0)) (eqZ-true (typeOf r) (pos 4) quarters) in
+    let s2 = e2 ∙ sym (sub-types-any r quarters) in
+    let s3 = e3 ∙ sym (references r) in
+    let s4 : (((quadrantUsed r 0 && quadrantUsed r 1) && quadrantUsed r 2) && quadrantUsed r 3) ≡ rule4 r = sym (use-each r inter) in
+    (λ i. (s2 i && s3 i) && (((u0 i && u1 i) && u2 i) && u3 i)) ∙ ap (λ (t : Bool). (rule2 r && rule3 r) && t) s4

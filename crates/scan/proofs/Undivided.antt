@@ -12,7 +12,7 @@ use Rattle.definitions.specs.declared.Split.{Split}
 use Rattle.definitions.specs.declared.Split.the-variants.{S16x16, S16x8, S8x16}
 use Rattle.definitions.specs.Basics.{eqZ, between, allBelow}
 use Rattle.definitions.specs.Blocks.{quadrantOf, rasterOf}
-use Rattle.definitions.specs.Record.{narrow, wordOf, typeOf, isIntra, used, vectorWord, motionOf, splitSaid, rule1, rule2, rule3, rule4, rule5, rule7, wellFormed}
+use Rattle.definitions.specs.Record.{wordOf, typeOf, isIntra, used, vectorWord, motionOf, splitSaid, rule1, rule2, rule3, rule4, rule5, rule7, wellFormed}
 use Rattle.definitions.proofs.Choices.{yes, no, both-true, both-ways, and-intro, eqZ-true, below-true, below-intro, each}
 use Rattle.definitions.proofs.Formed.{rules-of}
 use Rattle.definitions.proofs.Motions.{motion-same}
@@ -33,59 +33,59 @@ either P a b (suc zero) h = b
 either P a b (suc (suc k)) h = absurd (omega arith)
 
 -- ---- A block, by its words
-module _ (r : List ℤ) (b : ℕ) (f g : ℤ → Bool)
-    (e0 : (v : ℤ) → f v ≡ vectorWord narrow (used (wordOf r (5 + 2 * quadrantOf b))) v)
-    (e1 : (v : ℤ) → g v ≡ vectorWord narrow (used (wordOf r (5 + 2 * quadrantOf b + 1))) v) where
-  list0 : (f (wordOf r (13 + 4 * b)) && f (wordOf r (13 + 4 * b + 1))) ≡ listRight r b 0
+module _ (limit : ℕ) (r : List ℤ) (b : ℕ) (f g : ℤ → Bool)
+    (e0 : (v : ℤ) → f v ≡ vectorWord limit (used (wordOf r (5 + 2 * quadrantOf b))) v)
+    (e1 : (v : ℤ) → g v ≡ vectorWord limit (used (wordOf r (5 + 2 * quadrantOf b + 1))) v) where
+  list0 : (f (wordOf r (13 + 4 * b)) && f (wordOf r (13 + 4 * b + 1))) ≡ listRight limit r b 0
   list0 =
       let n : 5 + 2 * quadrantOf b + 0 ≡ 5 + 2 * quadrantOf b = add-zero (5 + 2 * quadrantOf b) in
       let w : 13 + 4 * b + 0 ≡ 13 + 4 * b = add-zero (13 + 4 * b) in
       (λ i. e0 (wordOf r (13 + 4 * b)) i && e0 (wordOf r (13 + 4 * b + 1)) i)
-      ∙ sym (λ i. vectorWord narrow (used (wordOf r (n i))) (wordOf r (w i)) && vectorWord narrow (used (wordOf r (n i))) (wordOf r (w i + 1)))
+      ∙ sym (λ i. vectorWord limit (used (wordOf r (n i))) (wordOf r (w i)) && vectorWord limit (used (wordOf r (n i))) (wordOf r (w i + 1)))
 
-  list1 : (g (wordOf r (13 + 4 * b + 2)) && g (wordOf r (13 + 4 * b + 3))) ≡ listRight r b 1
+  list1 : (g (wordOf r (13 + 4 * b + 2)) && g (wordOf r (13 + 4 * b + 3))) ≡ listRight limit r b 1
   list1 =
       let w : 13 + 4 * b + 2 + 1 ≡ 13 + 4 * b + 3 = omega arith in
       let is-used = used (wordOf r (5 + 2 * quadrantOf b + 1)) in
       (λ i. e1 (wordOf r (13 + 4 * b + 2)) i && e1 (wordOf r (13 + 4 * b + 3)) i)
-      ∙ sym (λ i. vectorWord narrow is-used (wordOf r (13 + 4 * b + 2)) && vectorWord narrow is-used (wordOf r (w i)))
+      ∙ sym (λ i. vectorWord limit is-used (wordOf r (13 + 4 * b + 2)) && vectorWord limit is-used (wordOf r (w i)))
 
-  pub block-lists : blockWithin f g r (13 + 4 * b) ≡ allBelow 2 (listRight r b)
+  pub block-lists : blockWithin f g r (13 + 4 * b) ≡ allBelow 2 (listRight limit r b)
   unfolding allBelow
   block-lists = λ i. list0 i && list1 i
 
-pub block-is : (r : List ℤ) (b : ℕ) {u v : Bool} → u ≡ quadrantUsed r (quadrantOf b) → v ≡ allBelow 2 (listRight r b) → (u && v) ≡ blockRight r b
+pub block-is : (limit : ℕ) (r : List ℤ) (b : ℕ) {u v : Bool} → u ≡ quadrantUsed r (quadrantOf b) → v ≡ allBelow 2 (listRight limit r b) → (u && v) ≡ blockRight limit r b
 unfolding blockRight
-block-is r b e f = λ i. e i && f i
+block-is limit r b e f = λ i. e i && f i
 
 -- ---- Rules 4 and 5 are those of the blocks
-module _ (r : List ℤ) (inter : isIntra r ≡ false) where
-  blocks-4 : ((b : ℕ) → b < 16 → blockRight r b ≡ true) → rule4 r ≡ true
+module _ (limit : ℕ) (r : List ℤ) (inter : isIntra r ≡ false) where
+  blocks-4 : ((b : ℕ) → b < 16 → blockRight limit r b ≡ true) → rule4 r ≡ true
   unfolding blockRight
   blocks-4 right =
       use-each r inter
       ∙ below-intro 4 _ (λ q h.
-      ap (quadrantUsed r) (sym (raster-quadrant q 0 h (omega arith))) ∙ both-true (quadrantUsed r (quadrantOf (rasterOf q 0))) (allBelow 2 (listRight r (rasterOf q 0))) (right (rasterOf q 0) (raster-below q 0 h (omega arith))) .0)
+      ap (quadrantUsed r) (sym (raster-quadrant q 0 h (omega arith))) ∙ both-true (quadrantUsed r (quadrantOf (rasterOf q 0))) (allBelow 2 (listRight limit r (rasterOf q 0))) (right (rasterOf q 0) (raster-below q 0 h (omega arith))) .0)
 
-  blocks-5 : ((b : ℕ) → b < 16 → blockRight r b ≡ true) → rule5 narrow r ≡ true
+  blocks-5 : ((b : ℕ) → b < 16 → blockRight limit r b ≡ true) → rule5 limit r ≡ true
   unfolding rule5 blockRight
-  blocks-5 right = below-intro 16 _ (λ b h. both-true (quadrantUsed r (quadrantOf b)) (allBelow 2 (listRight r b)) (right b h) .1)
+  blocks-5 right = below-intro 16 _ (λ b h. both-true (quadrantUsed r (quadrantOf b)) (allBelow 2 (listRight limit r b)) (right b h) .1)
 
-  block-of : rule4 r ≡ true → rule5 narrow r ≡ true → (b : ℕ) → b < 16 → blockRight r b ≡ true
+  block-of : rule4 r ≡ true → rule5 limit r ≡ true → (b : ℕ) → b < 16 → blockRight limit r b ≡ true
   unfolding rule5 blockRight
   block-of e4 e5 b h =
-      and-intro (below-true 4 (quadrantUsed r) (sym (use-each r inter) ∙ e4) (quadrantOf b) (omega arith)) (below-true 16 (λ b. allBelow 2 (listRight r b)) e5 b h)
+      and-intro (below-true 4 (quadrantUsed r) (sym (use-each r inter) ∙ e4) (quadrantOf b) (omega arith)) (below-true 16 (λ b. allBelow 2 (listRight limit r b)) e5 b h)
 
 -- they are said by the motion that a block shows
-abbrev rightIn : Prediction → Bool
-rightIn p = vectorWord narrow (used (p .reference)) (p .x) && vectorWord narrow (used (p .reference)) (p .y)
+abbrev rightIn : ℕ → Prediction → Bool
+rightIn limit p = vectorWord limit (used (p .reference)) (p .x) && vectorWord limit (used (p .reference)) (p .y)
 
-abbrev shownRight : Motion → Bool
-shownRight m = (used (m .list0 .reference) || used (m .list1 .reference)) && (rightIn (m .list0) && rightIn (m .list1))
+abbrev shownRight : ℕ → Motion → Bool
+shownRight limit m = (used (m .list0 .reference) || used (m .list1 .reference)) && (rightIn limit (m .list0) && rightIn limit (m .list1))
 
-shown : (r : List ℤ) (b : ℕ) → blockRight r b ≡ shownRight (motionOf r b)
+shown : (limit : ℕ) (r : List ℤ) (b : ℕ) → blockRight limit r b ≡ shownRight limit (motionOf r b)
 unfolding motionOf blockRight allBelow
-shown r b = refl
+shown limit r b = refl
 
 -- ---- Vectors that repeat
 module _ (r : List ℤ) where
@@ -150,48 +150,48 @@ module _ (r : List ℤ) (n : ℕ) (is : eqZ (typeOf r) (pos n) ≡ true) where
   pub not-4 : eqZ (pos n) (pos 4) ≡ false → eqZ (typeOf r) (pos 4) ≡ false
   not-4 e = ap (λ (z : ℤ). eqZ z (pos 4)) type ∙ e
 
-  module _ (s : Split) (said : splitSaid r ≡ s) (no-0 : eqZ (pos n) (pos 0) ≡ false) where
+  module _ (limit : ℕ) (s : Split) (said : splitSaid r ≡ s) (no-0 : eqZ (pos n) (pos 0) ≡ false) where
     inter : isIntra r ≡ false
     inter = ap (λ (z : ℤ). eqZ z (pos 0)) type ∙ no-0
 
     by-firsts :
         rule7 r ≡ true → between (pos 0) (pos 4) (pos n) ≡ true → (rule2 r && rule3 r) ≡ true →
         ((b : ℕ) → b < 16 → Referred r (quadrantOf b) (quadrantOf (firstBlockIn s b))) → ((b : ℕ) → b < 16 → Alike r b (firstBlockIn s b)) →
-        ((b : ℕ) → b < 16 → blockRight r (firstBlockIn s b) ≡ true) → wellFormed narrow r ≡ true
+        ((b : ℕ) → b < 16 → blockRight limit r (firstBlockIn s b) ≡ true) → wellFormed limit r ≡ true
     unfolding rule1
     by-firsts seven e1 head references vectors firsts =
         let both = both-true (rule2 r) (rule3 r) head in
         let motions : (b : ℕ) → b < 16 → motionOf r b ≡ motionOf r (firstBlockIn s b) = λ b h. alike-motion r b (firstBlockIn s b) (references b h) (vectors b h) in
-        let right : (b : ℕ) → b < 16 → blockRight r b ≡ true =
-        λ b h. shown r b ∙ (ap shownRight (motions b h) ∙ (sym (shown r (firstBlockIn s b)) ∙ firsts b h)) in
-        rules-formed r (record {
+        let right : (b : ℕ) → b < 16 → blockRight limit r b ≡ true =
+        λ b h. shown limit r b ∙ (ap (shownRight limit) (motions b h) ∙ (sym (shown limit r (firstBlockIn s b)) ∙ firsts b h)) in
+        rules-formed limit r (record {
           types = ap (between (pos 0) (pos 4)) type ∙ e1;
           sub-types = both .0;
           references = both .1;
-          lists = blocks-4 r inter right;
-          vectors = blocks-5 r inter right;
+          lists = blocks-4 limit r inter right;
+          vectors = blocks-5 limit r inter right;
           pieces = one-motion-each r s said motions;
           detail = seven;
         })
 
     -- where it is well formed
-    module _ (formed : wellFormed narrow r ≡ true) where
+    module _ (formed : wellFormed limit r ≡ true) where
       head-of : (rule2 r && rule3 r) ≡ true
-      head-of = and-intro (rules-of narrow r formed .sub-types) (rules-of narrow r formed .references)
+      head-of = and-intro (rules-of limit r formed .sub-types) (rules-of limit r formed .references)
 
-      right-of : (b : ℕ) → b < 16 → blockRight r b ≡ true
-      right-of = block-of r inter (rules-of narrow r formed .lists) (rules-of narrow r formed .vectors)
+      right-of : (b : ℕ) → b < 16 → blockRight limit r b ≡ true
+      right-of = block-of limit r inter (rules-of limit r formed .lists) (rules-of limit r formed .vectors)
 
       same-of :
           (b c : ℕ) → b < 16 → c < 16 → firstBlockIn s b ≡ firstBlockIn s c → (sameReferences r (quadrantOf b) (quadrantOf c) ≡ true) × (sameVectors r b c ≡ true)
       same-of b c hb hc e =
           both-true _ _
           (sym (motion-parts r b c)
-          ∙ motion-same _ _ (by-first r formed inter b c hb hc (ap (λ (t : Split). firstBlockIn t b) said ∙ (e ∙ sym (ap (λ (t : Split). firstBlockIn t c) said)))))
+          ∙ motion-same _ _ (by-first limit r formed inter b c hb hc (ap (λ (t : Split). firstBlockIn t b) said ∙ (e ∙ sym (ap (λ (t : Split). firstBlockIn t c) said)))))
 
     by-parts :
-        {rest : Bool} → ((rule2 r && rule3 r) ≡ true → rest ≡ true → wellFormed narrow r ≡ true) → (wellFormed narrow r ≡ true → rest ≡ true) →
-        ((rule2 r && rule3 r) && rest) ≡ wellFormed narrow r
+        {rest : Bool} → ((rule2 r && rule3 r) ≡ true → rest ≡ true → wellFormed limit r ≡ true) → (wellFormed limit r ≡ true → rest ≡ true) →
+        ((rule2 r && rule3 r) && rest) ≡ wellFormed limit r
     by-parts {rest} to of =
         both-ways _ _
         (λ e. let both = both-true (rule2 r && rule3 r) rest e in to (both .0) (both .1))
@@ -207,41 +207,41 @@ row-quadrant b h = omega arith
 column-quadrant : (b : ℕ) → b < 16 → quadrantOf b % 2 ≡ quadrantOf (b % 4 / 2 * 2)
 column-quadrant b h = omega arith
 
-module _ (r : List ℤ) where
+module _ (limit : ℕ) (r : List ℤ) where
   -- what is asked of their blocks
   abbrev pub wholeParts : Bool
-  wholeParts = ((((blockRight r 0 && sameReferences r 1 0) && sameReferences r 2 0) && sameReferences r 3 0) && sameVectors r 1 0) && vectorsRepeat r 0 16 2
+  wholeParts = ((((blockRight limit r 0 && sameReferences r 1 0) && sameReferences r 2 0) && sameReferences r 3 0) && sameVectors r 1 0) && vectorsRepeat r 0 16 2
 
   abbrev pub rowsParts : Bool
   rowsParts =
-      ((((((blockRight r 0 && blockRight r 8) && sameReferences r 1 0) && sameReferences r 3 2) && sameVectors r 1 0) && vectorsRepeat r 0 8 2) && sameVectors r 9 8)
+      ((((((blockRight limit r 0 && blockRight limit r 8) && sameReferences r 1 0) && sameReferences r 3 2) && sameVectors r 1 0) && vectorsRepeat r 0 8 2) && sameVectors r 9 8)
       && vectorsRepeat r 8 16 2
 
   abbrev pub columnsParts : Bool
   columnsParts =
-      (((((blockRight r 0 && blockRight r 2) && sameReferences r 2 0) && sameReferences r 3 1) && sameVectors r 1 0) && sameVectors r 3 2) && vectorsRepeat r 0 16 4
+      (((((blockRight limit r 0 && blockRight limit r 2) && sameReferences r 2 0) && sameReferences r 3 1) && sameVectors r 1 0) && sameVectors r 3 2) && vectorsRepeat r 0 16 4
 
   module _ (is : eqZ (typeOf r) (pos 1) ≡ true) (seven : rule7 r ≡ true) where
     said-whole : splitSaid r ≡ S16x16
     unfolding splitSaid
     said-whole = yes _ _ is
 
-    pub whole-is : ((rule2 r && rule3 r) && wholeParts) ≡ wellFormed narrow r
+    pub whole-is : ((rule2 r && rule3 r) && wholeParts) ≡ wellFormed limit r
     whole-is =
-        by-parts r 1 is S16x16 said-whole refl
+        by-parts r 1 is limit S16x16 said-whole refl
         (λ head e.
         let v2 = both-true _ _ e in
         let v1 = both-true _ _ (v2 .0) in
         let s3 = both-true _ _ (v1 .0) in
         let s2 = both-true _ _ (s3 .0) in
         let s1 = both-true _ _ (s2 .0) in
-        by-firsts r 1 is S16x16 said-whole refl seven refl head
+        by-firsts r 1 is limit S16x16 said-whole refl seven refl head
         (λ b h. each (λ q. Referred r q 0) (λ l k. refl) (referred r 1 0 (s1 .1)) (referred r 2 0 (s2 .1)) (referred r 3 0 (s3 .1)) (quadrantOf b) (quadrant-below b h))
         (λ b h. subst (λ (d : ℕ). Alike r d 0) (zero-add b) (twos r 0 16 (v1 .1) (repeated r 0 2 16 (v2 .1)) b h))
         (λ b h. s1 .0))
         (λ formed.
-        let right = right-of r 1 is S16x16 said-whole refl formed in
-        let same = same-of r 1 is S16x16 said-whole refl formed in
+        let right = right-of r 1 is limit S16x16 said-whole refl formed in
+        let same = same-of r 1 is limit S16x16 said-whole refl formed in
         and-intro
         (and-intro
         (and-intro
@@ -255,9 +255,9 @@ module _ (r : List ℤ) where
     unfolding splitSaid
     said-rows = no _ _ (ap (λ (z : ℤ). eqZ z (pos 1)) (type r 2 is)) ∙ yes _ _ is
 
-    pub rows-is : ((rule2 r && rule3 r) && rowsParts) ≡ wellFormed narrow r
+    pub rows-is : ((rule2 r && rule3 r) && rowsParts) ≡ wellFormed limit r
     rows-is =
-        by-parts r 2 is S16x8 said-rows refl
+        by-parts r 2 is limit S16x8 said-rows refl
         (λ head e.
         let lower = both-true _ _ e in
         let v9 = both-true _ _ (lower .0) in
@@ -266,7 +266,7 @@ module _ (r : List ℤ) where
         let s3 = both-true _ _ (v1 .0) in
         let s1 = both-true _ _ (s3 .0) in
         let firsts = both-true _ _ (s1 .0) in
-        by-firsts r 2 is S16x8 said-rows refl seven refl head
+        by-firsts r 2 is limit S16x8 said-rows refl seven refl head
         (λ b h.
         subst (Referred r (quadrantOf b)) (row-quadrant b h)
         (each (λ q. Referred r q (q / 2 * 2)) (λ l k. refl) (referred r 1 0 (s1 .1)) (λ l k. refl) (referred r 3 2 (s3 .1)) (quadrantOf b) (quadrant-below b h)))
@@ -276,10 +276,10 @@ module _ (r : List ℤ) where
         (subst (λ (d : ℕ). Alike r d (8 * (b / 8))) (div-add-mod b 8)
         (either (λ i. (k : ℕ) → k < 8 → Alike r (8 * i + k) (8 * i)) (twos r 0 8 (v1 .1) (repeated r 0 2 8 (upper .1))) (twos r 8 8 (v9 .1) (repeated r 8 2 16 (lower .1)))
         (b / 8) (omega arith) (b % 8) (omega arith))))
-        (λ b h. either (λ i. blockRight r (i * 8) ≡ true) (firsts .0) (firsts .1) (b / 8) (omega arith)))
+        (λ b h. either (λ i. blockRight limit r (i * 8) ≡ true) (firsts .0) (firsts .1) (b / 8) (omega arith)))
         (λ formed.
-        let right = right-of r 2 is S16x8 said-rows refl formed in
-        let same = same-of r 2 is S16x8 said-rows refl formed in
+        let right = right-of r 2 is limit S16x8 said-rows refl formed in
+        let same = same-of r 2 is limit S16x8 said-rows refl formed in
         and-intro
         (and-intro
         (and-intro
@@ -297,9 +297,9 @@ module _ (r : List ℤ) where
     unfolding splitSaid
     said-columns = no _ _ (ap (λ (z : ℤ). eqZ z (pos 1)) (type r 3 is)) ∙ (no _ _ (ap (λ (z : ℤ). eqZ z (pos 2)) (type r 3 is)) ∙ yes _ _ is)
 
-    pub columns-is : ((rule2 r && rule3 r) && columnsParts) ≡ wellFormed narrow r
+    pub columns-is : ((rule2 r && rule3 r) && columnsParts) ≡ wellFormed limit r
     columns-is =
-        by-parts r 3 is S8x16 said-columns refl
+        by-parts r 3 is limit S8x16 said-columns refl
         (λ head e.
         let v4 = both-true _ _ e in
         let v3 = both-true _ _ (v4 .0) in
@@ -307,7 +307,7 @@ module _ (r : List ℤ) where
         let s3 = both-true _ _ (v1 .0) in
         let s2 = both-true _ _ (s3 .0) in
         let firsts = both-true _ _ (s2 .0) in
-        by-firsts r 3 is S8x16 said-columns refl seven refl head
+        by-firsts r 3 is limit S8x16 said-columns refl seven refl head
         (λ b h.
         subst (Referred r (quadrantOf b)) (column-quadrant b h)
         (each (λ q. Referred r q (q % 2)) (λ l k. refl) (λ l k. refl) (referred r 2 0 (s2 .1)) (referred r 3 1 (s3 .1)) (quadrantOf b) (quadrant-below b h)))
@@ -316,10 +316,10 @@ module _ (r : List ℤ) where
         alike-then r b (b % 4) (b % 4 / 2 * 2)
         (subst (λ (d : ℕ). Alike r d (b % 4)) at (fours r (repeated r 0 4 16 (v4 .1)) (b / 4) (b % 4) (omega arith) (subst (λ (d : ℕ). d < 16) (sym at) h)))
         (each (λ k. Alike r k (k / 2 * 2)) (alike-self r 0) (alike r 1 0 (v1 .1)) (alike-self r 2) (alike r 3 2 (v3 .1)) (b % 4) (omega arith)))
-        (λ b h. each (λ k. blockRight r (k / 2 * 2) ≡ true) (firsts .0) (firsts .0) (firsts .1) (firsts .1) (b % 4) (omega arith)))
+        (λ b h. each (λ k. blockRight limit r (k / 2 * 2) ≡ true) (firsts .0) (firsts .0) (firsts .1) (firsts .1) (b % 4) (omega arith)))
         (λ formed.
-        let right = right-of r 3 is S8x16 said-columns refl formed in
-        let same = same-of r 3 is S8x16 said-columns refl formed in
+        let right = right-of r 3 is limit S8x16 said-columns refl formed in
+        let same = same-of r 3 is limit S8x16 said-columns refl formed in
         and-intro
         (and-intro
         (and-intro

@@ -1,4 +1,4 @@
-// A quick scan of motion records, which passes those that are well formed and no other. At the first that it does not pass, the check of the crate records goes on.
+// A quick scan of motion records of 16-bit words, which passes those that are well formed and no other. Of the first that it does not pass the crate rules tells what it breaks.
 // Tests joined by `&` and `|` have no branch between them, and the compiler takes several words at once.
 ghost use mathlib.Core.Path.{_≡_};
 ghost use mathlib.Core.Bool.{true, false, _&&_};
@@ -6,14 +6,18 @@ ghost use Prim.Native.Nat.{ℕ, _*_, _≤_, _<_};
 ghost use lib.IntN.{pos};
 ghost use lib.ListN.{length};
 ghost use Rattle.definitions.specs.Basics.{allBelow, eqZ};
-ghost use Rattle.definitions.specs.Record.{isIntra, narrow, recordAt, recordWords, rule2, rule3, rule7, typeOf, wellFormed};
+ghost use Rattle.definitions.specs.Record.{isIntra, narrow, recordAt, recordWords, rule2, rule3, rule4, rule7, typeOf, wellFormed};
 ghost use Rattle.definitions.specs.Refusals.{recordTests, verdictOf};
 ghost use Rattle.records.specs.Checking.{addresses, listRight};
 ghost use Rattle.scan.specs.Quick.{blockRight, quadrantRight, subAsFirst, vectorsRepeat};
+use definitions::NARROW;
+use definitions::RECORD_WORDS;
 use definitions::Verdict;
 use records::check;
 use records::layout;
 use records::read::record_at;
+use rules::first_broken;
+use rules::found;
 
 // ---- Type 0, intra
 // No sub-type but 0, no reference but -1, no vector but 0.
@@ -30,7 +34,7 @@ fn quick_intra(words: &[i16]) -> bool
 // Rule 5 of block b: its vectors are as the references of its quadrant allow.
 fn block_vectors(words: &[i16], b: usize) -> bool
     requires { ⌜ (length (now words) ≡ recordWords) × (b < 16) ⌝ }
-    ensures { λ t. ⌜ t ≡ allBelow 2 (listRight (now (words .entry)) b) ⌝ }
+    ensures { λ t. ⌜ t ≡ allBelow 2 (listRight narrow (now (words .entry)) b) ⌝ }
 {
     let reference = layout::REFERENCES + 2 * (2 * (b / 8) + b % 4 / 2);
     let range0 = check::range_by(words, reference);
@@ -53,7 +57,7 @@ fn undivided_head(words: &[i16]) -> bool
 // Rules 4 and 5 of block b.
 fn block_right(words: &[i16], b: usize) -> bool
     requires { ⌜ (length (now words) ≡ recordWords) × (b < 16) ⌝ }
-    ensures { λ t. ⌜ t ≡ blockRight (now (words .entry)) b ⌝ }
+    ensures { λ t. ⌜ t ≡ blockRight narrow (now (words .entry)) b ⌝ }
 {
     check::quadrant_used(words, 2 * (b / 8) + b % 4 / 2) & block_vectors(words, b)
 }
@@ -139,7 +143,7 @@ fn same_in_quadrant(words: &[i16], q: usize) -> bool
 // Rules 5 and 6 of quadrant q.
 fn quick_quadrant(words: &[i16], q: usize) -> bool
     requires { ⌜ (length (now words) ≡ recordWords) × (q < 4) ⌝ }
-    ensures { λ t. ⌜ t ≡ quadrantRight (now (words .entry)) q ⌝ }
+    ensures { λ t. ⌜ t ≡ quadrantRight narrow (now (words .entry)) q ⌝ }
 {
     let i = 8 * (q / 2) + 2 * (q % 2);
     block_vectors(words, i)
@@ -149,12 +153,25 @@ fn quick_quadrant(words: &[i16], q: usize) -> bool
         & same_in_quadrant(words, q)
 }
 
-// Rules 1 to 4, and each quadrant.
+// Rules 2 to 4.
+fn quarters_head(words: &[i16]) -> bool
+    requires { ⌜ (length (now words) ≡ recordWords) × (eqZ (typeOf (now words)) (pos 4) ≡ true) ⌝ }
+    ensures { λ t. ⌜ t ≡ ((rule2 (now (words .entry)) && rule3 (now (words .entry))) && rule4 (now (words .entry))) ⌝ }
+{
+    check::all_within(words, layout::SUB_TYPES, 4, check::SUB_TYPES)
+        & check::all_within(words, layout::REFERENCES, 8, check::REFERENCES)
+        & (check::quadrant_used(words, 0)
+            & check::quadrant_used(words, 1)
+            & check::quadrant_used(words, 2)
+            & check::quadrant_used(words, 3))
+}
+
+// They, and each quadrant.
 fn quick_quarters(words: &[i16]) -> bool
     requires { ⌜ (length (now words) ≡ recordWords) × (eqZ (typeOf (now words)) (pos 4) ≡ true) × (rule7 (now words) ≡ true) ⌝ }
     ensures { λ t. ⌜ t ≡ wellFormed narrow (now (words .entry)) ⌝ }
 {
-    if check::head_rule(words) != 0 {
+    if !quarters_head(words) {
         return false;
     }
     let mut q: usize = 0;
@@ -219,11 +236,29 @@ fn first_not_quick(base: &[i16], from: usize, to: usize) -> usize
     a
 }
 
+// The words of a record in 32 bits each, for the rules.
+fn widened(words: &[i16]) -> [i32; RECORD_WORDS]
+    requires { ⌜ length (now words) ≡ recordWords ⌝ }
+    ensures { λ copy. ⌜ copy ≡ now (words .entry) ⌝ }
+{
+    let mut copy = [0i32; RECORD_WORDS];
+    let mut w: usize = 0;
+    while w < RECORD_WORDS {
+        copy[w] = words[w] as i32;
+        w += 1;
+    }
+    copy
+}
+
 // Records from..to-1 are well formed, or refusal 8 at the lowest that is not, with its first broken rule. Records that are well formed leave it to those after them (`verdict-from`).
 pub fn check(base: &[i16], from: usize, to: usize) -> Verdict
     requires { ⌜ (to * recordWords ≤ length (now base)) × (from ≤ to) × (to ≤ 65536) ⌝ }
     ensures { λ v. ⌜ v ≡ verdictOf (recordTests narrow (now (base .entry)) (addresses from to)) ⌝ }
 {
     let a = first_not_quick(base, from, to);
-    check::check(base, a, to)
+    if a == to {
+        return Verdict::Accepted;
+    }
+    let copy = widened(record_at(base, a));
+    found(a, first_broken(&copy, NARROW))
 }

@@ -1,4 +1,5 @@
 -- `block_right` meets its contract: its quadrant's references, and its vectors. Assumes nothing.
+use Rattle.definitions.specs.Record.{narrow}
 use Rattle.scan.proofs.Undivided.{block-is}
 use borrow.Author.Needs.{needs}
 use Rattle.scan.proofs.block_right.Statement.{statement}
@@ -19,7 +20,7 @@ block-vectors-requires c κs = search needs
 returns : tie.Need-returns
 returns c =
     let a = c .before .before .args in
-    block-is (a .words .now) (a .b) (c .before .quadrant-used .ensures) (c .block-vectors .ensures)
+    block-is narrow (a .words .now) (a .b) (c .before .quadrant-used .ensures) (c .block-vectors .ensures)
 
 pub block-right-spec : {M : Type 1} → statement M
 block-right-spec =

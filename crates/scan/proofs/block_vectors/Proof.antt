@@ -1,6 +1,7 @@
 -- `block_vectors` meets its contract: the four vector words of the block, by its quadrant's references. Assumes nothing.
 use mathlib.Core.Path.{_∙_}
-use Rattle.records.specs.Checking.{liesIn}
+use Rattle.definitions.specs.Basics.{between}
+use Rattle.definitions.specs.Record.{narrow}
 use Rattle.scan.proofs.Undivided.{block-lists}
 use borrow.Author.Needs.{needs}
 use Rattle.scan.proofs.block_vectors.Statement.{statement}
@@ -41,7 +42,7 @@ returns c =
     let a = c .before .before .before .args in
     let range0 = c .before .before .range-by in
     let range1 = c .before .range-by2 in
-    c .block-within .ensures ∙ block-lists (a .words .now) (a .b) (liesIn (range0 .result)) (liesIn (range1 .result)) (range0 .ensures) (range1 .ensures)
+    c .block-within .ensures ∙ block-lists narrow (a .words .now) (a .b) (between (range0 .result .low) (range0 .result .high)) (between (range1 .result .low) (range1 .result .high)) (range0 .ensures) (range1 .ensures)
 
 pub block-vectors-spec : {M : Type 1} → statement M
 block-vectors-spec =

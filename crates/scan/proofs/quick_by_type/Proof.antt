@@ -1,7 +1,7 @@
 -- `quick_by_type` meets its contract: by the type. Assumes nothing.
 use mathlib.Core.Path.{sym}
 use lib.IntN.{pos}
-use Rattle.definitions.specs.Record.{typeOf}
+use Rattle.definitions.specs.Record.{narrow, typeOf}
 use Rattle.records.proofs.Words.{word-is, word-is-not}
 use Rattle.scan.proofs.Kept.{none-formed}
 use borrow.Author.Needs.{needs}
@@ -46,7 +46,7 @@ returns-6 c =
     let words = c .before .before .before .before .before .before .args .words .now in
     let kind = typeOf words in
     sym
-    (none-formed words
+    (none-formed narrow words
     (word-is-not kind (pos 0) (search needs) (search needs) (c .before .before .before .before .if1 .left))
     (word-is-not kind (pos 1) (search needs) (search needs) (c .before .before .before .if2 .left))
     (word-is-not kind (pos 2) (search needs) (search needs) (c .before .before .if3 .left))

@@ -1,6 +1,7 @@
 -- `quick_columns` meets its contract: blocks 0 and 2 are right, and the others of their halves are as they. Assumes nothing.
 use mathlib.Core.Path.{refl}
 use mathlib.Core.Bool.{_&&_}
+use Rattle.definitions.specs.Record.{narrow}
 use Rattle.scan.proofs.Kept.{at-first, at-second}
 use Rattle.scan.proofs.Undivided.{not-4, columnsParts, columns-is}
 use borrow.Author.Needs.{needs}
@@ -14,7 +15,7 @@ returns : tie.Need-returns
 returns c =
     let start = c .before .before in
     let words = start .args .words .now in
-    at-first (columnsParts words) (c .before .undivided-head .ensures) (columns-is words (start .pre .1) (start .pre .2)) (c .if1 .taken)
+    at-first (columnsParts narrow words) (c .before .undivided-head .ensures) (columns-is narrow words (start .pre .1) (start .pre .2)) (c .if1 .taken)
 
 block-right-requires : tie.Need-block-right-requires
 block-right-requires c κs = search needs
@@ -48,7 +49,7 @@ returns-2 c =
     let v1 = c .before .before .same-vectors .ensures in
     let v3 = c .before .same-vectors2 .ensures in
     let v4 = c .vectors-repeat .ensures in
-    at-second (columnsParts words) (c .before .before .before .before .before .before .before .before .undivided-head .ensures) (columns-is words (start .pre .1) (start .pre .2)) (c .before .before .before .before .before .before .before .if1 .left)
+    at-second (columnsParts narrow words) (c .before .before .before .before .before .before .before .before .undivided-head .ensures) (columns-is narrow words (start .pre .1) (start .pre .2)) (c .before .before .before .before .before .before .before .if1 .left)
     (λ i. (((((b0 i && b2 i) && s2 i) && s3 i) && v1 i) && v3 i) && v4 i)
 
 pub quick-columns-spec : {M : Type 1} → statement M

@@ -1,6 +1,7 @@
 -- `quick_intra` meets its contract: the words of a well-formed record of type 0. Assumes nothing.
 use mathlib.Core.Path.{_∙_}
 use mathlib.Core.Bool.{_&&_}
+use Rattle.definitions.specs.Record.{narrow}
 use Rattle.scan.proofs.Intra.{intra-is}
 use borrow.Author.Needs.{needs}
 use Rattle.scan.proofs.quick_intra.Statement.{statement}
@@ -21,7 +22,7 @@ returns c =
     let subs = c .before .before .all-within .ensures in
     let references = c .before .all-within2 .ensures in
     let vectors = c .all-within3 .ensures in
-    (λ i. (subs i && references i) && vectors i) ∙ intra-is (start .args .words .now) (start .pre .1) (start .pre .2)
+    (λ i. (subs i && references i) && vectors i) ∙ intra-is narrow (start .args .words .now) (start .pre .1) (start .pre .2)
 
 pub quick-intra-spec : {M : Type 1} → statement M
 quick-intra-spec =

@@ -1,4 +1,5 @@
 -- `quick_quadrant` meets its contract: the vectors of its four blocks, and its sub-partitions. Assumes nothing.
+use Rattle.definitions.specs.Record.{narrow}
 use Rattle.scan.proofs.Quarters.{quadrant-is}
 use borrow.Author.Needs.{needs}
 use Rattle.scan.proofs.quick_quadrant.Statement.{statement}
@@ -40,7 +41,7 @@ same-in-quadrant-requires c κs = search needs
 returns : tie.Need-returns
 returns c =
     let a = c .before .before .before .before .before .args in
-    quadrant-is (a .words .now) (a .q) (search needs)
+    quadrant-is (a .words .now) (a .q) (search needs) narrow
     (c .before .before .before .before .block-vectors .ensures) (c .before .before .before .block-vectors2 .ensures) (c .before .before .block-vectors3 .ensures) (c .before .block-vectors4 .ensures) (c .same-in-quadrant .ensures)
 
 pub quick-quadrant-spec : {M : Type 1} → statement M

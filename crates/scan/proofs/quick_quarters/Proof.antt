@@ -1,32 +1,35 @@
--- `quick_quarters` meets its contract: rules 1 to 4, and the quadrants passed are right. Assumes nothing.
+-- `quick_quarters` meets its contract: rules 2 to 4, and the quadrants passed are right. Assumes nothing.
 use Prim.Native.Nat.{_-_, _≤_}
 use mathlib.Core.Path.{_≡_, sym, _∙_}
 use mathlib.Core.Bool.{true}
 use borrow.Author.Tests.{not-true, not-false}
 use Rattle.definitions.specs.Basics.{allBelow}
-use Rattle.records.proofs.Searches.{search-none, search-more, search-end}
+use Rattle.definitions.specs.Record.{narrow}
+use Rattle.records.proofs.Searches.{search-none, search-more, search-end, search-fault}
 use Rattle.scan.specs.Quick.{quadrantRight}
-use Rattle.scan.proofs.Quarters.{head-broken, quadrant-broken, quarters-formed}
+use Rattle.scan.proofs.Kept.{at-first, at-second}
+use Rattle.scan.proofs.Quarters.{quarters-is}
 use borrow.Author.Needs.{needs}
 use Rattle.scan.proofs.quick_quarters.Statement.{statement}
 use Rattle.scan.proofs.quick_quarters.Tie as tie
 
 abbrev Inv-loop : tie.InvT-loop
-Inv-loop words q₀ q = (q ≤ 4) × (allBelow q (quadrantRight words) ≡ true)
+Inv-loop words q₀ q = (q ≤ 4) × (allBelow q (quadrantRight narrow words) ≡ true)
 
 abbrev μ-loop : tie.MeasureT-loop
 μ-loop words q₀ q = 4 - q
 
-head-rule-requires : tie.Need-head-rule-requires Inv-loop μ-loop
-head-rule-requires c κs = search needs
+quarters-head-requires : tie.Need-quarters-head-requires Inv-loop μ-loop
+quarters-head-requires c κs = search needs
 
 returns : tie.Need-returns Inv-loop μ-loop
 returns c =
     let start = c .before .before in
-    head-broken (start .args .words .now) (start .pre .1) (start .pre .2) (λ e. c .if1 .taken (c .before .head-rule .ensures ∙ e))
+    let words = start .args .words .now in
+    at-first (allBelow 4 (quadrantRight narrow words)) (c .before .quarters-head .ensures) (quarters-is narrow words (start .pre .1) (start .pre .2)) (c .if1 .taken)
 
 loop-holds : tie.Need-loop-holds Inv-loop μ-loop
-loop-holds c = (search needs, search-none (quadrantRight (c .before .before .args .words .now)))
+loop-holds c = (search needs, search-none (quadrantRight narrow (c .before .before .args .words .now)))
 
 quick-quadrant-requires : tie.Need-quick-quadrant-requires Inv-loop μ-loop
 quick-quadrant-requires c κs = search needs
@@ -34,7 +37,9 @@ quick-quadrant-requires c κs = search needs
 returns-2 : tie.Need-returns-2 Inv-loop μ-loop
 returns-2 c =
     let start = c .before .before .before .before .before .before in
-    quadrant-broken (start .args .words .now) (start .pre .1) (start .pre .2) (c .before .before .before .loop .q) (c .before .before .loop-test .taken) (sym (c .before .quick-quadrant .ensures) ∙ not-true _ (c .if2 .taken))
+    let words = start .args .words .now in
+    at-second (allBelow 4 (quadrantRight narrow words)) (c .before .before .before .before .before .quarters-head .ensures) (quarters-is narrow words (start .pre .1) (start .pre .2)) (c .before .before .before .before .if1 .left)
+    (sym (search-fault (quadrantRight narrow words) 4 (c .before .before .before .loop .q) (c .before .before .loop-test .taken) (sym (c .before .quick-quadrant .ensures) ∙ not-true _ (c .if2 .taken))))
 
 add-q : tie.Need-add-q Inv-loop μ-loop
 add-q c = search needs
@@ -45,16 +50,15 @@ loop-less c = search needs
 loop-again : tie.Need-loop-again Inv-loop μ-loop
 loop-again c =
     let l = c .before .before .before .loop in
-    (search needs, search-more (quadrantRight (c .before .before .before .before .before .before .args .words .now)) (l .q) (l .inv .1) (sym (c .before .quick-quadrant .ensures) ∙ not-false _ (c .if2 .left)))
+    (search needs, search-more (quadrantRight narrow (c .before .before .before .before .before .before .args .words .now)) (l .q) (l .inv .1) (sym (c .before .quick-quadrant .ensures) ∙ not-false _ (c .if2 .left)))
 
 returns-3 : tie.Need-returns-3 Inv-loop μ-loop
 returns-3 c =
     let start = c .before .before .before .before in
     let words = start .args .words .now in
     let l = c .before .loop in
-    sym
-    (quarters-formed words (start .pre .1) (start .pre .2) (sym (c .before .before .before .head-rule .ensures) ∙ c .before .before .if1 .left)
-    (search-end (quadrantRight words) 4 (l .q) (l .inv .0) (c .loop-test .left) (l .inv .1)))
+    at-second (allBelow 4 (quadrantRight narrow words)) (c .before .before .before .quarters-head .ensures) (quarters-is narrow words (start .pre .1) (start .pre .2)) (c .before .before .if1 .left)
+    (sym (search-end (quadrantRight narrow words) 4 (l .q) (l .inv .0) (c .loop-test .left) (l .inv .1)))
 
 pub quick-quarters-spec : {M : Type 1} → statement M
 quick-quarters-spec =
@@ -62,7 +66,7 @@ quick-quarters-spec =
     (tie.spec
     Inv-loop
     μ-loop
-    head-rule-requires
+    quarters-head-requires
     returns
     loop-holds
     quick-quadrant-requires

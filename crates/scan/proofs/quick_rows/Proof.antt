@@ -1,6 +1,7 @@
 -- `quick_rows` meets its contract: blocks 0 and 8 are right, and the others of their halves are as they. Assumes nothing.
 use mathlib.Core.Path.{refl}
 use mathlib.Core.Bool.{_&&_}
+use Rattle.definitions.specs.Record.{narrow}
 use Rattle.scan.proofs.Kept.{at-first, at-second}
 use Rattle.scan.proofs.Undivided.{not-4, rowsParts, rows-is}
 use borrow.Author.Needs.{needs}
@@ -14,7 +15,7 @@ returns : tie.Need-returns
 returns c =
     let start = c .before .before in
     let words = start .args .words .now in
-    at-first (rowsParts words) (c .before .undivided-head .ensures) (rows-is words (start .pre .1) (start .pre .2)) (c .if1 .taken)
+    at-first (rowsParts narrow words) (c .before .undivided-head .ensures) (rows-is narrow words (start .pre .1) (start .pre .2)) (c .if1 .taken)
 
 block-right-requires : tie.Need-block-right-requires
 block-right-requires c κs = search needs
@@ -52,7 +53,7 @@ returns-2 c =
     let upper = c .before .before .vectors-repeat .ensures in
     let v9 = c .before .same-vectors2 .ensures in
     let lower = c .vectors-repeat2 .ensures in
-    at-second (rowsParts words) (c .before .before .before .before .before .before .before .before .before .undivided-head .ensures) (rows-is words (start .pre .1) (start .pre .2)) (c .before .before .before .before .before .before .before .before .if1 .left)
+    at-second (rowsParts narrow words) (c .before .before .before .before .before .before .before .before .before .undivided-head .ensures) (rows-is narrow words (start .pre .1) (start .pre .2)) (c .before .before .before .before .before .before .before .before .if1 .left)
     (λ i. ((((((b0 i && b8 i) && s1 i) && s3 i) && v1 i) && upper i) && v9 i) && lower i)
 
 pub quick-rows-spec : {M : Type 1} → statement M

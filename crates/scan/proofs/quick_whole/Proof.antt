@@ -1,6 +1,7 @@
 -- `quick_whole` meets its contract: block 0 is right, and the others are as it. Assumes nothing.
 use mathlib.Core.Path.{refl}
 use mathlib.Core.Bool.{_&&_}
+use Rattle.definitions.specs.Record.{narrow}
 use Rattle.scan.proofs.Kept.{at-first, at-second}
 use Rattle.scan.proofs.Undivided.{not-4, wholeParts, whole-is}
 use borrow.Author.Needs.{needs}
@@ -14,7 +15,7 @@ returns : tie.Need-returns
 returns c =
     let start = c .before .before in
     let words = start .args .words .now in
-    at-first (wholeParts words) (c .before .undivided-head .ensures) (whole-is words (start .pre .1) (start .pre .2)) (c .if1 .taken)
+    at-first (wholeParts narrow words) (c .before .undivided-head .ensures) (whole-is narrow words (start .pre .1) (start .pre .2)) (c .if1 .taken)
 
 block-right-requires : tie.Need-block-right-requires
 block-right-requires c κs = search needs
@@ -44,7 +45,7 @@ returns-2 c =
     let s3 = c .before .before .same-references3 .ensures in
     let v1 = c .before .same-vectors .ensures in
     let v2 = c .vectors-repeat .ensures in
-    at-second (wholeParts words) (c .before .before .before .before .before .before .before .undivided-head .ensures) (whole-is words (start .pre .1) (start .pre .2)) (c .before .before .before .before .before .before .if1 .left)
+    at-second (wholeParts narrow words) (c .before .before .before .before .before .before .before .undivided-head .ensures) (whole-is narrow words (start .pre .1) (start .pre .2)) (c .before .before .before .before .before .before .if1 .left)
     (λ i. ((((b0 i && s1 i) && s2 i) && s3 i) && v1 i) && v2 i)
 
 pub quick-whole-spec : {M : Type 1} → statement M

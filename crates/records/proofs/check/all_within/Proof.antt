@@ -2,21 +2,21 @@
 use borrow.Author.Needs.{needs}
 use Prim.Native.Nat.{_+_, _-_, _≤_}
 use mathlib.Core.Path.{_≡_, sym}
-use Rattle.definitions.specs.Basics.{allBelow}
+use Rattle.definitions.specs.Basics.{between, allBelow}
 use Rattle.definitions.specs.Record.{wordOf}
-use Rattle.records.specs.Checking.{liesIn, allWithin}
+use Rattle.records.specs.Checking.{allWithin}
 use Rattle.records.proofs.Searches.{search-none, below-more, search-end}
 use Rattle.records.proofs.check.all_within.Statement.{statement}
 use Rattle.records.proofs.check.all_within.Tie as tie
 
 abbrev Inv-loop : tie.InvT-loop
-Inv-loop words first count range right₀ k₀ right k = (k ≤ count) × (right ≡ allBelow k (λ k. liesIn range (wordOf words (first + k))))
+Inv-loop words first count range right₀ k₀ right k = (k ≤ count) × (right ≡ allBelow k (λ k. between (range .low) (range .high) (wordOf words (first + k))))
 
 abbrev μ-loop : tie.MeasureT-loop
 μ-loop words first count range right₀ k₀ right k = count - k
 
 loop-holds : tie.Need-loop-holds Inv-loop μ-loop
-loop-holds c = (search needs, sym (search-none (λ k. liesIn (c .args .range) (wordOf (c .args .words .now) (c .args .first + k)))))
+loop-holds c = (search needs, sym (search-none (λ k. between (c .args .range .low) (c .args .range .high) (wordOf (c .args .words .now) (c .args .first + k)))))
 
 add-word-within : tie.Need-add-word-within Inv-loop μ-loop
 add-word-within c = search needs
@@ -34,14 +34,14 @@ loop-again : tie.Need-loop-again Inv-loop μ-loop
 loop-again c =
     let a = c .before .before .before .args in
     let l = c .before .before .loop in
-    (search needs, below-more (λ k. liesIn (a .range) (wordOf (a .words .now) (a .first + k))) (l .k) (l .inv .1) (c .word-within .ensures))
+    (search needs, below-more (λ k. between (a .range .low) (a .range .high) (wordOf (a .words .now) (a .first + k))) (l .k) (l .inv .1) (c .word-within .ensures))
 
 returns : tie.Need-returns Inv-loop μ-loop
 unfolding allWithin
 returns c =
     let a = c .before .before .args in
     let l = c .before .loop in
-    sym (search-end (λ k. liesIn (a .range) (wordOf (a .words .now) (a .first + k))) (a .count) (l .k) (l .inv .0) (c .loop-test .left) (sym (l .inv .1)))
+    sym (search-end (λ k. between (a .range .low) (a .range .high) (wordOf (a .words .now) (a .first + k))) (a .count) (l .k) (l .inv .0) (c .loop-test .left) (sym (l .inv .1)))
 
 pub all-within-spec : {M : Type 1} → statement M
 all-within-spec =

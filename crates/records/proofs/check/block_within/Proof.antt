@@ -2,7 +2,7 @@
 use borrow.Author.Needs.{needs}
 use mathlib.Core.Path.{_∙_}
 use mathlib.Core.Bool.{_&&_}
-use Rattle.records.specs.Checking.{liesIn}
+use Rattle.definitions.specs.Basics.{between}
 use Rattle.records.proofs.Ranges.{block-words}
 use Rattle.records.proofs.check.block_within.Statement.{statement}
 use Rattle.records.proofs.check.block_within.Tie as tie
@@ -35,7 +35,7 @@ returns c =
     let w1 = c .before .before .word-within2 .ensures in
     let w2 = c .before .word-within3 .ensures in
     let w3 = c .word-within4 .ensures in
-    (λ i. ((w0 i && w1 i) && w2 i) && w3 i) ∙ block-words (a .words .now) (liesIn (a .range0)) (liesIn (a .range1)) (a .first)
+    (λ i. ((w0 i && w1 i) && w2 i) && w3 i) ∙ block-words (a .words .now) (between (a .range0 .low) (a .range0 .high)) (between (a .range1 .low) (a .range1 .high)) (a .first)
 
 pub block-within-spec : {M : Type 1} → statement M
 block-within-spec =

@@ -1,0 +1,270 @@
+// The rules of a well-formed motion record, once for both widths (document 02, E12): on the words of one record in 32 bits, with the limit of vectors as an argument.
+ghost use mathlib.Core.Path.{_≡_};
+ghost use Prim.Native.Nat.{ℕ, _+_, _-_, _≤_, _<_};
+ghost use lib.IntN.{ℤ, pos};
+ghost use lib.ListN.{length};
+ghost use Rattle.definitions.specs.Basics.{between, eqZ, minus};
+ghost use Rattle.definitions.specs.Blocks.{quadrantOf};
+ghost use Rattle.definitions.specs.Record.{firstBroken, motionOf, recordWords, rule2, rule4, rule5, rule6, subSplitOf, subTypeOf, used, vectorWord, wide, wordOf};
+ghost use Rattle.definitions.specs.Splits.{sameMotion};
+ghost use Rattle.records.specs.Checking.{allWithin, firstBlockOf, foundAt, listRight, quadrantUsed, subFirstBlock};
+use common::refusals;
+use definitions::Refusal;
+use definitions::Verdict;
+use records::layout;
+
+// A list that is not used.
+const UNUSED: i32 = layout::UNUSED as i32;
+
+// low..high, both included
+struct Range {
+    low: i32,
+    high: i32,
+}
+
+const TYPES: Range = Range { low: 0, high: 4 };
+
+const SUB_TYPES: Range = Range { low: 0, high: 3 };
+
+const REFERENCES: Range = Range {
+    low: UNUSED,
+    high: 31,
+};
+
+const DETAILS: Range = Range { low: 0, high: 15 };
+
+const ONLY_UNUSED: Range = Range {
+    low: UNUSED,
+    high: UNUSED,
+};
+
+const ONLY_ZERO: Range = Range { low: 0, high: 0 };
+
+// ---- Rules 1 to 4: words 0 to 12
+fn word_within(words: &[i32], w: usize, range: Range) -> bool
+    requires { ⌜ (length (now words) ≡ recordWords) × (w < recordWords) ⌝ }
+    ensures { λ t. ⌜ t ≡ between (range .low) (range .high) (wordOf (now (words .entry)) w) ⌝ }
+{
+    let word = words[w];
+    (range.low <= word) & (word <= range.high)
+}
+
+// Count words from the first on are in the range.
+fn all_within(words: &[i32], first: usize, count: usize, range: Range) -> bool
+    requires { ⌜ (first + count ≤ length (now words)) × (length (now words) ≡ recordWords) ⌝ }
+    ensures { λ t. ⌜ t ≡ allWithin (now (words .entry)) first count (range .low) (range .high) ⌝ }
+{
+    let mut right = true;
+    let mut k: usize = 0;
+    while k < count {
+        right = right & word_within(words, first + k, range);
+        k += 1;
+    }
+    right
+}
+
+// Rule 2.
+fn sub_types_right(words: &[i32]) -> bool
+    requires { ⌜ length (now words) ≡ recordWords ⌝ }
+    ensures { λ t. ⌜ t ≡ rule2 (now (words .entry)) ⌝ }
+{
+    if words[layout::TYPE] == 4 {
+        return all_within(words, layout::SUB_TYPES, 4, SUB_TYPES);
+    }
+    all_within(words, layout::SUB_TYPES, 4, ONLY_ZERO)
+}
+
+// Quadrant q has a used list.
+fn quadrant_used(words: &[i32], q: usize) -> bool
+    requires { ⌜ (length (now words) ≡ recordWords) × (q < 4) ⌝ }
+    ensures { λ t. ⌜ t ≡ quadrantUsed (now (words .entry)) q ⌝ }
+{
+    let first = layout::REFERENCES + 2 * q;
+    (words[first] != UNUSED) | (words[first + 1] != UNUSED)
+}
+
+// Rule 4.
+fn usage_right(words: &[i32]) -> bool
+    requires { ⌜ length (now words) ≡ recordWords ⌝ }
+    ensures { λ t. ⌜ t ≡ rule4 (now (words .entry)) ⌝ }
+{
+    if words[layout::TYPE] == 0 {
+        return all_within(words, layout::REFERENCES, 8, ONLY_UNUSED);
+    }
+    quadrant_used(words, 0)
+        & quadrant_used(words, 1)
+        & quadrant_used(words, 2)
+        & quadrant_used(words, 3)
+}
+
+// ---- Rule 5
+// Vector words of a used list: -limit..limit - 1.
+fn vectors_within(limit: u32) -> Range
+    requires { ⌜ (0 < limit) × (limit ≤ wide) ⌝ }
+    ensures { λ range. ⌜ (range .low ≡ minus limit) × (range .high ≡ pos (limit - 1)) ⌝ }
+{
+    let above = limit as i32;
+    Range {
+        low: -above,
+        high: above - 1,
+    }
+}
+
+// The range that the reference at word w allows its vector words.
+fn range_by(words: &[i32], w: usize, limit: u32) -> Range
+    requires { ⌜ (length (now words) ≡ recordWords) × (w < recordWords) × (0 < limit) × (limit ≤ wide) ⌝ }
+    ensures { λ range. ⌜ ((v : ℤ) → between (range .low) (range .high) v ≡ vectorWord limit (used (wordOf (now (words .entry)) w)) v) ⌝ }
+{
+    if words[w] == UNUSED {
+        return ONLY_ZERO;
+    }
+    vectors_within(limit)
+}
+
+// The vector of block b in list l.
+fn list_right(words: &[i32], b: usize, l: usize, limit: u32) -> bool
+    requires { ⌜ (length (now words) ≡ recordWords) × (b < 16) × (l < 2) × (0 < limit) × (limit ≤ wide) ⌝ }
+    ensures { λ t. ⌜ t ≡ listRight limit (now (words .entry)) b l ⌝ }
+{
+    let q = 2 * (b / 8) + b % 4 / 2;
+    let range = range_by(words, layout::REFERENCES + 2 * q + l, limit);
+    let first = layout::VECTORS + 4 * b + 2 * l;
+    word_within(words, first, range) & word_within(words, first + 1, range)
+}
+
+fn vectors_right(words: &[i32], limit: u32) -> bool
+    requires { ⌜ (length (now words) ≡ recordWords) × (0 < limit) × (limit ≤ wide) ⌝ }
+    ensures { λ t. ⌜ t ≡ rule5 limit (now (words .entry)) ⌝ }
+{
+    let mut right = true;
+    let mut b: usize = 0;
+    while b < 16 {
+        right = right & (list_right(words, b, 0, limit) & list_right(words, b, 1, limit));
+        b += 1;
+    }
+    right
+}
+
+// ---- Rule 6: one motion in each piece
+// The first block of the piece that block b stands in: of a sub-partition,
+fn sub_first_block(words: &[i32], b: usize) -> usize
+    requires { ⌜ (length (now words) ≡ recordWords) × (b < 16) ⌝ }
+    ensures { λ d. ⌜ (d ≡ subFirstBlock (subSplitOf (subTypeOf (now (words .entry)) (quadrantOf b))) b) × (d < 16) ⌝ }
+{
+    let q = 2 * (b / 8) + b % 4 / 2;
+    let sub = words[layout::SUB_TYPES + q];
+    if sub == 0 {
+        return b / 8 * 8 + b % 4 / 2 * 2;
+    }
+    if sub == 1 {
+        return b / 2 * 2;
+    }
+    if sub == 2 {
+        return b / 8 * 8 + b % 4;
+    }
+    b
+}
+
+// and by the type. An intra record has no pieces: each block stands for itself.
+fn first_block(words: &[i32], b: usize) -> usize
+    requires { ⌜ (length (now words) ≡ recordWords) × (b < 16) ⌝ }
+    ensures { λ d. ⌜ (d ≡ firstBlockOf (now (words .entry)) b) × (d < 16) ⌝ }
+{
+    let kind = words[layout::TYPE];
+    if kind == 0 {
+        return b;
+    }
+    if kind == 1 {
+        return 0;
+    }
+    if kind == 2 {
+        return b / 8 * 8;
+    }
+    if kind == 3 {
+        return b % 4 / 2 * 2;
+    }
+    sub_first_block(words, b)
+}
+
+// Words v and w are the same.
+fn same_word(words: &[i32], v: usize, w: usize) -> bool
+    requires { ⌜ (length (now words) ≡ recordWords) × (v < recordWords) × (w < recordWords) ⌝ }
+    ensures { λ t. ⌜ t ≡ eqZ (wordOf (now (words .entry)) v) (wordOf (now (words .entry)) w) ⌝ }
+{
+    words[v] == words[w]
+}
+
+// Blocks b and d have the same motion: the references of their quadrants, and their vectors.
+fn same_motion(words: &[i32], b: usize, d: usize) -> bool
+    requires { ⌜ (length (now words) ≡ recordWords) × (b < 16) × (d < 16) ⌝ }
+    ensures { λ t. ⌜ t ≡ sameMotion (motionOf (now (words .entry)) b) (motionOf (now (words .entry)) d) ⌝ }
+{
+    let r = layout::REFERENCES + 2 * (2 * (b / 8) + b % 4 / 2);
+    let s = layout::REFERENCES + 2 * (2 * (d / 8) + d % 4 / 2);
+    let references = same_word(words, r, s) & same_word(words, r + 1, s + 1);
+    let v = layout::VECTORS + 4 * b;
+    let w = layout::VECTORS + 4 * d;
+    let vectors = same_word(words, v, w)
+        & same_word(words, v + 1, w + 1)
+        & same_word(words, v + 2, w + 2)
+        & same_word(words, v + 3, w + 3);
+    references & vectors
+}
+
+fn pieces_right(words: &[i32]) -> bool
+    requires { ⌜ length (now words) ≡ recordWords ⌝ }
+    ensures { λ t. ⌜ t ≡ rule6 (now (words .entry)) ⌝ }
+{
+    let mut same = true;
+    let mut b: usize = 0;
+    while b < 16 {
+        same = same & same_motion(words, b, first_block(words, b));
+        b += 1;
+    }
+    same
+}
+
+// ---- The record
+// The first broken rule, or 0.
+pub fn first_broken(words: &[i32], limit: u32) -> u32
+    requires { ⌜ (length (now words) ≡ recordWords) × (0 < limit) × (limit ≤ wide) ⌝ }
+    ensures { λ rule. ⌜ rule ≡ firstBroken limit (now (words .entry)) ⌝ }
+{
+    if !all_within(words, layout::TYPE, 1, TYPES) {
+        return 1;
+    }
+    if !sub_types_right(words) {
+        return 2;
+    }
+    if !all_within(words, layout::REFERENCES, 8, REFERENCES) {
+        return 3;
+    }
+    if !usage_right(words) {
+        return 4;
+    }
+    if !vectors_right(words, limit) {
+        return 5;
+    }
+    if !pieces_right(words) {
+        return 6;
+    }
+    if !all_within(words, layout::DETAIL, 1, DETAILS) {
+        return 7;
+    }
+    0
+}
+
+// What a check says that ended at an address with a broken rule, or with none.
+pub fn found(a: usize, rule: u32) -> Verdict
+    requires { ⌜ a ≤ 65536 ⌝ }
+    ensures { λ v. ⌜ v ≡ foundAt a rule ⌝ }
+{
+    if rule == 0 {
+        return Verdict::Accepted;
+    }
+    Verdict::Refused(Refusal {
+        number: refusals::RECORD,
+        place: a as u32,
+        rule,
+    })
+}
