@@ -55,8 +55,8 @@ pub fn down_of(width: usize, y: u16) -> Spot
     }
 }
 
-// A word of the base.
-fn word_at(base: &[i16], at: usize) -> i32
+// A word, in 32 bits.
+pub fn word_at(base: &[i16], at: usize) -> i32
     requires { ⌜ at < length (now base) ⌝ }
     ensures { λ r. ⌜ r ≡ getD (now (base .entry)) at (pos 0) ⌝ }
 {

@@ -1,7 +1,7 @@
 -- Laws that the proofs of the functions cite.
 pub mod Paper
 pub mod Reading
-mod Making
-mod Motions
+pub mod Making
+pub mod Motions
 mod Saying
-mod Single
+pub mod Single

@@ -7,6 +7,7 @@ use native.Mathlib.Omega.{arith}
 use lib.IntN.{ℤ, pos, natAbs}
 use lib.ListN.{getD}
 use Rattle.definitions.specs.declared.Motion.{Motion}
+use Rattle.definitions.specs.declared.Answer.the-variants.{Inherited as InheritedAnswer, Intra as IntraAnswer}
 use Rattle.motion.specs.declared.BlockMotion.{BlockMotion}
 use Rattle.gather.specs.declared.Corners.{Corners}
 use Rattle.macroblock.specs.declared.AxisRead.{AxisRead}
@@ -37,7 +38,7 @@ use mir.Syntax.{w8, w16}
 use mir.Val.{Fits, SFits, toZ}
 use Rattle.gather.specs.Reads.{Readable, ReadableAt, Rising, beside, cornersBy, gatheredBy, motionBy, motionRead, setAmong}
 use Rattle.gather.proofs.Sets.{set-corners}
-use Rattle.macroblock.specs.Made.{answerBy, answerFor, basisBy, detailInside, inheritedInside, motionsInside, resolvedInside, setInside, sortBy, sortInside, writtenBy, writtenInside}
+use Rattle.macroblock.specs.Made.{answerBy, answerFor, answerSaid, basisBy, basisWith, detailInside, inheritedInside, motionsInside, resolvedInside, saidBy, setInside, sortBy, sortInside, splitIn, within, writtenBy, writtenInside}
 use Rattle.macroblock.proofs.Motions.{Kept, read-kept}
 use Rattle.macroblock.proofs.Single.{all-or-none}
 
@@ -161,19 +162,14 @@ module _ (f : Fixed) (h v : AxisRead) (base : List ℤ) where
   placed-out e q = (sym (no _ _ e), q ∙ sym (no _ _ e))
 
 -- ---- the answer, its detail, and where it inherits the split that its record says
-abbrev pub placed : Sort → Bool
-placed Inherited = true
-placed Intra = true
-placed Outside = false
-
 module _ (f : Fixed) (h v : AxisRead) (base : List ℤ) where
-  pub sort-inside : {s : Sort} → s ≡ sortBy f h v base → placed s ≡ true → (h .inside && v .inside) ≡ true
+  pub sort-inside : {s : Sort} → s ≡ sortBy f h v base → within s ≡ true → (h .inside && v .inside) ≡ true
   unfolding sortBy
   sort-inside {s} e p = by (h .inside && v .inside) refl
     where
       by : (t : Bool) → (h .inside && v .inside) ≡ t → t ≡ true
       by true q = refl
-      by false q = absurd (true≢false (sym p ∙ ap placed (e ∙ no _ _ q)))
+      by false q = absurd (true≢false (sym p ∙ ap within (e ∙ no _ _ q)))
 
   written-detail : (h .inside && v .inside) ≡ true → {words : List ℤ} → words ≡ writtenBy f h v base → detailOf words ≡ pos (detailInside f (h .reads) (v .reads) base)
   unfolding writtenBy writtenInside inheritedInside
@@ -184,15 +180,21 @@ module _ (f : Fixed) (h v : AxisRead) (base : List ℤ) where
       ∙ pick-cases (λ (l : List ℤ). detailOf l ≡ D) (mostlyIntra (setInside f (h .reads) (v .reads) base)) (withoutMotion 0 D) (laidOut (dividedBy (chosen m) (motionAt m) D))
       (λ t. laid-detail (allOne 0 unusedMotion D)) (λ t. laid-detail (dividedBy (chosen m) (motionAt m) D))
 
-  -- the record of an answer that is not outside says its detail
-  pub says-detail : {s : Sort} → s ≡ sortBy f h v base → placed s ≡ true → {words : List ℤ} → words ≡ writtenBy f h v base
-      → (rule7 words ≡ true) × (natAbs (detailOf words) ≡ detailInside f (h .reads) (v .reads) base)
+  -- inside or out, the record keeps rule 7, and inside it says the detail
+  detail-kept : (words : List ℤ) (d : ℕ) → d < 16 → detailOf words ≡ pos d → rule7 words ≡ true
   unfolding rule7
-  says-detail e p w =
-      let d = written-detail (sort-inside e p) w in
-      let D = detailInside f (h .reads) (v .reads) base in
-      let low = detail-low (f .width) (h .reads) (v .reads) base in
-      (ap (between (pos 0) (pos 15)) d ∙ and-intro (le-leb 0 D (omega arith)) (le-leb D 15 (omega arith)), ap natAbs d)
+  detail-kept words d low e = ap (between (pos 0) (pos 15)) e ∙ and-intro (le-leb 0 d (omega arith)) (le-leb d 15 (omega arith))
+
+  pub keeps-detail : (words : List ℤ) → words ≡ writtenBy f h v base → rule7 words ≡ true
+  unfolding writtenBy
+  keeps-detail words w = by (h .inside && v .inside) refl
+    where
+      by : (t : Bool) → (h .inside && v .inside) ≡ t → rule7 words ≡ true
+      by true e = detail-kept words (detailInside f (h .reads) (v .reads) base) (detail-low (f .width) (h .reads) (v .reads) base) (written-detail e w)
+      by false e = detail-kept words 0 (omega arith) (ap detailOf (w ∙ no _ _ e) ∙ laid-detail (allOne 5 unusedMotion (pos 0)))
+
+  pub says-detail : {s : Sort} → s ≡ sortBy f h v base → within s ≡ true → {words : List ℤ} → words ≡ writtenBy f h v base → natAbs (detailOf words) ≡ detailInside f (h .reads) (v .reads) base
+  says-detail e p w = ap natAbs (written-detail (sort-inside e p) w)
 
 inherits : Sort → Bool
 inherits Inherited = true
@@ -206,12 +208,25 @@ told true false a b c e = refl
 told false u a b c e = absurd (true≢false (sym e))
 
 module _ (f : Fixed) (h v : AxisRead) (base : List ℤ) where
-  pub answered : {s : Sort} → s ≡ sortBy f h v base → answerFor s (basisBy f h v base) (motionsInside f (h .reads) (v .reads) base) ≡ answerBy f h v base
+  answered : {s : Sort} → s ≡ sortBy f h v base → answerFor s (basisBy f h v base) (motionsInside f (h .reads) (v .reads) base) ≡ answerBy f h v base
   unfolding answerBy
   answered e = ap (λ (s : Sort). answerFor s (basisBy f h v base) (motionsInside f (h .reads) (v .reads) base)) e
 
-  pub split-is : Inherited ≡ sortBy f h v base → {words : List ℤ} → words ≡ writtenBy f h v base → splitSaid words ≡ chosen (motionsInside f (h .reads) (v .reads) base)
+  split-is : Inherited ≡ sortBy f h v base → {words : List ℤ} → words ≡ writtenBy f h v base → splitSaid words ≡ chosen (motionsInside f (h .reads) (v .reads) base)
   unfolding inherits sortBy writtenBy sortInside writtenInside inheritedInside
   split-is e w =
       let M = motionsInside f (h .reads) (v .reads) base in
       ap splitSaid (w ∙ told (h .inside && v .inside) (mostlyIntra (setInside f (h .reads) (v .reads) base)) _ _ _ (ap inherits (sym e))) ∙ split-said (chosen M) (motionAt M) (pos (detailInside f (h .reads) (v .reads) base))
+
+  split-in : (r : List ℤ) → splitIn (saidBy r) ≡ splitSaid r
+  unfolding splitIn splitSaid
+  split-in r = refl
+
+  -- the answer is the one that the written record says
+  pub answer-said : (s : Sort) → s ≡ sortBy f h v base → {words : List ℤ} → words ≡ writtenBy f h v base → answerSaid s h v (saidBy words) ≡ answerBy f h v base
+  answer-said Outside e w = answered e
+  answer-said Intra e w = let d = says-detail f h v base e refl w in (λ i. IntraAnswer (basisWith h v (d i))) ∙ answered e
+  answer-said Inherited e {words} w =
+      let d = says-detail f h v base e refl w in
+      let k = split-in words ∙ split-is e w in
+      (λ i. InheritedAnswer (basisWith h v (d i)) (k i)) ∙ answered e

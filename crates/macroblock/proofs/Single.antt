@@ -135,14 +135,14 @@ module _ {limit : ℕ} (f : Fixed) (across down : List ℕ) (base : List ℤ) (r
     pub one-read : (eqZ (typeOf it) (pos 1) || ((onePart 2 across && onePart 2 down) && eqZ (subTypeOf it (quadrantOf block)) (pos 0))) ≡ true → AllRead
     one-read e =
         ⊎-elim
-        (λ t. by-blocks (λ i l. whole it (first-readable .formed) not-intra (blockOf i) block (omega arith) (omega arith) t))
+        (λ t. by-blocks (λ i l. whole limit it (first-readable .formed) not-intra (blockOf i) block (omega arith) (omega arith) t))
         (λ t.
         let quarter = both-true (onePart 2 across && onePart 2 down) (eqZ (subTypeOf it (quadrantOf block)) (pos 0)) t in
         let halves = both-true (onePart 2 across) (onePart 2 down) (quarter .0) in
         by-blocks (λ i l.
         let p = one-part 2 across (omega arith) (ready .columns) (halves .0) (i % 4) (omega arith) in
         let q = one-part 2 down (omega arith) (ready .rows) (halves .1) (i / 4) (omega arith) in
-        undivided it (first-readable .formed) not-intra (blockOf i) block (omega arith) (omega arith) (same-quadrant _ _ x y p q) (quarter .1)))
+        undivided limit it (first-readable .formed) not-intra (blockOf i) block (omega arith) (omega arith) (same-quadrant _ _ x y p q) (quarter .1)))
         (either-true (eqZ (typeOf it) (pos 1)) ((onePart 2 across && onePart 2 down) && eqZ (subTypeOf it (quadrantOf block)) (pos 0)) e)
 
     module _ (all : AllRead) where

@@ -120,6 +120,12 @@ splitIn s =
     (pick (eqZ (s .kind) (pos 3)) S8x16
     (Quarters (record { a = subSplitOf (s .a); b = subSplitOf (s .b); c = subSplitOf (s .c); d = subSplitOf (s .d) }))))
 
+-- a sort of the window's inside
+abbrev pub within : Sort → Bool
+within SortInherited = true
+within SortIntra = true
+within SortOutside = false
+
 abbrev pub answerSaid : Sort → AxisRead → AxisRead → Said → Answer
 answerSaid SortOutside h v s = Outside
 answerSaid SortIntra h v s = Intra (basisWith h v (s .detail))

@@ -8,7 +8,7 @@ ghost use Rattle.definitions.specs.Inheriting.{filled, merged, resolved};
 ghost use Rattle.definitions.specs.Record.{narrow, recordWords, rule7, subSplitOf};
 ghost use Rattle.details.specs.Bits.{detailBy, halvesOf};
 ghost use Rattle.gather.specs.Reads.{Readable, Rising, gatheredBy, quadrantFrom, setBy};
-ghost use Rattle.macroblock.specs.Made.{Makeable, Ready, SmallRising, answerBy, answerSaid, basisWith, detailInside, fixedOf, inheritedInside, nowhere, onePart, originBy, readIn, readOf, saidBy, setInside, sortBy, sortInside, splitIn, twoRead, writtenBy, writtenInside};
+ghost use Rattle.macroblock.specs.Made.{Makeable, Ready, SmallRising, answerBy, answerSaid, basisWith, detailInside, fixedOf, inheritedInside, nowhere, onePart, originBy, readIn, readOf, saidBy, setInside, sortBy, sortInside, splitIn, twoRead, within, writtenBy, writtenInside};
 ghost use Rattle.macroblock.specs.Quadrants.{Alike, Mergeable, plainAt};
 ghost use Rattle.motion.specs.ByValue.{motionsIn, quadrantsIn};
 ghost use lib.ListN.{length};
@@ -39,6 +39,7 @@ use gather::reads_intra;
 use gather::reads_single;
 use gather::reads_whole;
 use gather::set_of;
+use gather::word_at;
 use geometry::axis_step;
 use geometry::class_of;
 use geometry::is_inside;
@@ -427,14 +428,17 @@ fn split_of(s: Said) -> Split
 
 // The answer of a sort, by what its record says.
 pub fn answer_of(sort: Sort, h: AxisRead, v: AxisRead, s: Said) -> Answer
-    requires { ⌜ (h .falls ≤ 4) × (v .falls ≤ 4) ⌝ }
+    requires { ⌜ (within sort ≡ true → (h .falls ≤ 4) × (v .falls ≤ 4)) ⌝ }
     ensures { λ r. ⌜ r ≡ answerSaid sort h v s ⌝ }
 {
-    let basis = basis_of(h, v, s.detail);
     match sort {
         Sort::Outside => Answer::Outside,
-        Sort::Intra => Answer::Intra(basis),
+        Sort::Intra => {
+            let basis = basis_of(h, v, s.detail);
+            Answer::Intra(basis)
+        }
         Sort::Inherited => {
+            let basis = basis_of(h, v, s.detail);
             let split = split_of(s);
             Answer::Inherited(basis, split)
         }
@@ -442,17 +446,17 @@ pub fn answer_of(sort: Sort, h: AxisRead, v: AxisRead, s: Said) -> Answer
 }
 
 // What a record of narrow words says.
-fn said(out: &[i16]) -> Said
+fn said_in(out: &[i16]) -> Said
     requires { ⌜ (length (now out) ≡ recordWords) × (rule7 (now out) ≡ true) ⌝ }
     ensures { λ r. ⌜ r ≡ saidBy (now (out .entry)) ⌝ }
 {
     Said {
-        kind: out[TYPE] as i32,
-        a: out[SUB_TYPES] as i32,
-        b: out[SUB_TYPES + 1] as i32,
-        c: out[SUB_TYPES + 2] as i32,
-        d: out[SUB_TYPES + 3] as i32,
-        detail: out[DETAIL] as u8,
+        kind: word_at(out, TYPE),
+        a: word_at(out, SUB_TYPES),
+        b: word_at(out, SUB_TYPES + 1),
+        c: word_at(out, SUB_TYPES + 2),
+        d: word_at(out, SUB_TYPES + 3),
+        detail: word_at(out, DETAIL) as u8,
     }
 }
 
@@ -462,6 +466,6 @@ pub fn answer(base: &[i16], f: Fixed, h: AxisRead, v: AxisRead, out: &mut [i16])
     ensures written { λ r. ⌜ now (out .exit) ≡ writtenBy f h v (now (base .entry)) ⌝ }
 {
     let sort = make(base, f, h, v, out);
-    let s = said(out);
+    let s = said_in(out);
     answer_of(sort, h, v, s)
 }
