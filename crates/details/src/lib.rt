@@ -141,7 +141,7 @@ fn four_by(bits: u32, h: [u8; 2], upper: u32, lower: u32) -> u8
     (a + 2 * b + 4 * c + 8 * d) as u8
 }
 
-fn detail_by(bits: u32, h: [u8; 2], v: [u8; 2]) -> u8
+pub fn detail_by(bits: u32, h: [u8; 2], v: [u8; 2]) -> u8
     requires { ⌜ (getD h 0 0 < 64) × (getD h 1 0 < 64) × (getD v 0 0 < 64) × (getD v 1 0 < 64) ⌝ }
     ensures { λ r. ⌜ (r ≡ fourMasked bits h v) × (r < 16) ⌝ }
 {
