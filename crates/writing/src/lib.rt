@@ -105,12 +105,13 @@ fn put_types(out: &mut [i16], t: Types)
 }
 
 // The record of four quadrants of four blocks, as steps 1 to 3 have left them: scaled, and with the fewest pieces. The split is chosen before step 4, which keeps
-// different motions different (`chosen-with` of motion's proofs/Apart).
+// different motions different (`chosen-with` of proofs/Apart).
 pub fn write_made(out: &mut [i16], s: Scales, m: [[BlockMotion; 4]; 4], detail: u8)
     requires { ⌜ (length (now out) ≡ recordWords) × AcceptedScales s × AllWritable narrow m ⌝ }
     ensures { λ _. ⌜ now (out .exit) ≡ laidOut (dividedBy (chosen (allScaled s (quadrantsIn m))) (motionAt (allScaled s (quadrantsIn m))) (pos detail)) ⌝ }
 {
-    put_types(&mut out[TYPE..REFERENCES], types_of(m));
+    let t = types_of(m);
+    put_types(&mut out[TYPE..REFERENCES], t);
     put_quadrant(out, s, 0, FIRST_BLOCK[0], m[0]);
     put_quadrant(out, s, 1, FIRST_BLOCK[1], m[1]);
     put_quadrant(out, s, 2, FIRST_BLOCK[2], m[2]);
