@@ -1,7 +1,7 @@
 -- A vector word that is scaled by the two parts of a scale, or raised so that it is not below 0: it is the scaled word, and each step fits. Assumes nothing.
 use Prim.Native.Nat.{ℕ, zero, suc, _+_, _*_, _-_, _/_, _≤_, _<_, _^_}
 use mathlib.Core.Path.{_≡_, refl, sym, ap, subst, _∙_}
-use mathlib.Core.Bool.{true}
+use mathlib.Core.Bool.{true, true≢false}
 use native.Mathlib.Nat.{mul-le-mul}
 use native.Mathlib.Omega.{arith}
 use lib.IntN.{ℤ, pos, negsuc, negℤ, natAbs, subℕ, _+ℤ_, _*ℤ_, +ℤ-assoc, +ℤ-idl, +ℤ-invl, *ℤ-comm}
@@ -106,7 +106,7 @@ by-size w (negsuc n) h = record { sfits = omega arith }
 
 pub size-word : (limit : ℕ) (v : ℤ) → fits limit v ≡ true → natAbs v ≤ limit
 size-word limit (pos n) e = let l = leb-true n (limit - 1) (both-true (leZ (minus limit) (pos n)) (leZ (pos n) (pos (limit - 1))) e .1) in omega arith
-size-word zero (negsuc n) e = cc
+size-word zero (negsuc n) e = absurd (true≢false (sym e))
 size-word (suc l) (negsuc n) e = let h = leb-true n l (both-true (leZ (minus (suc l)) (negsuc n)) (leZ (negsuc n) (pos (suc l - 1))) e .0) in omega arith
 
 -- ---- with the limit more, a word is not below 0
