@@ -87,8 +87,10 @@ fn put_references(out: &mut [i32], m: BlockMotion)
     requires { ⌜ length (now out) ≡ 2 ⌝ }
     ensures { λ _. ⌜ now (out .exit) ≡ referencesOf (motionIn m) ⌝ }
 {
-    out[0] = m.r0;
-    out[1] = m.r1;
+    let r0 = m.r0;
+    let r1 = m.r1;
+    out[0] = r0;
+    out[1] = r1;
 }
 
 // A row of two blocks: their vectors.
@@ -96,14 +98,22 @@ fn put_pair(out: &mut [i32], a: BlockMotion, b: BlockMotion)
     requires { ⌜ length (now out) ≡ 8 ⌝ }
     ensures { λ _. ⌜ now (out .exit) ≡ vectorsOf (motionIn a) ++ vectorsOf (motionIn b) ⌝ }
 {
-    out[0] = a.x0;
-    out[1] = a.y0;
-    out[2] = a.x1;
-    out[3] = a.y1;
-    out[4] = b.x0;
-    out[5] = b.y0;
-    out[6] = b.x1;
-    out[7] = b.y1;
+    let ax0 = a.x0;
+    let ay0 = a.y0;
+    let ax1 = a.x1;
+    let ay1 = a.y1;
+    let bx0 = b.x0;
+    let by0 = b.y0;
+    let bx1 = b.x1;
+    let by1 = b.y1;
+    out[0] = ax0;
+    out[1] = ay0;
+    out[2] = ax1;
+    out[3] = ay1;
+    out[4] = bx0;
+    out[5] = by0;
+    out[6] = bx1;
+    out[7] = by1;
 }
 
 // Quadrant q, whose first block is i: its references, and its two rows of blocks.
