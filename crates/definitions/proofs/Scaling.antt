@@ -36,7 +36,7 @@ module _ (f : Motion → Motion) (apart : (m n : Motion) → f m ≡ f n → m �
       λ i. cut (ab i && cd i) (ac i && bd i)
 
   -- so the same split is chosen
-  chosen-kept : (m : List (List Motion)) → chosen (four (λ q. four (λ k. f (at m q k)))) ≡ chosen m
+  pub chosen-kept : (m : List (List Motion)) → chosen (four (λ q. four (λ k. f (at m q k)))) ≡ chosen m
   unfolding splitOf shapesOf quadrantShape
   chosen-kept m =
       let quadrant : (q : ℕ) → shapeOf (f (at m q 0)) (f (at m q 1)) (f (at m q 2)) (f (at m q 3)) ≡ shapeOf (at m q 0) (at m q 1) (at m q 2) (at m q 3) =

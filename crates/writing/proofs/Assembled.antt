@@ -1,23 +1,24 @@
--- Four quadrants that are put into a record are all its words but the types and the detail. Assumes nothing.
+-- A record that is written whole: its types, four quadrants, and the detail. Assumes nothing.
 use Prim.Native.Nat.{ℕ, zero, suc, _+_, _≤_}
 use mathlib.Core.Path.{_≡_, refl, sym, ap, _∙_}
 use mathlib.Core.List.{List, [], _∷_, _++_}
 use native.Mathlib.Omega.{arith}
 use lib.IntN.{ℤ, pos}
-use lib.ListN.{length, getD, take, drop, set}
+use lib.ListN.{length, getD, take, drop, set, length-drop}
 use lib.Seq.{take-all, take-suc}
 use Rattle.definitions.specs.declared.Motion.{Motion}
 use Rattle.definitions.specs.declared.Split.{Split}
 use Rattle.definitions.specs.Answer.{dividedBy}
-use Rattle.definitions.specs.Basics.{forEach, four, upTo}
+use Rattle.definitions.specs.Basics.{forEach, upTo}
 use Rattle.definitions.specs.Blocks.{rasterOf}
-use Rattle.definitions.specs.Inheriting.{at, motionAt}
-use Rattle.definitions.specs.Record.{laidOut, motionOf, recordWords, referencesOf, subTypeNumber, vectorsOf, wordOf}
+use Rattle.definitions.specs.Inheriting.{chosen, motionAt}
+use Rattle.definitions.specs.Record.{laidOut, recordWords, referencesOf, vectorsOf, wordOf}
 use Rattle.motion.specs.declared.Scales.{Scales}
-use Rattle.motion.specs.Scales.{allScaled}
-use Rattle.split.specs.Quadrant.{subChosen}
-use Rattle.writing.specs.Words.{quadrantPut, typeAmong}
-use Rattle.writing.proofs.Choosing.{Said}
+use Rattle.motion.specs.Scales.{AcceptedScales, allScaled}
+use Rattle.split.specs.declared.Types.{Types}
+use Rattle.split.specs.Said.{contentsBy, typeWords, typesOf}
+use Rattle.writing.specs.Words.{quadrantPut}
+use Rattle.writing.proofs.Apart.{chosen-with}
 
 -- ---- a list by its words
 words-taken : (l : List ℤ) (n : ℕ) → n ≤ length l → take n l ≡ upTo n (wordOf l)
@@ -29,56 +30,45 @@ words-taken l (suc n) h =
 by-words : (l : List ℤ) → length l ≡ recordWords → l ≡ upTo recordWords (wordOf l)
 by-words l e = sym (take-all recordWords l (omega arith)) ∙ words-taken l recordWords (omega arith)
 
-module _ (s : Scales) (m : List (List Motion)) where
+module _ (m : List (List Motion)) where
   abbrev quadrantsPut : List ℤ → List ℤ
-  quadrantsPut l =
-      quadrantPut s 3 (getD m 3 [])
-      (quadrantPut s 2 (getD m 2 [])
-      (quadrantPut s 1 (getD m 1 [])
-      (quadrantPut s 0 (getD m 0 []) l)))
-
-  abbrev made : ℕ → Motion
-  made = motionAt (allScaled s m)
+  quadrantsPut l = quadrantPut 3 (getD m 3 []) (quadrantPut 2 (getD m 2 []) (quadrantPut 1 (getD m 1 []) (quadrantPut 0 (getD m 0 []) l)))
 
   -- the references of the quadrants, and the vectors of the blocks
   abbrev motionWords : List ℤ
-  motionWords = forEach (upTo 4 (λ q. q)) (λ q. referencesOf (made (rasterOf q 0))) ++ forEach (upTo 16 (λ b. b)) (λ b. vectorsOf (made b))
+  motionWords = forEach (upTo 4 (λ q. q)) (λ q. referencesOf (motionAt m (rasterOf q 0))) ++ forEach (upTo 16 (λ b. b)) (λ b. vectorsOf (motionAt m b))
 
-  written : (f : ℕ → ℤ)
-      → quadrantsPut (upTo recordWords f)
-      ≡ f 0 ∷ f 1 ∷ f 2 ∷ f 3 ∷ f 4 ∷ (motionWords ++ (f 77 ∷ []))
-  unfolding quadrantPut allScaled upTo
+  written : (f : ℕ → ℤ) → quadrantsPut (upTo recordWords f) ≡ f 0 ∷ f 1 ∷ f 2 ∷ f 3 ∷ f 4 ∷ (motionWords ++ (f 77 ∷ []))
+  unfolding quadrantPut upTo
   written f = refl
 
-  -- the motions of the quadrants' first blocks stand there
-  among : (f : ℕ → ℤ)
-      → typeAmong (f 0 ∷ f 1 ∷ f 2 ∷ f 3 ∷ f 4 ∷ (motionWords ++ (f 77 ∷ [])))
-      ≡ subTypeNumber (subChosen (four (λ q. at (allScaled s m) q 0))) + 1
-  unfolding typeAmong motionOf upTo allScaled
-  among f = refl
+  module _ (t : Types) (l : List ℤ) (long : length l ≡ recordWords) where
+    typed-long : length (typeWords t ++ drop 5 l) ≡ recordWords
+    typed-long = simp length-drop (omega arith)
 
-  module _ (l : List ℤ) (long : length l ≡ recordWords) where
-    all-written : quadrantsPut l ≡ wordOf l 0 ∷ wordOf l 1 ∷ wordOf l 2 ∷ wordOf l 3 ∷ wordOf l 4 ∷ (motionWords ++ (wordOf l 77 ∷ []))
-    all-written = ap quadrantsPut (by-words l long) ∙ written (wordOf l)
+    typed : quadrantsPut (typeWords t ++ drop 5 l) ≡ typeWords t ++ (motionWords ++ (wordOf (typeWords t ++ drop 5 l) 77 ∷ []))
+    typed = ap quadrantsPut (by-words (typeWords t ++ drop 5 l) typed-long) ∙ written (wordOf (typeWords t ++ drop 5 l))
 
-    module _ (l1 l2 l3 l4 : List ℤ)
-        (e1 : l1 ≡ quadrantPut s 0 (getD m 0 []) l) (e2 : l2 ≡ quadrantPut s 1 (getD m 1 []) l1)
-        (e3 : l3 ≡ quadrantPut s 2 (getD m 2 []) l2) (e4 : l4 ≡ quadrantPut s 3 (getD m 3 []) l3) where
-      in-turn : l4 ≡ wordOf l 0 ∷ wordOf l 1 ∷ wordOf l 2 ∷ wordOf l 3 ∷ wordOf l 4 ∷ (motionWords ++ (wordOf l 77 ∷ []))
-      in-turn =
-          e4 ∙ ap (quadrantPut s 3 (getD m 3 []))
-          (e3 ∙ ap (quadrantPut s 2 (getD m 2 [])) (e2 ∙ ap (quadrantPut s 1 (getD m 1 [])) e1))
-          ∙ all-written
+    pub assembled : (types l1 l2 l3 l4 : List ℤ) (detail : ℤ) → types ≡ typeWords t
+        → l1 ≡ quadrantPut 0 (getD m 0 []) (types ++ drop 5 l) → l2 ≡ quadrantPut 1 (getD m 1 []) l1
+        → l3 ≡ quadrantPut 2 (getD m 2 []) l2 → l4 ≡ quadrantPut 3 (getD m 3 []) l3
+        → set l4 77 detail ≡ laidOut (contentsBy t (motionAt m) detail)
+    unfolding laidOut upTo
+    assembled types l1 l2 l3 l4 detail e e1 e2 e3 e4 =
+        ap (λ (x : List ℤ). set x 77 detail)
+        (e4 ∙ (ap (quadrantPut 3 (getD m 3 []))
+        (e3 ∙ ap (quadrantPut 2 (getD m 2 []))
+        (e2 ∙ ap (quadrantPut 1 (getD m 1 []))
+        (e1 ∙ ap (λ (x : List ℤ). quadrantPut 0 (getD m 0 []) (x ++ drop 5 l)) e)))
+        ∙ typed))
 
-      pub type-written : typeAmong l4 ≡ subTypeNumber (subChosen (four (λ q. at (allScaled s m) q 0))) + 1
-      type-written = ap typeAmong in-turn ∙ among (wordOf l)
+-- ---- by a split, and by the one that is chosen before step 4
+said : (t : Split) (m : ℕ → Motion) (detail : ℤ) → laidOut (contentsBy (typesOf t) m detail) ≡ laidOut (dividedBy t m detail)
+unfolding laidOut upTo
+said t m detail = refl
 
-      -- with the types in front of them and the detail behind them the record is whole
-      pub assembled : (types : List ℤ) (t : Split) (kind a b c d : ℕ) (detail : ℤ) → types ≡ pos kind ∷ pos a ∷ pos b ∷ pos c ∷ pos d ∷ [] → Said t kind a b c d
-          → set (types ++ drop 5 l4) 77 detail ≡ laidOut (dividedBy t made detail)
-      unfolding laidOut upTo
-      assembled types t kind a b c d detail e said =
-          let k = sym (said .type) in
-          let sub = sym (said .sub) in
-          (λ i. set (e i ++ drop 5 (in-turn i)) 77 detail)
-          ∙ (λ i. pos (k i) ∷ pos (getD (sub i) 0 0) ∷ pos (getD (sub i) 1 0) ∷ pos (getD (sub i) 2 0) ∷ pos (getD (sub i) 3 0) ∷ (motionWords ++ (detail ∷ [])))
+pub made-of : (s : Scales) → AcceptedScales s → (m : List (List Motion)) (t : Types) (detail : ℤ) → t ≡ typesOf (chosen m)
+    → laidOut (contentsBy t (motionAt (allScaled s m)) detail) ≡ laidOut (dividedBy (chosen (allScaled s m)) (motionAt (allScaled s m)) detail)
+made-of s a m t detail e =
+    let c = e ∙ ap typesOf (sym (chosen-with s a m)) in
+    (λ i. laidOut (contentsBy (c i) (motionAt (allScaled s m)) detail)) ∙ said (chosen (allScaled s m)) (motionAt (allScaled s m)) detail

@@ -1,6 +1,5 @@
--- Laws that the proofs of the functions cite.
-mod Choosing
+-- Laws that the proofs of the functions cite, here and in the crates above.
 pub mod Rounded
-mod Compared
-mod Placed
-mod Assembled
+pub mod Apart
+pub mod Placed
+pub mod Assembled

@@ -11,7 +11,6 @@ use Rattle.definitions.specs.Blocks.{rasterOf}
 use Rattle.definitions.specs.Inheriting.{zeroMotion}
 use Rattle.definitions.specs.Record.{recordWords, referencesOf}
 use Rattle.definitions.proofs.Choices.{each}
-use Rattle.motion.specs.declared.Scales.{Scales}
 use Rattle.writing.specs.Words.{pairOf, quadrantPut}
 
 -- ---- one part
@@ -33,19 +32,19 @@ put-sets l part words a n e f h =
 pub first-low : (q : ℕ) → q < 4 → getD (0 ∷ 2 ∷ 8 ∷ 10 ∷ []) q 0 ≤ 10
 first-low = each (λ q. getD (0 ∷ 2 ∷ 8 ∷ 10 ∷ []) q 0 ≤ 10) (omega arith) (omega arith) (omega arith) (omega arith)
 
-module _ (s : Scales) (m : List Motion) (l : List ℤ) (q k : ℕ) (long : length l ≡ recordWords) (h : q < 4) (first : k ≡ rasterOf q 0) where
-  pub quadrant-put : (x y z : List ℤ) (a b c : ℕ) → x ≡ referencesOf (getD m 0 zeroMotion) → y ≡ pairOf s m 0 → z ≡ pairOf s m 2 → a ≡ 2 → b ≡ 8 → c ≡ 8
-      → put (13 + 4 * (k + 4)) c (put (13 + 4 * k) b (put (5 + 2 * q) a l x) y) z ≡ quadrantPut s q m l
+module _ (m : List Motion) (l : List ℤ) (q k : ℕ) (long : length l ≡ recordWords) (h : q < 4) (first : k ≡ rasterOf q 0) where
+  pub quadrant-put : (x y z : List ℤ) (a b c : ℕ) → x ≡ referencesOf (getD m 0 zeroMotion) → y ≡ pairOf m 0 → z ≡ pairOf m 2 → a ≡ 2 → b ≡ 8 → c ≡ 8
+      → put (13 + 4 * (k + 4)) c (put (13 + 4 * k) b (put (5 + 2 * q) a l x) y) z ≡ quadrantPut q m l
   unfolding quadrantPut
   quadrant-put x y z a b c ex ey ez ea eb ec =
       let low = first-low q h in
       let one = sets l (5 + 2 * q) (referencesOf (getD m 0 zeroMotion)) in
-      let two = sets one (13 + 4 * rasterOf q 0) (pairOf s m 0) in
+      let two = sets one (13 + 4 * rasterOf q 0) (pairOf m 0) in
       let long1 : length one ≡ recordWords = length-sets l (5 + 2 * q) (referencesOf (getD m 0 zeroMotion)) ∙ long in
-      let long2 : length two ≡ recordWords = length-sets one (13 + 4 * rasterOf q 0) (pairOf s m 0) ∙ long1 in
+      let long2 : length two ≡ recordWords = length-sets one (13 + 4 * rasterOf q 0) (pairOf m 0) ∙ long1 in
       let upper : 13 + 4 * k ≡ 13 + 4 * rasterOf q 0 = omega arith in
       let lower : 13 + 4 * (k + 4) ≡ 13 + 4 * rasterOf q 2 = omega arith in
       (λ i. put (lower i) c (put (upper i) b (put (5 + 2 * q) a l x) y) z)
       ∙ (ap (λ (w : List ℤ). put (13 + 4 * rasterOf q 2) c (put (13 + 4 * rasterOf q 0) b w y) z) (put-sets l x (referencesOf (getD m 0 zeroMotion)) (5 + 2 * q) a ex ea (omega arith))
-      ∙ (ap (λ (w : List ℤ). put (13 + 4 * rasterOf q 2) c w z) (put-sets one y (pairOf s m 0) (13 + 4 * rasterOf q 0) b ey eb (omega arith))
-      ∙ put-sets two z (pairOf s m 2) (13 + 4 * rasterOf q 2) c ez ec (omega arith)))
+      ∙ (ap (λ (w : List ℤ). put (13 + 4 * rasterOf q 2) c w z) (put-sets one y (pairOf m 0) (13 + 4 * rasterOf q 0) b ey eb (omega arith))
+      ∙ put-sets two z (pairOf m 2) (13 + 4 * rasterOf q 2) c ez ec (omega arith)))

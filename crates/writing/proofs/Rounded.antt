@@ -1,18 +1,18 @@
--- A vector word that is scaled by the two parts of a scale: it is the scaled word, and each step fits. Assumes nothing.
+-- A vector word that is scaled by the two parts of a scale, or raised so that it is not below 0: it is the scaled word, and each step fits. Assumes nothing.
 use Prim.Native.Nat.{ℕ, zero, suc, _+_, _*_, _-_, _/_, _≤_, _<_, _^_}
 use mathlib.Core.Path.{_≡_, refl, sym, ap, subst, _∙_}
-use mathlib.Core.Bool.{true}
+use mathlib.Core.Bool.{true, true≢false}
 use native.Mathlib.Nat.{mul-le-mul}
 use native.Mathlib.Omega.{arith}
-use lib.IntN.{ℤ, pos, negsuc, negℤ, natAbs, subℕ, _+ℤ_, _*ℤ_, +ℤ-assoc, +ℤ-idl, +ℤ-invl}
+use lib.IntN.{ℤ, pos, negsuc, negℤ, natAbs, subℕ, _+ℤ_, _*ℤ_, +ℤ-assoc, +ℤ-idl, +ℤ-invl, *ℤ-comm}
 use lib.Signed.{leZ, natAbs-le}
 use borrow.Author.Tests.{leb-true}
 use mir.Syntax.{Width, w16, w32}
 use mir.Val.{SFits, hbits, ofZ, toZ}
 use mir.Facts.{sfits-widen, toZ-ofZ}
-use Rattle.definitions.specs.Basics.{between, down, minus}
+use Rattle.definitions.specs.Basics.{down, minus}
 use Rattle.definitions.specs.Inheriting.{scaledBy}
-use Rattle.definitions.specs.Record.{narrow}
+use Rattle.definitions.specs.Record.{fits, narrow}
 use Rattle.definitions.proofs.Choices.{both-true}
 use Rattle.definitions.proofs.Differences.{sub-cases, sub-neg, sub-pos, sub-shift}
 use Rattle.motion.specs.declared.Scale.{Scale}
@@ -100,13 +100,48 @@ size-down : (z : ℤ) → natAbs (down z 65536) ≤ natAbs z / 65536 + 1
 size-down (pos n) = omega arith
 size-down (negsuc n) = omega arith
 
-by-size : (w : Width) (z : ℤ) → natAbs z < 2 ^ hbits w → SFits w z
+pub by-size : (w : Width) (z : ℤ) → natAbs z < 2 ^ hbits w → SFits w z
 by-size w (pos n) h = record { sfits = h }
 by-size w (negsuc n) h = record { sfits = omega arith }
 
-size-word : (v : ℤ) → between (minus narrow) (pos (narrow - 1)) v ≡ true → natAbs v ≤ narrow
-size-word (pos n) e = let l = leb-true n (narrow - 1) (both-true (leZ (minus narrow) (pos n)) (leZ (pos n) (pos (narrow - 1))) e .1) in omega arith
-size-word (negsuc n) e = let l = leb-true n (narrow - 1) (both-true (leZ (minus narrow) (negsuc n)) (leZ (negsuc n) (pos (narrow - 1))) e .0) in omega arith
+pub size-word : (limit : ℕ) (v : ℤ) → fits limit v ≡ true → natAbs v ≤ limit
+size-word limit (pos n) e = let l = leb-true n (limit - 1) (both-true (leZ (minus limit) (pos n)) (leZ (pos n) (pos (limit - 1))) e .1) in omega arith
+size-word zero (negsuc n) e = absurd (true≢false (sym e))
+size-word (suc l) (negsuc n) e = let h = leb-true n l (both-true (leZ (minus (suc l)) (negsuc n)) (leZ (negsuc n) (pos (suc l - 1))) e .0) in omega arith
+
+-- ---- with the limit more, a word is not below 0
+pub record Raised (limit : ℕ) (v : ℤ) : Type 0 where
+  pub up : ℕ
+  pub sum : v +ℤ pos limit ≡ pos up
+  pub is : v ≡ subℕ up limit
+  pub most : up ≤ 2 * limit
+
+pub raised : (limit : ℕ) (v : ℤ) → fits limit v ≡ true → Raised limit v
+raised limit (pos n) e =
+    let l : n ≤ limit = size-word limit (pos n) e in
+    let back : n + limit - limit ≡ n = omega arith in
+    record { up = n + limit; sum = refl; is = sym (sub-pos (n + limit) limit (omega arith) ∙ ap pos back); most = omega arith }
+raised limit (negsuc n) e =
+    let l : suc n ≤ limit = size-word limit (negsuc n) e in
+    let back : limit - suc (limit - suc n) ≡ n = omega arith in
+    record { up = limit - suc n; sum = sub-pos limit (suc n) l; is = sym (sub-neg (limit - suc n) limit (omega arith) ∙ ap negsuc back); most = omega arith }
+
+-- and if the limit is k · 65,536, what it adds to the scaled word is a whole number
+down-less : (x c : ℕ) → down (subℕ x (65536 * c)) 65536 ≡ subℕ (x / 65536) c
+down-less x c =
+    sub-cases (λ z. down z 65536 ≡ subℕ (x / 65536) c) x (65536 * c)
+    (λ l. let e : (65536 * c - suc x) / 65536 ≡ c - suc (x / 65536) = omega arith in ap negsuc e ∙ sym (sub-neg (x / 65536) c (omega arith)))
+    (λ l. let e : (x - 65536 * c) / 65536 ≡ x / 65536 - c = omega arith in ap pos e ∙ sym (sub-pos (x / 65536) c (omega arith)))
+
+pub by-raised : (k n : ℕ) (v : ℤ) (r : Raised (65536 * k) v) → subℕ ((r .up * n + 32768) / 65536) (k * n) ≡ scaledBy n v
+by-raised k n v r =
+    let u = r .up in
+    let a : n * u + 32768 ≡ u * n + 32768 = omega arith in
+    let b : n * (65536 * k) ≡ 65536 * (k * n) = omega arith in
+    sym (ap (scaledBy n) (r .is)
+    ∙ (ap (λ (z : ℤ). down (z +ℤ pos 32768) 65536) (*ℤ-comm (subℕ u (65536 * k)) (pos n))
+    ∙ (ap (λ (z : ℤ). down z 65536) (product-pos n u (65536 * k) 32768 ∙ (λ i. subℕ (a i) (b i)))
+    ∙ down-less (u * n + 32768) (k * n))))
 
 -- ---- what is computed on the way
 pub record Fitting (s : Scale) (v : ℤ) : Type 0 where
@@ -156,15 +191,15 @@ module _ (n : ℕ) (high : n ≤ 131072) (v : ℤ) (small : natAbs v ≤ narrow)
     is = sym (two-parts n whole v) ∙ sym (with-number n v);
   }
 
-pub fitting : (s : Scale) (v : ℤ) → AcceptedScale s → between (minus narrow) (pos (narrow - 1)) v ≡ true → Fitting s v
-fitting s v a e = subst (λ (t : Scale). Fitting t v) (sym (a .parts)) (in-parts (a .number) (a .high) v (size-word v e))
+pub fitting : (s : Scale) (v : ℤ) → AcceptedScale s → fits narrow v ≡ true → Fitting s v
+fitting s v a e = subst (λ (t : Scale). Fitting t v) (sym (a .parts)) (in-parts (a .number) (a .high) v (size-word narrow v e))
 
 -- ---- handed to scale_word and handed back
-module _ (v : ℤ) (e : between (minus narrow) (pos (narrow - 1)) v ≡ true) where
+module _ (v : ℤ) (e : fits narrow v ≡ true) where
   word-back : toZ w32 (ofZ w32 v) ≡ v
-  word-back = toZ-ofZ (by-size w32 v (omega (arith, size-word v e)))
+  word-back = toZ-ofZ (by-size w32 v (omega (arith, size-word narrow v e)))
 
-  pub handed : between (minus narrow) (pos (narrow - 1)) (toZ w32 (ofZ w32 v)) ≡ true
+  pub handed : fits narrow (toZ w32 (ofZ w32 v)) ≡ true
   handed = rw word-back e
 
   module _ (s : Scale) (a : AcceptedScale s) (r : ℤ) (is : r ≡ scaledWith s (toZ w32 (ofZ w32 v))) where

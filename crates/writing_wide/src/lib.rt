@@ -1,0 +1,182 @@
+// Writing what was made of a macroblock into a record of wide words (document 02, E12): step 4 of "Inheriting" on motions by value, and then the record as it stands.
+ghost use Prim.Native.Nat.{_<_, _≤_};
+ghost use Rattle.definitions.specs.Answer.{dividedBy, withoutMotion};
+ghost use Rattle.definitions.specs.Blocks.{rasterOf};
+ghost use Rattle.definitions.specs.Inheriting.{chosen, motionAt};
+ghost use Rattle.definitions.specs.Record.{fits, laidOut, recordWords, referencesOf, vectorsOf, wide};
+ghost use Rattle.motion.specs.ByValue.{AllWritable, QuadrantWritable, Writable, motionIn, motionsIn, quadrantsIn};
+ghost use Rattle.motion.specs.Scales.{AcceptedScale, AcceptedScales, allScaled, motionScaled, numberOf, scaledWith};
+ghost use Rattle.split.specs.Said.{contentsBy, typeWords};
+ghost use Rattle.writing.specs.Words.{quadrantPut, quadrantScaled};
+ghost use lib.IntN.{pos};
+ghost use lib.ListN.{length};
+ghost use mathlib.Core.Bool.{true};
+ghost use mathlib.Core.List.{_++_};
+ghost use mathlib.Core.Path.{_≡_};
+use motion::BlockMotion;
+use motion::Scale;
+use motion::Scales;
+use records::layout::DETAIL;
+use records::layout::NO_MOTION;
+use records::layout::REFERENCES;
+use records::layout::TYPE;
+use records::layout::VECTORS;
+use split::Types;
+use split::types_of;
+
+// ---- Step 4
+fn number_of(s: Scale) -> u32
+    requires { ⌜ AcceptedScale s ⌝ }
+    ensures { λ r. ⌜ (numberOf s ≡ pos r) × (r ≤ 131072) ⌝ }
+{
+    (s.whole as i32 * 65536 + s.part as i32) as u32
+}
+
+// A vector word: (v · scale + 32,768) / 65,536, rounded down. With 131,072 more it is not below 0, so that the product is unsigned, and what that adds, twice the scale, is
+// taken away again (`by-raised` of writing's proofs/Rounded).
+fn scale_word(s: Scale, v: i32) -> i32
+    requires { ⌜ AcceptedScale s × (fits wide v ≡ true) ⌝ }
+    ensures { λ r. ⌜ r ≡ scaledWith s v ⌝ }
+{
+    let n = number_of(s);
+    let up = (v + 131072) as u64;
+    ((up * n as u64 + 32768) / 65536) as i32 - (2 * n) as i32
+}
+
+// A block's motion, scaled.
+pub fn scaled(s: Scales, m: BlockMotion) -> BlockMotion
+    requires { ⌜ AcceptedScales s × Writable wide m ⌝ }
+    ensures { λ r. ⌜ motionIn r ≡ motionScaled s (motionIn m) ⌝ }
+{
+    BlockMotion {
+        r0: m.r0,
+        r1: m.r1,
+        x0: scale_word(s.horizontal, m.x0),
+        y0: scale_word(s.vertical, m.y0),
+        x1: scale_word(s.horizontal, m.x1),
+        y1: scale_word(s.vertical, m.y1),
+    }
+}
+
+fn scaled_quadrant(s: Scales, m: [BlockMotion; 4]) -> [BlockMotion; 4]
+    requires { ⌜ AcceptedScales s × QuadrantWritable wide m ⌝ }
+    ensures { λ r. ⌜ motionsIn r ≡ quadrantScaled s (motionsIn m) ⌝ }
+{
+    let a = scaled(s, m[0]);
+    let b = scaled(s, m[1]);
+    let c = scaled(s, m[2]);
+    let d = scaled(s, m[3]);
+    [a, b, c, d]
+}
+
+// Four quadrants of four blocks, scaled.
+pub fn scaled_all(s: Scales, m: [[BlockMotion; 4]; 4]) -> [[BlockMotion; 4]; 4]
+    requires { ⌜ AcceptedScales s × AllWritable wide m ⌝ }
+    ensures { λ r. ⌜ quadrantsIn r ≡ allScaled s (quadrantsIn m) ⌝ }
+{
+    let a = scaled_quadrant(s, m[0]);
+    let b = scaled_quadrant(s, m[1]);
+    let c = scaled_quadrant(s, m[2]);
+    let d = scaled_quadrant(s, m[3]);
+    [a, b, c, d]
+}
+
+// ---- A quadrant
+// Its references, which are those of its first block.
+fn put_references(out: &mut [i32], m: BlockMotion)
+    requires { ⌜ length (now out) ≡ 2 ⌝ }
+    ensures { λ _. ⌜ now (out .exit) ≡ referencesOf (motionIn m) ⌝ }
+{
+    let r0 = m.r0;
+    let r1 = m.r1;
+    out[0] = r0;
+    out[1] = r1;
+}
+
+// A row of two blocks: their vectors.
+fn put_pair(out: &mut [i32], a: BlockMotion, b: BlockMotion)
+    requires { ⌜ length (now out) ≡ 8 ⌝ }
+    ensures { λ _. ⌜ now (out .exit) ≡ vectorsOf (motionIn a) ++ vectorsOf (motionIn b) ⌝ }
+{
+    let ax0 = a.x0;
+    let ay0 = a.y0;
+    let ax1 = a.x1;
+    let ay1 = a.y1;
+    let bx0 = b.x0;
+    let by0 = b.y0;
+    let bx1 = b.x1;
+    let by1 = b.y1;
+    out[0] = ax0;
+    out[1] = ay0;
+    out[2] = ax1;
+    out[3] = ay1;
+    out[4] = bx0;
+    out[5] = by0;
+    out[6] = bx1;
+    out[7] = by1;
+}
+
+// Quadrant q, whose first block is i: its references, and its two rows of blocks.
+fn put_quadrant(out: &mut [i32], q: usize, i: usize, m: [BlockMotion; 4])
+    requires { ⌜ (length (now out) ≡ recordWords) × (q < 4) × (i ≡ rasterOf q 0) ⌝ }
+    ensures { λ _. ⌜ now (out .exit) ≡ quadrantPut q (motionsIn m) (now (out .entry)) ⌝ }
+{
+    let r = REFERENCES + 2 * q;
+    let k = VECTORS + 4 * i;
+    let below = VECTORS + 4 * (i + 4);
+    put_references(&mut out[r..r + 2], m[0]);
+    put_pair(&mut out[k..k + 8], m[0], m[1]);
+    put_pair(&mut out[below..below + 8], m[2], m[3]);
+}
+
+// ---- The record
+// Words 0 to 4: the type and the sub-types.
+fn put_types(out: &mut [i32], t: Types)
+    requires { ⌜ length (now out) ≡ 5 ⌝ }
+    ensures { λ _. ⌜ now (out .exit) ≡ typeWords t ⌝ }
+{
+    out[0] = t.kind as i32;
+    out[1] = t.a as i32;
+    out[2] = t.b as i32;
+    out[3] = t.c as i32;
+    out[4] = t.d as i32;
+}
+
+// A record of these types and motions.
+pub fn lay_out(out: &mut [i32], t: Types, m: [[BlockMotion; 4]; 4], detail: u8)
+    requires { ⌜ length (now out) ≡ recordWords ⌝ }
+    ensures { λ _. ⌜ now (out .exit) ≡ laidOut (contentsBy t (motionAt (quadrantsIn m)) (pos detail)) ⌝ }
+{
+    put_types(&mut out[TYPE..REFERENCES], t);
+    put_quadrant(out, 0, 0, m[0]);
+    put_quadrant(out, 1, 2, m[1]);
+    put_quadrant(out, 2, 8, m[2]);
+    put_quadrant(out, 3, 10, m[3]);
+    out[DETAIL] = detail as i32;
+}
+
+// The record of four quadrants of four blocks, as steps 1 to 3 have left them: scaled, and with the fewest pieces. The split is chosen before step 4 (`made-of` of writing's
+// proofs/Assembled).
+pub fn write_made(out: &mut [i32], s: Scales, m: [[BlockMotion; 4]; 4], detail: u8)
+    requires { ⌜ (length (now out) ≡ recordWords) × AcceptedScales s × AllWritable wide m ⌝ }
+    ensures { λ _. ⌜ now (out .exit) ≡ laidOut (dividedBy (chosen (allScaled s (quadrantsIn m))) (motionAt (allScaled s (quadrantsIn m))) (pos detail)) ⌝ }
+{
+    let t = types_of(m);
+    let made = scaled_all(s, m);
+    lay_out(out, t, made, detail);
+}
+
+// A record without motion, of type 0 (intra) or 5 (outside).
+pub fn write_unused(out: &mut [i32], kind: u8, detail: u8)
+    requires { ⌜ length (now out) ≡ recordWords ⌝ }
+    ensures { λ _. ⌜ now (out .exit) ≡ withoutMotion kind (pos detail) ⌝ }
+{
+    let t = Types {
+        kind,
+        a: 0,
+        b: 0,
+        c: 0,
+        d: 0,
+    };
+    lay_out(out, t, [[NO_MOTION; 4]; 4], detail);
+}
