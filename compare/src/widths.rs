@@ -3,7 +3,8 @@
 use crate::calls::{Called, Calls};
 use crate::lent::Lent;
 use crate::pictures::{faulty, made, random_position, with_broken_records, Position};
-use compare::generate::{full_macroblocks, whole, widened, Eight, Record};
+use compare::generate::{full_macroblocks, intra, whole, widened, Eight, Record};
+use compare::random::Random;
 use second::record::{DETAIL, VECTORS};
 use second::word::Word;
 use second::WORDS;
@@ -89,14 +90,26 @@ fn singles(calls: &mut Calls, eight: &Eight, base: &[i16], position: Position, l
     compared(calls, true, base, both);
 }
 
-/// A random narrow base through all four calls: as it is, with some records broken, and with
-/// other faults.
+/// Some records with vectors twice as long, which may not fit the narrow limit.
+fn longer(random: &mut Random, base: &[i16]) -> Vec<i16> {
+    let mut base = base.to_vec();
+    for record in base.chunks_mut(WORDS) {
+        if random.one_in(2) {
+            record[VECTORS..DETAIL].iter_mut().for_each(|word| *word *= 2);
+        }
+    }
+    base
+}
+
+/// A random narrow base through all four calls: as it is, with longer vectors, with some
+/// records broken, and with other faults.
 pub fn random(calls: &mut Calls, number: u64) {
     let (eight, base, mut random) = made::<i16>(SEEDS + number);
     let random = &mut random;
     let length = full_macroblocks(&eight) * WORDS;
+    let longer = longer(random, &base);
     let (broken, _) = with_broken_records(random, &base);
-    for base in [&base, &broken] {
+    for base in [&base, &longer, &broken] {
         pictures(calls, &eight, base, length);
         for _ in 0..3 {
             let position = random_position(random, &eight);
@@ -175,12 +188,12 @@ pub fn limits(calls: &mut Calls) {
 
 /// Wide words of which the low half would do, and the rule that each breaks.
 pub fn low_halves(calls: &mut Calls) {
-    let mut intra = compare::generate::intra::<i32>();
-    intra[DETAIL] = 9;
+    let mut still = intra::<i32>();
+    still[DETAIL] = 9;
     // Of type 1, with list 1 not used, as a whole and in sixteen blocks.
     let mut moving = whole::<i32>(4, 0);
     moving[5..VECTORS].copy_from_slice(&[0, -1, 0, -1, 0, -1, 0, -1]);
-    for record in [intra, moving, parted(moving)] {
+    for record in [still, moving, parted(moving)] {
         expect(calls, &record, 0);
         for more in [65_536, -65_536, 131_072, i32::MIN] {
             for at in 0..WORDS {
