@@ -444,7 +444,10 @@ impl Calls {
         }
         self.words_agree(call, result.is_err(), base, &ours, &theirs);
         match result {
-            Err(refusal) => W::made(self).coverage.picture.refused(refusal, base.words()),
+            Err(refusal) => W::made(self)
+                .coverage
+                .picture
+                .refused(refusal, base.words()),
             Ok(_) => {
                 let geometry = Geometry::new(Numbers::from_array(*eight)).expect("accepted");
                 let all = |axis: &Axis| -> Vec<Option<(Reading, usize)>> {
@@ -501,7 +504,12 @@ impl Calls {
         };
         let mut ours = Lent::filled(out_length, W::FILL);
         let mut theirs = vec![W::FILL_SECOND; out_length];
-        let library = W::macroblock(library(eight), base.words(), (column, row), ours.words_mut());
+        let library = W::macroblock(
+            library(eight),
+            base.words(),
+            (column, row),
+            ours.words_mut(),
+        );
         let numbers = Numbers::from_array(*eight);
         let result = W::second_macroblock(numbers, base.words(), (column, row), &mut theirs);
         let second = macroblock_numbers(result);

@@ -341,7 +341,9 @@ impl Coverage {
     }
 
     fn print_long(&self) -> bool {
-        println!("written vector words: horizontal and vertical of both lists in pictures, and singly");
+        println!(
+            "written vector words: horizontal and vertical of both lists in pictures, and singly"
+        );
         let mut all = true;
         for (number, name) in LONG.iter().enumerate() {
             let counts = [self.picture.long[number], self.single.long[number]];

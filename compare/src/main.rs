@@ -156,7 +156,9 @@ fn main() {
 fn again<W: Called>(tests: &mut Tests, number: &str) {
     let number = number.parse().expect("a picture's number");
     pictures::print::<W>(number);
-    tests.compare("random picture", |calls| pictures::random::<W>(calls, number));
+    tests.compare("random picture", |calls| {
+        pictures::random::<W>(calls, number)
+    });
 }
 
 fn everything(tests: &mut Tests) {

@@ -24,7 +24,11 @@ struct Given {
 
 /// All vector words fit the narrow limit.
 fn fits(base: &[i16]) -> bool {
-    let fits = |record: &[i16]| record[VECTORS..DETAIL].iter().all(|word| i16::VECTORS.contains(word));
+    let fits = |record: &[i16]| {
+        record[VECTORS..DETAIL]
+            .iter()
+            .all(|word| i16::VECTORS.contains(word))
+    };
     base.chunks_exact(WORDS).all(fits)
 }
 
@@ -37,7 +41,9 @@ fn compared(calls: &mut Calls, singly: bool, base: &[i16], [narrow, wide]: [Give
         if narrow.words != wide.words {
             calls.differs(|| format!("{}, but other words in the other width", narrow.answer));
         }
-        calls.width_coverage.same(singly, narrow.refusal, narrow.rule);
+        calls
+            .width_coverage
+            .same(singly, narrow.refusal, narrow.rule);
     } else if (narrow.refusal, narrow.rule) == (refused::RECORD, 5) {
         calls.width_coverage.apart(singly, wide.refusal, wide.rule);
     }
@@ -95,7 +101,9 @@ fn longer(random: &mut Random, base: &[i16]) -> Vec<i16> {
     let mut base = base.to_vec();
     for record in base.chunks_mut(WORDS) {
         if random.one_in(2) {
-            record[VECTORS..DETAIL].iter_mut().for_each(|word| *word *= 2);
+            record[VECTORS..DETAIL]
+                .iter_mut()
+                .for_each(|word| *word *= 2);
         }
     }
     base
@@ -137,7 +145,10 @@ fn expect<W: Called>(calls: &mut Calls, record: &Record<W>, rule: u32) -> Vec<W>
     let (picture, _) = calls.picture_given(&DOUBLED, &base, 4 * WORDS);
     let (single, words) = calls.single_given(&DOUBLED, &base, (0, 0), WORDS, &[]);
     let number = if rule == 0 { 0 } else { refused::RECORD };
-    for given in [(picture.refusal, picture.rule), (single.refusal, single.rule)] {
+    for given in [
+        (picture.refusal, picture.rule),
+        (single.refusal, single.rule),
+    ] {
         if given != (number, rule) {
             calls.differs(|| format!("{}record {record:?}: {given:?}, not {rule}", W::NAME));
         }
@@ -154,7 +165,14 @@ fn parted<W: Called>(mut record: Record<W>) -> Record<W> {
 /// Vector words to `limit` are answered, with twice as much at ratio 2; one more, on
 /// either side, is refused by rule 5.
 fn limits_of<W: Called>(calls: &mut Calls, limit: i32) {
-    for word in [-limit, -limit + 1, -limit / 2, limit / 2, limit - 2, limit - 1] {
+    for word in [
+        -limit,
+        -limit + 1,
+        -limit / 2,
+        limit / 2,
+        limit - 2,
+        limit - 1,
+    ] {
         let words = expect(calls, &whole::<W>(word, -1 - word), 0);
         if words != whole(2 * word, 2 * (-1 - word)) {
             calls.differs(|| format!("{}vector {word} is not doubled", W::NAME));

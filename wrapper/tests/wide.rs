@@ -23,7 +23,7 @@ const UNTOUCHED: i32 = -1_234_567_890;
 fn whole(x: i32, y: i32) -> [i32; WORDS] {
     std::array::from_fn(|word| match word {
         0 => 1,
-        5..13 => (word as i32 - 5) % 2 * -1,
+        5..13 => -((word as i32 - 5) % 2),
         13..77 => [x, y, 0, 0][(word - 13) % 4],
         _ => 0,
     })
@@ -117,7 +117,7 @@ fn not_by_low_halves() {
     for (at, rule) in [(0, 1), (1, 2), (5, 3), (6, 3), (15, 5), (77, 7)] {
         for more in [65_536, -65_536, i32::MIN] {
             let mut base = whole(4, -8);
-            base[at] += more;
+            base[at] = base[at].wrapping_add(more);
             assert_eq!(wide(&base), Err(malformed(rule)), "word {at}");
         }
     }
@@ -132,7 +132,16 @@ fn not_by_low_halves() {
 fn as_the_narrow() {
     let mut records = vec![whole(8191, -8192), whole(0, 0), whole(-3, 5)];
     records[1][..13].copy_from_slice(&[0, 0, 0, 0, 0, -1, -1, -1, -1, -1, -1, -1, -1]);
-    for (at, word) in [(0, 5), (2, 1), (12, 32), (9, -1), (15, 1), (40, 7), (77, 16), (77, 9)] {
+    for (at, word) in [
+        (0, 5),
+        (2, 1),
+        (12, 32),
+        (9, -1),
+        (15, 1),
+        (37, 7),
+        (77, 16),
+        (77, 9),
+    ] {
         let mut record = whole(4, -8);
         record[at] = word;
         records.push(record);
