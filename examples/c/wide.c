@@ -36,8 +36,8 @@ static int print(int bits, SpiewomirMacroblock m, int32_t x, int32_t y) {
 
 int main(int argc, char **argv) {
     static const SpiewomirGeometry doubled = {16, 16, 32, 32, 0, 0, 32, 32};
-    int32_t x, y, wide[SPIEWOMIR_WORDS] = {1}, wide_out[SPIEWOMIR_WORDS];
-    int16_t words[SPIEWOMIR_WORDS], out[SPIEWOMIR_WORDS];
+    int32_t x, y, wide[SPIEWOMIR_WORDS] = {1}, wide_out[SPIEWOMIR_WORDS] = {0};
+    int16_t words[SPIEWOMIR_WORDS], out[SPIEWOMIR_WORDS] = {0};
     int fit = 1;
     if (argc != 3 || !number(argv[1], &x) || !number(argv[2], &y)) {
         fputs("usage: wide X Y\n", stderr);
@@ -53,7 +53,13 @@ int main(int argc, char **argv) {
         fit = fit && wide[i] >= INT16_MIN && wide[i] <= INT16_MAX;
         words[i] = fit ? (int16_t)wide[i] : 0;
     }
-    if (fit) print(16, spiewomir_macroblock(doubled, words, SPIEWOMIR_WORDS, 0, 0, out, SPIEWOMIR_WORDS), out[13], out[14]);
-    else puts("16 bits: no such words");
-    return print(32, spiewomir_macroblock_wide(doubled, wide, SPIEWOMIR_WORDS, 0, 0, wide_out, SPIEWOMIR_WORDS), wide_out[13], wide_out[14]);
+    SpiewomirMacroblock m;
+    if (fit) {
+        m = spiewomir_macroblock(doubled, words, SPIEWOMIR_WORDS, 0, 0, out, SPIEWOMIR_WORDS);
+        print(16, m, out[13], out[14]);
+    } else {
+        puts("16 bits: no such words");
+    }
+    m = spiewomir_macroblock_wide(doubled, wide, SPIEWOMIR_WORDS, 0, 0, wide_out, SPIEWOMIR_WORDS);
+    return print(32, m, wide_out[13], wide_out[14]);
 }
