@@ -179,7 +179,7 @@ static void answer(int wide, SpiewomirGeometry g, const void *base, int32_t colu
         }
     HOLDS(some || m.detail == 0);
     HOLDS(every != 15 || m.detail == 15);
-    details[m.detail ? m.kind == SPIEWOMIR_INTRA ? 2 : 1 : 0]++;
+    if (!wide) details[m.detail ? m.kind == SPIEWOMIR_INTRA ? 2 : 1 : 0]++;
 }
 
 /* ---- null pointers of length 0, for each buffer of each call. `g` is refused by `verdict`, or by none. */
@@ -240,15 +240,20 @@ static SpiewomirPicture wide_pictures(SpiewomirGeometry g, const int32_t *base, 
     return p;
 }
 
+static int is_vector(size_t at) { return at % SPIEWOMIR_WORDS >= 13 && at % SPIEWOMIR_WORDS < 77; }
+
 /* ---- a narrow base, of which `p` and `made` are the picture, in wide words: the same where its vectors fit the narrow limit. Then with longer vectors, and with a word damaged,
- * now and then in its high half alone. */
+ * now and then in its high half alone. The numbers that are drawn for it are given back: the narrow calls are made of the same ones without it. */
 static void wide_records(SpiewomirGeometry g, const int16_t *narrow, size_t count, SpiewomirPicture p, const int16_t *made, size_t words_out, size_t full) {
     Lent base = lend(count * sizeof(int32_t)), out = lend(words_out * sizeof(int32_t));
-    int32_t *in = base.at;
+    int32_t *in = base.at, most = 1;
+    unsigned long long drawn = state;
     int fit = 1;
     for (size_t at = 0; at < count; at++) {
         in[at] = narrow[at];
-        if (at % SPIEWOMIR_WORDS >= 13 && at % SPIEWOMIR_WORDS < 77) fit = fit && in[at] >= -8192 && in[at] <= 8191;
+        if (!is_vector(at)) continue;
+        fit = fit && in[at] >= -8192 && in[at] <= 8191;
+        if (abs(in[at]) <= 8192 && abs(in[at]) > most) most = abs(in[at]);
     }
     scribble(out.at, out.size);
     HOLDS(spiewomir_macroblock_wide(g, NULL, 0, 0, 0, out.at, words_out).refusal == spiewomir_macroblock(g, NULL, 0, 0, 0, NULL, 0).refusal);
@@ -262,9 +267,9 @@ static void wide_records(SpiewomirGeometry g, const int16_t *narrow, size_t coun
     }
 
     static const int32_t limits[] = {INT32_MIN, -131073, -131072, -65536, -8193, 8192, 65536, 65537, 131071, 131072, INT32_MAX};
-    if (below(4))
-        for (size_t at = 0; at < count; at++)
-            if (at % SPIEWOMIR_WORDS >= 13 && at % SPIEWOMIR_WORDS < 77 && in[at] >= -8192 && in[at] <= 8191) in[at] = 16 * in[at] + (in[at] > 0 ? 15 : 0);
+    int32_t longer = below(4) ? 131071 / most : 1;
+    for (size_t at = 0; at < count; at++)
+        if (is_vector(at) && abs(in[at]) <= 8192) in[at] *= longer;
     if (count && below(2)) {
         size_t at = below((unsigned)count);
         if (below(4) == 0) at -= at % SPIEWOMIR_WORDS;
@@ -275,6 +280,7 @@ static void wide_records(SpiewomirGeometry g, const int16_t *narrow, size_t coun
         }
     }
     wide_pictures(g, in, count, out, words_out, full);
+    state = drawn;
     back(out);
     back(base);
 }
