@@ -207,13 +207,20 @@ static SpiewomirPicture wide_pictures(SpiewomirGeometry g, const int32_t *base, 
     wide_calls[0]++;
     wide_refusals[p.refusal]++;
     wide_rules[p.rule & 7]++;
-    if (p.refusal) HOLDS(memcmp(out.at, before, out.size) == 0);
-    else
+    if (p.refusal) {
+        HOLDS(memcmp(out.at, before, out.size) == 0);
+    } else {
+        for (size_t at = 0; at < count; at++) { /* each word of the base is in the range that its rule gives */
+            size_t w = at % SPIEWOMIR_WORDS;
+            int32_t low = w < 5 || w == 77 ? 0 : w < 13 ? -1 : -131072, high = w == 0 ? 4 : w < 5 ? 3 : w < 13 ? 31 : w < 77 ? 131071 : 15;
+            HOLDS(base[at] >= low && base[at] <= high);
+        }
         for (size_t at = 0; at < words_out; at++) {
             int32_t v = ((int32_t *)out.at)[at];
             HOLDS(v >= -262144 && v <= 262142);
             long_words += v < INT16_MIN || v > INT16_MAX;
         }
+    }
     Lent one = lend(SPIEWOMIR_WORDS * sizeof(int32_t));
     for (size_t a = 0; a < (p.refusal ? 3 : full < 8 ? full + 1 : 8); a++) {
         int32_t across = g.full_width >= 16 ? g.full_width / 16 : 1;
@@ -242,8 +249,8 @@ static SpiewomirPicture wide_pictures(SpiewomirGeometry g, const int32_t *base, 
 
 static int is_vector(size_t at) { return at % SPIEWOMIR_WORDS >= 13 && at % SPIEWOMIR_WORDS < 77; }
 
-/* ---- a narrow base, of which `p` and `made` are the picture, in wide words: the same where its vectors fit the narrow limit. Then with longer vectors, and with a word damaged,
- * now and then in its high half alone. The numbers that are drawn for it are given back: the narrow calls are made of the same ones without it. */
+/* ---- a narrow base, of which `p` and `made` are the picture, in wide words: the same where its vectors fit the narrow limit. Then with vectors so many times as long, which makes
+ * the written ones as much longer, but for the rounding; and every second time with a word damaged, now and then in its high half alone. The numbers that are drawn for it are given back: the narrow calls are made of the same ones without it. */
 static void wide_records(SpiewomirGeometry g, const int16_t *narrow, size_t count, SpiewomirPicture p, const int16_t *made, size_t words_out, size_t full) {
     Lent base = lend(count * sizeof(int32_t)), out = lend(words_out * sizeof(int32_t));
     int32_t *in = base.at, most = 1;
@@ -270,7 +277,8 @@ static void wide_records(SpiewomirGeometry g, const int16_t *narrow, size_t coun
     int32_t longer = below(4) ? 131071 / most : 1;
     for (size_t at = 0; at < count; at++)
         if (is_vector(at) && abs(in[at]) <= 8192) in[at] *= longer;
-    if (count && below(2)) {
+    int damaged = count && below(2);
+    if (damaged) {
         size_t at = below((unsigned)count);
         if (below(4) == 0) at -= at % SPIEWOMIR_WORDS;
         switch (below(3)) {
@@ -279,7 +287,14 @@ static void wide_records(SpiewomirGeometry g, const int16_t *narrow, size_t coun
         default: in[at] = (int32_t)(below(65536) | (below(32768) << 16));
         }
     }
-    wide_pictures(g, in, count, out, words_out, full);
+    w = wide_pictures(g, in, count, out, words_out, full);
+    if (fit && !damaged) {
+        HOLDS(memcmp(&w, &p, sizeof p) == 0);
+        for (size_t at = 0; !p.refusal && at < words_out; at++) {
+            int32_t v = ((int32_t *)out.at)[at];
+            HOLDS(is_vector(at) ? abs(v - longer * made[at]) <= longer + 2 : v == made[at]);
+        }
+    }
     state = drawn;
     back(out);
     back(base);
