@@ -25,13 +25,13 @@ pub fn report(programs: &[&str]) -> ExitCode {
     columns.push(("second".to_string(), By::Second, programs[0]));
 
     println!("Instructions of one call, as valgrind counts them");
-    print!("{:<34} {:<14}", "", "");
+    print!("{:<36} {:<14}", "", "");
     columns
         .iter()
         .for_each(|column| print!(" {:>11}", column.0));
     println!();
     for (number, row) in counted().iter().enumerate() {
-        print!("{:<34} {:<14}", row.name, format!("a {}", row.unit));
+        print!("{:<36} {:<14}", row.name, format!("a {}", row.unit));
         for &(_, by, program) in &columns {
             match count(program, number, row, by) {
                 Ok(Some(count)) => print!(" {:>11.2}", count as f64 / row.amount as f64),

@@ -28,13 +28,13 @@ pub fn report() {
 fn of_texts() {
     println!("Texts and logs, in millions of bytes of the text, or of lines of the log, a second");
     println!(
-        "{:<34} {:<6} {:>9} {:>9} {:>22}",
+        "{:<36} {:<6} {:>9} {:>9} {:>22}",
         "", "", "library", "second", "of the second's speed"
     );
     for timed in time(texts()) {
         let [library, second, _] = timed.medians();
         println!(
-            "{:<34} {:<6} {:>9.2} {:>9.2} {:>22.2}",
+            "{:<36} {:<6} {:>9.2} {:>9.2} {:>22.2}",
             timed.row.name,
             timed.row.unit.to_string() + "s",
             1e3 / library,
@@ -69,13 +69,13 @@ fn by_length() {
 
 fn of_pictures(rows: Vec<Row>) {
     println!(
-        "{:<34} {:>9} {:>9} {:>9} {:>22} {:>22}",
+        "{:<36} {:>9} {:>9} {:>9} {:>22} {:>22}",
         "", "library", "second", "copy", "of the second's speed", "time of the copy's"
     );
     for timed in time(rows) {
         let [library, second, copy] = timed.medians();
         println!(
-            "{:<34} {:>9.2} {:>9.2} {:>9.2} {:>22.2} {:>22.1}",
+            "{:<36} {:>9.2} {:>9.2} {:>9.2} {:>22.2} {:>22.1}",
             timed.row.name,
             1e3 / library,
             1e3 / second,
