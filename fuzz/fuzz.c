@@ -8,9 +8,11 @@
  * a text's log, its picture, its macroblocks one by one and its session say the same;
  * an answer says what its record says, and names base macroblocks that are there, from
  * which its detail comes and which its four counts are of. A text of no bytes, and no
- * other, is answered with no picture, whatever is lent with it. The last line says how
- * many inputs were tried, how often each refusal and rule came, and no picture, and
- * details; the exit status is 0 if all held. */
+ * other, is answered with no picture, whatever is lent with it. Each base goes through the
+ * wide calls too, which give the same where its vectors fit the narrow ones, and again with
+ * long vectors and damaged wide words. The last lines say how many inputs were tried, how
+ * often each refusal and rule came, and no picture, and details, and long vectors; the exit
+ * status is 0 if all held. */
 #define _DEFAULT_SOURCE
 #include "spiewomir.h"
 #include <stdio.h>
@@ -25,6 +27,7 @@ static unsigned long calls[5];
 static unsigned long refusals[32], rules[8];
 static unsigned long details[3]; /* answers without, and inherited and intra ones with */
 static unsigned long empties; /* inputs answered with no picture */
+static unsigned long wide_calls[2], wide_refusals[32], wide_rules[8], long_words; /* of the wide calls; written vector words beyond 16 bits */
 
 static unsigned below(unsigned n) {
     state ^= state << 13;
@@ -131,10 +134,12 @@ static void damage(const unsigned char *other, size_t other_length) {
     }
 }
 
-/* ---- what one macroblock's call hands back, with the words that it wrote */
+/* ---- what one macroblock's call of either width hands back, with the words that it wrote */
 static int inside(int32_t at, int32_t offset, int32_t scaled) { return offset <= 16 * at && 16 * at + 16 <= offset + scaled; }
 
-static void answer(SpiewomirGeometry g, const int16_t *base, int32_t column, int32_t row, SpiewomirMacroblock m, const int16_t *record) {
+static int32_t word(int wide, const void *words, size_t at) { return wide ? ((const int32_t *)words)[at] : ((const int16_t *)words)[at]; }
+
+static void answer(int wide, SpiewomirGeometry g, const void *base, int32_t column, int32_t row, SpiewomirMacroblock m, const void *record) {
     if (m.refusal) {
         HOLDS(m.refusal == SPIEWOMIR_REFUSED_RECORD ? m.rule >= 1 && m.rule <= 7 : m.place == 0 && m.rule == 0);
         HOLDS(!m.kind && !m.sub0 && !m.sub1 && !m.sub2 && !m.sub3 && !m.class_ && !m.column && !m.row && !m.detail);
@@ -142,11 +147,12 @@ static void answer(SpiewomirGeometry g, const int16_t *base, int32_t column, int
         return;
     }
     HOLDS(m.place == 0 && m.rule == 0);
-    HOLDS(m.kind == (uint32_t)record[0]);
-    HOLDS(m.sub0 == (uint32_t)record[1] && m.sub1 == (uint32_t)record[2] && m.sub2 == (uint32_t)record[3] && m.sub3 == (uint32_t)record[4]);
+    HOLDS(m.kind == (uint32_t)word(wide, record, 0));
+    HOLDS(m.sub0 == (uint32_t)word(wide, record, 1) && m.sub1 == (uint32_t)word(wide, record, 2));
+    HOLDS(m.sub2 == (uint32_t)word(wide, record, 3) && m.sub3 == (uint32_t)word(wide, record, 4));
     HOLDS(m.sub0 <= 3 && m.sub1 <= 3 && m.sub2 <= 3 && m.sub3 <= 3);
     HOLDS(m.kind == SPIEWOMIR_8X8 || !(m.sub0 || m.sub1 || m.sub2 || m.sub3));
-    HOLDS(m.detail == (uint32_t)record[77] && m.detail <= 15);
+    HOLDS(m.detail == (uint32_t)word(wide, record, 77) && m.detail <= 15);
     if (!inside(column, g.offset_x, g.scaled_width) || !inside(row, g.offset_y, g.scaled_height)) {
         HOLDS(m.kind == SPIEWOMIR_OUTSIDE && m.class_ == SPIEWOMIR_CORNER && m.column == 0 && m.row == 0 && m.detail == 0);
         HOLDS(!m.first && !m.right && !m.below && !m.diagonal);
@@ -165,15 +171,15 @@ static void answer(SpiewomirGeometry g, const int16_t *base, int32_t column, int
     HOLDS(m.first * m.diagonal == m.right * m.below);
 
     /* detail comes from the base macroblocks that are named, and from no others: none if they have none, all if they have all */
-    int16_t some = 0, every = 15;
+    int32_t some = 0, every = 15;
     for (uint32_t r = m.row; r < m.row + rows; r++)
         for (uint32_t c = m.column; c < m.column + columns; c++) {
-            int16_t d = base[(r * ((uint32_t)g.base_width / 16) + c) * SPIEWOMIR_WORDS + 77];
+            int32_t d = word(wide, base, (r * ((uint32_t)g.base_width / 16) + c) * SPIEWOMIR_WORDS + 77);
             some |= d, every &= d;
         }
     HOLDS(some || m.detail == 0);
     HOLDS(every != 15 || m.detail == 15);
-    details[m.detail ? m.kind == SPIEWOMIR_INTRA ? 2 : 1 : 0]++;
+    if (!wide) details[m.detail ? m.kind == SPIEWOMIR_INTRA ? 2 : 1 : 0]++;
 }
 
 /* ---- null pointers of length 0, for each buffer of each call. `g` is refused by `verdict`, or by none. */
@@ -192,6 +198,106 @@ static void nulls(SpiewomirGeometry g, uint32_t verdict, const int16_t *base, si
     HOLDS(spiewomir_session_next(s, NULL, 0, out, room).macroblock.refusal == (begun ? begun : no_base));
     HOLDS(spiewomir_session_next(s, base, count, NULL, 0).macroblock.refusal == (begun ? begun : no_out));
     HOLDS(spiewomir_session_next(s, NULL, 0, NULL, 0).macroblock.refusal == (begun ? begun : no_base));
+}
+
+/* ---- the wide calls on one base */
+static SpiewomirPicture wide_pictures(SpiewomirGeometry g, const int32_t *base, size_t count, Lent out, size_t words_out, size_t full) {
+    void *lent = copy_of(base, count * sizeof(int32_t)), *before = copy_of(out.at, out.size);
+    SpiewomirPicture p = spiewomir_picture_wide(g, base, count, out.at, words_out);
+    wide_calls[0]++;
+    wide_refusals[p.refusal]++;
+    wide_rules[p.rule & 7]++;
+    if (p.refusal) {
+        HOLDS(memcmp(out.at, before, out.size) == 0);
+    } else {
+        for (size_t at = 0; at < count; at++) { /* each word of the base is in the range that its rule gives */
+            size_t w = at % SPIEWOMIR_WORDS;
+            int32_t low = w < 5 || w == 77 ? 0 : w < 13 ? -1 : -131072, high = w == 0 ? 4 : w < 5 ? 3 : w < 13 ? 31 : w < 77 ? 131071 : 15;
+            HOLDS(base[at] >= low && base[at] <= high);
+        }
+        for (size_t at = 0; at < words_out; at++) {
+            int32_t v = ((int32_t *)out.at)[at];
+            HOLDS(v >= -262144 && v <= 262142);
+            long_words += v < INT16_MIN || v > INT16_MAX;
+        }
+    }
+    Lent one = lend(SPIEWOMIR_WORDS * sizeof(int32_t));
+    for (size_t a = 0; a < (p.refusal ? 3 : full < 8 ? full + 1 : 8); a++) {
+        int32_t across = g.full_width >= 16 ? g.full_width / 16 : 1;
+        int32_t column = (int32_t)a % across, row = (int32_t)a / across;
+        if (p.refusal && a == 2) column = -1 - (int32_t)below(9);
+        scribble(one.at, one.size);
+        void *was = copy_of(one.at, one.size);
+        SpiewomirMacroblock m = spiewomir_macroblock_wide(g, base, count, column, row, one.at, SPIEWOMIR_WORDS);
+        wide_calls[1]++;
+        wide_refusals[m.refusal]++;
+        wide_rules[m.rule & 7]++;
+        if (m.refusal) HOLDS(memcmp(one.at, was, one.size) == 0);
+        answer(1, g, base, column, row, m, one.at);
+        if (!p.refusal && a < full) {
+            HOLDS(m.refusal == 0);
+            HOLDS(memcmp(one.at, (int32_t *)out.at + a * SPIEWOMIR_WORDS, one.size) == 0);
+        }
+        free(was);
+    }
+    HOLDS(memcmp(base, lent, count * sizeof(int32_t)) == 0);
+    back(one);
+    free(before);
+    free(lent);
+    return p;
+}
+
+static int is_vector(size_t at) { return at % SPIEWOMIR_WORDS >= 13 && at % SPIEWOMIR_WORDS < 77; }
+
+/* ---- a narrow base, of which `p` and `made` are the picture, in wide words: the same where its vectors fit the narrow limit. Then with vectors so many times as long, which makes
+ * the written ones as much longer, but for the rounding; and every second time with a word damaged, now and then in its high half alone. The numbers that are drawn for it are given back: the narrow calls are made of the same ones without it. */
+static void wide_records(SpiewomirGeometry g, const int16_t *narrow, size_t count, SpiewomirPicture p, const int16_t *made, size_t words_out, size_t full) {
+    Lent base = lend(count * sizeof(int32_t)), out = lend(words_out * sizeof(int32_t));
+    int32_t *in = base.at, most = 1;
+    unsigned long long drawn = state;
+    int fit = 1;
+    for (size_t at = 0; at < count; at++) {
+        in[at] = narrow[at];
+        if (!is_vector(at)) continue;
+        fit = fit && in[at] >= -8192 && in[at] <= 8191;
+        if (abs(in[at]) <= 8192 && abs(in[at]) > most) most = abs(in[at]);
+    }
+    scribble(out.at, out.size);
+    HOLDS(spiewomir_macroblock_wide(g, NULL, 0, 0, 0, out.at, words_out).refusal == spiewomir_macroblock(g, NULL, 0, 0, 0, NULL, 0).refusal);
+    HOLDS(spiewomir_macroblock_wide(g, in, count, 0, 0, NULL, 0).refusal == spiewomir_macroblock(g, narrow, count, 0, 0, NULL, 0).refusal);
+    HOLDS(spiewomir_picture_wide(g, NULL, 0, NULL, 0).refusal == spiewomir_picture(g, NULL, 0, NULL, 0).refusal);
+    HOLDS(spiewomir_picture_wide(g, in, count, NULL, 0).refusal == spiewomir_picture(g, narrow, count, NULL, 0).refusal);
+    SpiewomirPicture w = wide_pictures(g, in, count, out, words_out, full);
+    if (fit) {
+        HOLDS(memcmp(&w, &p, sizeof p) == 0);
+        for (size_t at = 0; !p.refusal && at < words_out; at++) HOLDS(((int32_t *)out.at)[at] == made[at]);
+    }
+
+    static const int32_t limits[] = {INT32_MIN, -131073, -131072, -65536, -8193, 8192, 65536, 65537, 131071, 131072, INT32_MAX};
+    int32_t longer = below(4) ? 131071 / most : 1;
+    for (size_t at = 0; at < count; at++)
+        if (is_vector(at) && abs(in[at]) <= 8192) in[at] *= longer;
+    int damaged = count && below(2);
+    if (damaged) {
+        size_t at = below((unsigned)count);
+        if (below(4) == 0) at -= at % SPIEWOMIR_WORDS;
+        switch (below(3)) {
+        case 0: in[at] = limits[below(sizeof limits / sizeof *limits)]; break;
+        case 1: in[at] ^= (int32_t)(1 + below(0x7fff)) << 16; break;
+        default: in[at] = (int32_t)(below(65536) | (below(32768) << 16));
+        }
+    }
+    w = wide_pictures(g, in, count, out, words_out, full);
+    if (fit && !damaged) {
+        HOLDS(memcmp(&w, &p, sizeof p) == 0);
+        for (size_t at = 0; !p.refusal && at < words_out; at++) {
+            int32_t v = ((int32_t *)out.at)[at];
+            HOLDS(is_vector(at) ? abs(v - longer * made[at]) <= longer + 2 : v == made[at]);
+        }
+    }
+    state = drawn;
+    back(out);
+    back(base);
 }
 
 /* ---- a picture: the calls on records */
@@ -244,7 +350,7 @@ static void records(SpiewomirGeometry g, const int16_t *words, size_t count, con
         refusals[m.refusal]++;
         rules[m.rule & 7]++;
         if (m.refusal) HOLDS(memcmp(one.at, was, one.size) == 0);
-        answer(g, base.at, column, row, m, one.at);
+        answer(0, g, base.at, column, row, m, one.at);
         if (!p.refusal && a < full) {
             HOLDS(m.refusal == 0);
             HOLDS(memcmp(one.at, (int16_t *)out.at + a * SPIEWOMIR_WORDS, one.size) == 0);
@@ -269,6 +375,7 @@ static void records(SpiewomirGeometry g, const int16_t *words, size_t count, con
     if (!p.refusal && full < 64) HOLDS(t.inherited == p.inherited && t.intra == p.intra && t.outside == p.outside);
     refusals[spiewomir_session_abandon(session).refusal]++;
     refusals[spiewomir_session_begin(session, g).refusal]++;
+    wide_records(g, base.at, count, p, out.at, words_out, full);
     HOLDS(memcmp(base.at, lent, base.size) == 0);
     back(one);
     free(lent);
@@ -454,5 +561,11 @@ int main(int argc, char **argv) {
     printf("; no picture %lu; rules of 8, singly,", empties);
     for (int r = 1; r < 8; r++) printf(" %d:%lu", r, rules[r]);
     printf("; details %lu inherited, %lu intra, %lu none\n", details[1], details[2], details[0]);
+    printf("fuzz: wide: %lu pictures, %lu macroblocks; refusals", wide_calls[0], wide_calls[1]);
+    for (int r = 1; r < 32; r++)
+        if (wide_refusals[r]) printf(" %d:%lu", r, wide_refusals[r]);
+    printf("; rules of 8");
+    for (int r = 1; r < 8; r++) printf(" %d:%lu", r, wide_rules[r]);
+    printf("; %lu words beyond 16 bits\n", long_words);
     return 0;
 }

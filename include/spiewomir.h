@@ -18,7 +18,7 @@
  *     reads, or touch what it writes.
  *   - What is lent to write may be uninitialised.
  *   - Lengths count words, not bytes (of `text` and `log`: bytes). Words are int16_t,
- *     aligned as such and in the machine's byte order.
+ *     in the two wide calls int32_t, aligned as such and in the machine's byte order.
  *   - With length 0 the pointer may be null.
  * A refused call leaves every word and byte lent to it as it was. `base` and `text`
  * are never written. Calls keep nothing between them (a session is handed over and
@@ -37,7 +37,7 @@ extern "C" {
 
 /* The version that this header is of: major times 10,000, plus minor times 100, plus
  * patch. CHANGELOG.md says what is new. */
-#define SPIEWOMIR_VERSION 50000
+#define SPIEWOMIR_VERSION 50100
 
 /* The version of the library that is linked: SPIEWOMIR_VERSION, unless the header is
  * another version's. */
@@ -54,8 +54,9 @@ uint32_t spiewomir_version(void);
  *                coefficients in the base
  * Well formed, by rule: 1 type 0..4; 2 sub-types 0..3, all 0 unless type 4;
  * 3 references -1..31; 4 type 0 has only -1, any other type a used list in each
- * quadrant; 5 vector words -8192..8191, and 0 where the reference is -1; 6 all blocks
- * of a partition or sub-partition have the same references and vectors; 7 detail 0..15.
+ * quadrant; 5 vector words -8192..8191, of a wide record -131072..131071, and 0 where the
+ * reference is -1; 6 all blocks of a partition or sub-partition have the same references
+ * and vectors; 7 detail 0..15.
  * A written vector word is (v * scale + 32768) / 65536, rounded down, also below zero,
  * of a base's word v, with scale = (S * 65536 + B / 2) / B of its axis, rounded down (B
  * and S are the base's and the scaled base's size along it), as Annex G of H.264 has it.
@@ -65,8 +66,11 @@ uint32_t spiewomir_version(void);
  * neighbour. Outside it is 0. It takes no part in the split.
  * A picture of W by H samples has W/16 times H/16 macroblocks; columns, rows and
  * addresses (raster order) count from 0. A written record is not well formed as a
- * base's if it is of type 5 or has a vector word outside -8192..8191; these reach
- * -16384..16382. */
+ * base's if it is of type 5 or has a vector word outside rule 5's; these reach
+ * -16384..16382, of a wide record -262144..262142.
+ * A wide record has 32-bit words, at the same places and by the same rules but for the
+ * limits in rule 5. Only spiewomir_macroblock_wide and spiewomir_picture_wide take and
+ * write such; all other records here have 16-bit words. */
 #define SPIEWOMIR_WORDS 78
 
 /* The macroblocks along a side of `size` samples, and the words of a picture's
@@ -214,6 +218,18 @@ SpiewomirMacroblock spiewomir_macroblock(SpiewomirGeometry geometry, const int16
  * of each sort. */
 SpiewomirPicture spiewomir_picture(SpiewomirGeometry geometry, const int16_t *base, size_t base_len,
                                    int16_t *out, size_t out_len);
+
+/* The same two calls on wide records, for longer vectors: all is as above, lengths in
+ * words, refusals and answers included, but the words of `base` and `out` are int32_t, and
+ * vector words are -131072..131071 by rule 5. Every word is judged as the number that it
+ * is (type 65537 breaks rule 1). On a base whose vector words are all in -8192..8191 they
+ * write the same numbers as the calls above, and give the same answers, counts and
+ * refusals. */
+SpiewomirMacroblock spiewomir_macroblock_wide(SpiewomirGeometry geometry, const int32_t *base, size_t base_len,
+                                              int32_t column, int32_t row, int32_t *out, size_t out_len);
+
+SpiewomirPicture spiewomir_picture_wide(SpiewomirGeometry geometry, const int32_t *base, size_t base_len,
+                                        int32_t *out, size_t out_len);
 
 /* A session makes one picture macroblock by macroblock. Each call hands the session
  * back with its answer; a refused call, and totals, hand back the very numbers that

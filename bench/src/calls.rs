@@ -1,6 +1,6 @@
 //! The calls that are measured, each with all that is lent to it.
 
-use compare::generate::{base_macroblocks, full_macroblocks, library, Eight, Mood};
+use compare::generate::{base_macroblocks, full_macroblocks, library, widened, Eight, Mood, Width};
 use compare::random::Random;
 use second::{Numbers, Refusal, TEXT_WORDS, WORDS};
 use spiewomir::LOG_BYTES;
@@ -33,6 +33,16 @@ mod named {
 
     #[no_mangle]
     #[inline(never)]
+    pub fn second_picture_wide(
+        numbers: Numbers,
+        base: &[i32],
+        out: &mut [i32],
+    ) -> Result<(), Refusal> {
+        second::picture_wide(numbers, base, out).map(|_| ())
+    }
+
+    #[no_mangle]
+    #[inline(never)]
     pub fn second_text(text: &[u8], words: &mut [i16]) -> Result<(), Refusal> {
         second::text(text, words).map(|_| ())
     }
@@ -44,48 +54,91 @@ mod named {
     }
 }
 
-/// The picture call on mixed well-formed records.
-pub struct Picture {
-    eight: Eight,
-    base: Vec<i16>,
-    by_library: Vec<i16>,
-    by_second: Vec<i16>,
-    copied: Vec<i16>,
+/// The picture call of one width.
+pub trait Pictured: Width {
+    fn library(eight: &Eight, base: &[Self], out: &mut [Self]);
+
+    fn second(eight: &Eight, base: &[Self], out: &mut [Self]);
 }
 
-impl Picture {
-    pub fn new(eight: Eight) -> Picture {
-        let random = &mut Random::new(7);
-        let details = &mut Random::new(77);
-        let base = Mood::mixed(random).base_apart(random, details, base_macroblocks(&eight));
+impl Pictured for i16 {
+    fn library(eight: &Eight, base: &[i16], out: &mut [i16]) {
+        spiewomir::picture(library(eight), base, out).expect("accepted");
+    }
+
+    fn second(eight: &Eight, base: &[i16], out: &mut [i16]) {
+        named::second_picture(Numbers::from_array(*eight), base, out).expect("accepted");
+    }
+}
+
+impl Pictured for i32 {
+    fn library(eight: &Eight, base: &[i32], out: &mut [i32]) {
+        spiewomir::picture_wide(library(eight), base, out).expect("accepted");
+    }
+
+    fn second(eight: &Eight, base: &[i32], out: &mut [i32]) {
+        named::second_picture_wide(Numbers::from_array(*eight), base, out).expect("accepted");
+    }
+}
+
+/// The picture call on mixed well-formed records.
+pub struct Picture<W> {
+    eight: Eight,
+    base: Vec<W>,
+    by_library: Vec<W>,
+    by_second: Vec<W>,
+    copied: Vec<W>,
+}
+
+/// Mixed records of a width.
+fn mixed<W: Width>(eight: &Eight) -> Vec<W> {
+    let random = &mut Random::new(7);
+    let details = &mut Random::new(77);
+    Mood::mixed(random).base_apart(random, details, base_macroblocks(eight))
+}
+
+impl Picture<i16> {
+    pub fn narrow(eight: Eight) -> Picture<i16> {
+        Picture::new(eight, mixed(&eight))
+    }
+}
+
+impl Picture<i32> {
+    /// The narrow one's records in wide words.
+    pub fn wide(eight: Eight) -> Picture<i32> {
+        Picture::new(eight, widened(&mixed(&eight)))
+    }
+
+    /// Vectors to the wide limit.
+    pub fn long(eight: Eight) -> Picture<i32> {
+        Picture::new(eight, mixed(&eight))
+    }
+}
+
+impl<W: Pictured> Picture<W> {
+    fn new(eight: Eight, base: Vec<W>) -> Picture<W> {
         let words = full_macroblocks(&eight) * WORDS;
         Picture {
             eight,
             base,
-            by_library: vec![-1; words],
-            by_second: vec![-2; words],
-            copied: vec![-3; words],
+            by_library: vec![W::from(-1); words],
+            by_second: vec![W::from(-2); words],
+            copied: vec![W::from(-3); words],
         }
     }
 }
 
 /// Not inlined, so that each copy is made.
 #[inline(never)]
-fn copy(from: &[i16], to: &mut [i16]) {
+fn copy<W: Copy>(from: &[W], to: &mut [W]) {
     to.copy_from_slice(from);
 }
 
-impl Call for Picture {
+impl<W: Pictured> Call for Picture<W> {
     fn make(&mut self, by: By) {
         match by {
-            By::Library => {
-                spiewomir::picture(library(&self.eight), &self.base, &mut self.by_library)
-                    .expect("accepted");
-            }
-            By::Second => {
-                let numbers = Numbers::from_array(self.eight);
-                named::second_picture(numbers, &self.base, &mut self.by_second).expect("accepted");
-            }
+            By::Library => W::library(&self.eight, &self.base, &mut self.by_library),
+            By::Second => W::second(&self.eight, &self.base, &mut self.by_second),
             By::Copy => copy(&self.by_second, &mut self.copied),
         }
     }

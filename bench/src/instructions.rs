@@ -3,7 +3,12 @@
 
 use crate::calls::By;
 use crate::rows::{counted, Input, Row};
+use std::os::unix::process::ExitStatusExt;
 use std::process::{Command, ExitCode};
+
+/// SIGILL ends a program whose library is older than the wide calls, where it makes one:
+/// `bench/build` sees to it.
+const NO_CALL: i32 = 4;
 
 /// Makes the call of one row once.
 pub fn once(row: usize, by: By) {
@@ -20,16 +25,17 @@ pub fn report(programs: &[&str]) -> ExitCode {
     columns.push(("second".to_string(), By::Second, programs[0]));
 
     println!("Instructions of one call, as valgrind counts them");
-    print!("{:<34} {:<14}", "", "");
+    print!("{:<36} {:<14}", "", "");
     columns
         .iter()
         .for_each(|column| print!(" {:>11}", column.0));
     println!();
     for (number, row) in counted().iter().enumerate() {
-        print!("{:<34} {:<14}", row.name, format!("a {}", row.unit));
+        print!("{:<36} {:<14}", row.name, format!("a {}", row.unit));
         for &(_, by, program) in &columns {
             match count(program, number, row, by) {
-                Ok(count) => print!(" {:>11.2}", count as f64 / row.amount as f64),
+                Ok(Some(count)) => print!(" {:>11.2}", count as f64 / row.amount as f64),
+                Ok(None) => print!(" {:>11}", "-"),
                 Err(what) => {
                     println!();
                     println!("{what}");
@@ -42,9 +48,11 @@ pub fn report(programs: &[&str]) -> ExitCode {
     ExitCode::SUCCESS
 }
 
-fn count(program: &str, number: usize, row: &Row, by: By) -> Result<u64, String> {
+/// Nothing if the library does not have the call.
+fn count(program: &str, number: usize, row: &Row, by: By) -> Result<Option<u64>, String> {
     let call = match row.input {
         Input::Picture(_) => "picture",
+        Input::Wide(_) | Input::Long(_) => "picture_wide",
         Input::Text(_) => "text",
         Input::Log(_) => "log",
     };
@@ -58,13 +66,16 @@ fn count(program: &str, number: usize, row: &Row, by: By) -> Result<u64, String>
         .args([program, "once", &number.to_string(), by])
         .output()
         .map_err(|error| format!("valgrind: {error}"))?;
+    if output.status.signal() == Some(NO_CALL) {
+        return Ok(None);
+    }
     let said = String::from_utf8_lossy(&output.stderr);
     let counted = said
         .lines()
         .find_map(|line| line.split_once("Collected : "))
         .and_then(|(_, count)| count.trim().parse().ok());
     match counted {
-        Some(count) if count > 0 && output.status.success() => Ok(count),
+        Some(count) if count > 0 && output.status.success() => Ok(Some(count)),
         Some(0) => Err(format!("{program} has no call of {function}:\n{said}")),
         _ => Err(format!("{program} {by} failed under valgrind:\n{said}")),
     }

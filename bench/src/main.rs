@@ -1,4 +1,4 @@
-//! Speed of the picture call, the text call and the log: the proved library beside
+//! Speed of the picture call, narrow and wide, the text call and the log: the proved library beside
 //! the second implementation, and beside a plain copy of a picture's words.
 //!
 //!     bench                          times, in turns

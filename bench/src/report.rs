@@ -1,6 +1,6 @@
 //! The report of times.
 
-use crate::rows::{pictures, texts, Row};
+use crate::rows::{pictures, texts, wide_pictures, Row};
 use crate::times::{time, ROUNDS};
 use compare::sync::long_notes;
 
@@ -16,20 +16,25 @@ pub fn report() {
     of_texts();
     by_length();
     println!();
-    of_pictures();
+    println!("Pictures of mixed well-formed records, in millions of macroblocks a second, beside a plain copy of the words");
+    println!("Every buffer was touched before: no page is new, small pictures are in the cache.");
+    of_pictures(pictures());
     by_side();
+    println!();
+    println!("The same of wide records, their vectors as short (wide) or to the limit (long)");
+    of_pictures(wide_pictures());
 }
 
 fn of_texts() {
     println!("Texts and logs, in millions of bytes of the text, or of lines of the log, a second");
     println!(
-        "{:<34} {:<6} {:>9} {:>9} {:>22}",
+        "{:<36} {:<6} {:>9} {:>9} {:>22}",
         "", "", "library", "second", "of the second's speed"
     );
     for timed in time(texts()) {
         let [library, second, _] = timed.medians();
         println!(
-            "{:<34} {:<6} {:>9.2} {:>9.2} {:>22.2}",
+            "{:<36} {:<6} {:>9.2} {:>9.2} {:>22.2}",
             timed.row.name,
             timed.row.unit.to_string() + "s",
             1e3 / library,
@@ -62,17 +67,15 @@ fn by_length() {
     }
 }
 
-fn of_pictures() {
-    println!("Pictures of mixed well-formed records, in millions of macroblocks a second, beside a plain copy of the words");
-    println!("Every buffer was touched before: no page is new, small pictures are in the cache.");
+fn of_pictures(rows: Vec<Row>) {
     println!(
-        "{:<34} {:>9} {:>9} {:>9} {:>22} {:>22}",
+        "{:<36} {:>9} {:>9} {:>9} {:>22} {:>22}",
         "", "library", "second", "copy", "of the second's speed", "time of the copy's"
     );
-    for timed in time(pictures()) {
+    for timed in time(rows) {
         let [library, second, copy] = timed.medians();
         println!(
-            "{:<34} {:>9.2} {:>9.2} {:>9.2} {:>22.2} {:>22.1}",
+            "{:<36} {:>9.2} {:>9.2} {:>9.2} {:>22.2} {:>22.1}",
             timed.row.name,
             1e3 / library,
             1e3 / second,

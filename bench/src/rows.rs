@@ -8,6 +8,9 @@ use compare::sync::{long_notes, long_records, note};
 
 pub enum Input {
     Picture(Eight),
+    /// The same records in wide words, and such with long vectors.
+    Wide(Eight),
+    Long(Eight),
     Text(String),
     Log(String),
 }
@@ -22,8 +25,10 @@ pub struct Row {
 
 /// Square pictures: base, scaled, offset and full size as they are timed, and
 /// smaller ones, on which instructions are counted.
+type Sizes = (&'static str, [i32; 4], [i32; 4]);
+
 #[rustfmt::skip]
-const PICTURES: [(&str, [i32; 4], [i32; 4]); 8] = [
+const PICTURES: [Sizes; 8] = [
     ("ratio 1", [4096, 4096, 0, 4096], [1024, 1024, 0, 1024]),
     ("ratio 3/2", [2720, 4080, 0, 4096], [688, 1032, 0, 1024]),
     ("ratio 2", [2048, 4096, 0, 4096], [512, 1024, 0, 1024]),
@@ -35,13 +40,22 @@ const PICTURES: [(&str, [i32; 4], [i32; 4]); 8] = [
 ];
 
 impl Row {
-    pub fn picture(name: &str, [base, scaled, offset, full]: [i32; 4]) -> Row {
+    pub fn picture(name: &str, sizes: [i32; 4]) -> Row {
+        Row::of_records("", name, sizes, Input::Picture)
+    }
+
+    fn of_records(
+        kind: &str,
+        name: &str,
+        [base, scaled, offset, full]: [i32; 4],
+        input: fn(Eight) -> Input,
+    ) -> Row {
         let eight = [base, base, scaled, scaled, offset, offset, full, full];
         Row {
-            name: format!("{full}x{full}, {name}"),
+            name: format!("{kind}{full}x{full}, {name}"),
             amount: full_macroblocks(&eight),
             unit: "macroblock",
-            input: Input::Picture(eight),
+            input: input(eight),
         }
     }
 
@@ -65,7 +79,9 @@ impl Row {
 
     pub fn call(&self) -> Box<dyn Call> {
         match &self.input {
-            Input::Picture(eight) => Box::new(Picture::new(*eight)),
+            Input::Picture(eight) => Box::new(Picture::narrow(*eight)),
+            Input::Wide(eight) => Box::new(Picture::wide(*eight)),
+            Input::Long(eight) => Box::new(Picture::long(*eight)),
             Input::Text(text) => Box::new(Text::new(text)),
             Input::Log(text) => Box::new(Log::new(text)),
         }
@@ -78,6 +94,19 @@ pub fn pictures() -> Vec<Row> {
         .iter()
         .map(|(name, timed, _)| Row::picture(name, *timed))
         .collect()
+}
+
+/// Wide pictures: all of the above, and the ratios 3/2 and 2 once more with long vectors.
+fn wide_rows(sizes: fn(&Sizes) -> [i32; 4]) -> Vec<Row> {
+    let wide = |row: &Sizes| Row::of_records("wide, ", row.0, sizes(row), Input::Wide);
+    let long = |row: &Sizes| Row::of_records("long, ", row.0, sizes(row), Input::Long);
+    let rows = PICTURES.iter().map(wide);
+    rows.chain(PICTURES[1..3].iter().map(long)).collect()
+}
+
+/// Wide pictures as they are timed.
+pub fn wide_pictures() -> Vec<Row> {
+    wide_rows(|row| row.1)
 }
 
 /// The text call and the log of two texts, and the log of a large picture.
@@ -99,7 +128,7 @@ pub fn texts() -> Vec<Row> {
     ]
 }
 
-/// All rows as they are timed.
+/// All rows of narrow records and of texts as they are timed.
 pub fn timed() -> Vec<Row> {
     pictures().into_iter().chain(texts()).collect()
 }
@@ -110,5 +139,6 @@ pub fn counted() -> Vec<Row> {
         .iter()
         .map(|(name, _, counted)| Row::picture(name, *counted))
         .chain(texts())
+        .chain(wide_rows(|row| row.2))
         .collect()
 }

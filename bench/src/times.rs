@@ -28,7 +28,9 @@ pub fn median(times: &[f64]) -> f64 {
 impl Timed {
     pub fn new(row: Row) -> Timed {
         let repeats = match &row.input {
-            Input::Picture(_) => MACROBLOCKS_IN_ROUND / row.amount,
+            Input::Picture(_) | Input::Wide(_) | Input::Long(_) => {
+                MACROBLOCKS_IN_ROUND / row.amount
+            }
             Input::Text(text) | Input::Log(text) => BYTES_IN_ROUND / text.len(),
         };
         Timed {

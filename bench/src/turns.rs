@@ -44,13 +44,13 @@ pub fn report(programs: [&str; 2]) -> ExitCode {
     }
     println!("Nanoseconds, medians of {ROUNDS} rounds in turns");
     println!(
-        "{:<34} {:<14} {:>9} {:>9} {:>20}",
+        "{:<36} {:<14} {:>9} {:>9} {:>20}",
         "", "", "old", "new", "new's time of old's"
     );
     for (row, times) in rows.iter().zip(times) {
         let [old, new] = times.map(|times| median(&times));
         println!(
-            "{:<34} {:<14} {old:>9.2} {new:>9.2} {:>20.3}",
+            "{:<36} {:<14} {old:>9.2} {new:>9.2} {:>20.3}",
             row.name,
             format!("a {}", row.unit),
             new / old

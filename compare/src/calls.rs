@@ -1,10 +1,11 @@
 //! Each call made in both implementations, and the answers compared.
 
 use crate::coverage::{detail, map_row, Block, Blocks, Counts, Coverage, Inside};
-use crate::lent::Lent;
+use crate::lent::{Guard, Lent};
 use crate::session_coverage::SessionCoverage;
 use crate::text_coverage::TextCoverage;
-use compare::generate::{library, Eight};
+use crate::width_coverage::WidthCoverage;
+use compare::generate::{library, Eight, Width};
 use second::geometry::{Axis, Geometry};
 use second::map::{reading, Reading};
 use second::record::{block_in, broken_rule, record_at, DETAIL};
@@ -16,18 +17,150 @@ use spiewomir::numbers;
 pub const FILL: i16 = 0x6b31;
 pub const FILL_SECOND: i16 = 0x5d17;
 
+/// A width's calls in both implementations, and what was made of them.
+pub trait Called: Width + Guard {
+    /// Wide ones differ in both halves.
+    const FILL: Self;
+    const FILL_SECOND: Self;
+
+    /// Which records these are, for messages.
+    const NAME: &'static str;
+
+    fn picture(geometry: spiewomir::Geometry, base: &[Self], out: &mut [Self]) -> numbers::Picture;
+
+    fn macroblock(
+        geometry: spiewomir::Geometry,
+        base: &[Self],
+        position: (i32, i32),
+        out: &mut [Self],
+    ) -> numbers::Macroblock;
+
+    fn second_picture(
+        numbers: Numbers,
+        base: &[Self],
+        out: &mut [Self],
+    ) -> Result<second::Counts, second::Refusal>;
+
+    fn second_macroblock(
+        numbers: Numbers,
+        base: &[Self],
+        position: (i32, i32),
+        out: &mut [Self],
+    ) -> Result<second::Answer, second::Refusal>;
+
+    fn made(calls: &mut Calls) -> &mut Made;
+}
+
+impl Called for i16 {
+    const FILL: i16 = FILL;
+    const FILL_SECOND: i16 = FILL_SECOND;
+    const NAME: &'static str = "";
+
+    fn picture(geometry: spiewomir::Geometry, base: &[i16], out: &mut [i16]) -> numbers::Picture {
+        numbers::picture(geometry, base, out)
+    }
+
+    fn macroblock(
+        geometry: spiewomir::Geometry,
+        base: &[i16],
+        (column, row): (i32, i32),
+        out: &mut [i16],
+    ) -> numbers::Macroblock {
+        numbers::macroblock(geometry, base, column, row, out)
+    }
+
+    fn second_picture(
+        numbers: Numbers,
+        base: &[i16],
+        out: &mut [i16],
+    ) -> Result<second::Counts, second::Refusal> {
+        second::picture(numbers, base, out)
+    }
+
+    fn second_macroblock(
+        numbers: Numbers,
+        base: &[i16],
+        (column, row): (i32, i32),
+        out: &mut [i16],
+    ) -> Result<second::Answer, second::Refusal> {
+        second::macroblock(numbers, base, column, row, out)
+    }
+
+    fn made(calls: &mut Calls) -> &mut Made {
+        &mut calls.narrow
+    }
+}
+
+impl Called for i32 {
+    const FILL: i32 = 0x6b31_5c2d;
+    const FILL_SECOND: i32 = 0x5d17_2e43;
+    const NAME: &'static str = "wide ";
+
+    fn picture(geometry: spiewomir::Geometry, base: &[i32], out: &mut [i32]) -> numbers::Picture {
+        numbers::picture_wide(geometry, base, out)
+    }
+
+    fn macroblock(
+        geometry: spiewomir::Geometry,
+        base: &[i32],
+        (column, row): (i32, i32),
+        out: &mut [i32],
+    ) -> numbers::Macroblock {
+        numbers::macroblock_wide(geometry, base, column, row, out)
+    }
+
+    fn second_picture(
+        numbers: Numbers,
+        base: &[i32],
+        out: &mut [i32],
+    ) -> Result<second::Counts, second::Refusal> {
+        second::picture_wide(numbers, base, out)
+    }
+
+    fn second_macroblock(
+        numbers: Numbers,
+        base: &[i32],
+        (column, row): (i32, i32),
+        out: &mut [i32],
+    ) -> Result<second::Answer, second::Refusal> {
+        second::macroblock_wide(numbers, base, column, row, out)
+    }
+
+    fn made(calls: &mut Calls) -> &mut Made {
+        &mut calls.wide
+    }
+}
+
+/// What was made of the calls of one width.
+pub struct Made {
+    pub pictures: u64,
+    pub singles: u64,
+    pub coverage: Coverage,
+}
+
+impl Made {
+    fn new() -> Made {
+        Made {
+            pictures: 0,
+            singles: 0,
+            coverage: Coverage::new(),
+        }
+    }
+}
+
 /// Differences that are printed in full.
 const SHOWN: u64 = 20;
 
 pub struct Calls {
-    pub coverage: Coverage,
+    /// By the width of records.
+    pub narrow: Made,
+    pub wide: Made,
+    pub width_coverage: WidthCoverage,
     pub session_coverage: SessionCoverage,
     pub text_coverage: TextCoverage,
     /// What is being tried, for messages.
     pub at: String,
     /// How many of each were made.
-    pub pictures: u64,
-    pub singles: u64,
     pub sessions: u64,
     pub texts: u64,
     /// Written words and bytes of logs that were compared.
@@ -93,7 +226,7 @@ fn picture_numbers(result: Result<second::Counts, second::Refusal>) -> numbers::
 }
 
 /// What each block reads.
-fn blocks_read(base: &[i16], base_columns: usize, x: &Reading, y: &Reading) -> Blocks {
+fn blocks_read<W: Called>(base: &[W], base_columns: usize, x: &Reading, y: &Reading) -> Blocks {
     let mut blocks = Blocks::default();
     for (q, quadrant) in blocks.iter_mut().enumerate() {
         for (i, block) in quadrant.iter_mut().enumerate() {
@@ -102,10 +235,11 @@ fn blocks_read(base: &[i16], base_columns: usize, x: &Reading, y: &Reading) -> B
             let base_column = x.first + x.step[column] as usize;
             let record = record_at(base, base_row * base_columns + base_column);
             let base_quadrant = y.block[row] / 2 * 2 + x.block[column] / 2;
+            let detail = record[DETAIL].number();
             *block = Block {
-                intra: record[0] == 0,
-                bit: record[DETAIL] >> base_quadrant & 1 == 1,
-                macroblock: record[DETAIL] != 0,
+                intra: record[0].number() == 0,
+                bit: detail >> base_quadrant & 1 == 1,
+                macroblock: detail != 0,
             };
         }
     }
@@ -118,13 +252,13 @@ fn along(axis: &Axis, at: usize) -> Option<(Reading, usize)> {
 }
 
 /// Counts what an answered macroblock had. Returns its detail, block by block.
-fn count(
+fn count<W: Called>(
     counts: &mut Counts,
-    base: &[i16],
+    base: &[W],
     base_columns: usize,
     x: &Option<(Reading, usize)>,
     y: &Option<(Reading, usize)>,
-    words: &[i16],
+    words: &[W],
 ) -> i16 {
     match (x, y) {
         (Some((x, x_row)), Some((y, y_row))) => {
@@ -193,7 +327,7 @@ fn same_split(library: spiewomir::Split, second: second::Split) -> bool {
 }
 
 /// The words that were written, or the number of the refusal.
-pub fn answered(refusal: u32, words: &Lent) -> Result<Vec<i16>, u32> {
+pub fn answered<W: Called>(refusal: u32, words: &Lent<W>) -> Result<Vec<W>, u32> {
     match refusal {
         0 => Ok(words.words().to_vec()),
         number => Err(number),
@@ -203,12 +337,12 @@ pub fn answered(refusal: u32, words: &Lent) -> Result<Vec<i16>, u32> {
 impl Calls {
     pub fn new() -> Calls {
         Calls {
-            coverage: Coverage::new(),
+            narrow: Made::new(),
+            wide: Made::new(),
+            width_coverage: WidthCoverage::default(),
             session_coverage: SessionCoverage::default(),
             text_coverage: TextCoverage::default(),
             at: String::new(),
-            pictures: 0,
-            singles: 0,
             sessions: 0,
             texts: 0,
             words: 0,
@@ -226,13 +360,13 @@ impl Calls {
 
     /// What both calls must have left of the words lent to them, and the words
     /// that they wrote.
-    pub fn words_agree(
+    pub fn words_agree<W: Called>(
         &mut self,
         call: impl Fn() -> String,
         refused: bool,
-        base: &Lent,
-        ours: &Lent,
-        theirs: &[i16],
+        base: &Lent<W>,
+        ours: &Lent<W>,
+        theirs: &[W],
     ) {
         if !base.untouched() {
             self.differs(|| format!("{}: the base or a word beside it was written", call()));
@@ -244,7 +378,7 @@ impl Calls {
             if !ours.untouched() {
                 self.differs(|| format!("{}: refused, but the output was written", call()));
             }
-            if theirs.iter().any(|&word| word != FILL_SECOND) {
+            if theirs.iter().any(|&word| word != W::FILL_SECOND) {
                 self.differs(|| {
                     format!("{}: refused, but the second implementation wrote", call())
                 });
@@ -257,7 +391,7 @@ impl Calls {
             self.differs(|| {
                 let (record, word) = (at / WORDS, at % WORDS);
                 format!(
-                    "{}: record {record} word {word}: library {library}, second {second}",
+                    "{}: record {record} word {word}: library {library:?}, second {second:?}",
                     call()
                 )
             });
@@ -267,38 +401,53 @@ impl Calls {
     }
 
     /// The written detail is the answer's, or the definition's.
-    pub fn detail_is(&mut self, call: impl Fn() -> String, words: &[i16], detail: i16) {
-        if words[DETAIL] != detail {
-            self.differs(|| format!("{}: detail {}, not {detail}", call(), words[DETAIL]));
+    pub fn detail_is<W: Called>(&mut self, call: impl Fn() -> String, words: &[W], detail: i16) {
+        if words[DETAIL] != W::from(detail) {
+            self.differs(|| format!("{}: detail {:?}, not {detail}", call(), words[DETAIL]));
         }
     }
 
     /// The picture call. Returns the words that the library wrote, or the number
     /// of its refusal.
-    pub fn picture(
+    pub fn picture<W: Called>(
         &mut self,
         eight: &Eight,
-        base: &Lent,
+        base: &Lent<W>,
         out_length: usize,
-    ) -> Result<Vec<i16>, u32> {
+    ) -> Result<Vec<W>, u32> {
+        let (library, ours) = self.picture_given(eight, base, out_length);
+        answered(library.refusal, &ours)
+    }
+
+    /// The same with all that the library gave.
+    pub fn picture_given<W: Called>(
+        &mut self,
+        eight: &Eight,
+        base: &Lent<W>,
+        out_length: usize,
+    ) -> (numbers::Picture, Lent<W>) {
         let call = || {
             format!(
-                "picture {eight:?}, {} base words, {out_length} to write",
+                "{}picture {eight:?}, {} base words, {out_length} to write",
+                W::NAME,
                 base.words().len()
             )
         };
-        let mut ours = Lent::filled(out_length, FILL);
-        let mut theirs = vec![FILL_SECOND; out_length];
-        let library = numbers::picture(library(eight), base.words(), ours.words_mut());
-        let result = second::picture(Numbers::from_array(*eight), base.words(), &mut theirs);
+        let mut ours = Lent::filled(out_length, W::FILL);
+        let mut theirs = vec![W::FILL_SECOND; out_length];
+        let library = W::picture(library(eight), base.words(), ours.words_mut());
+        let result = W::second_picture(Numbers::from_array(*eight), base.words(), &mut theirs);
         let second = picture_numbers(result);
-        self.pictures += 1;
+        W::made(self).pictures += 1;
         if library != second {
             self.differs(|| format!("{}: library {library:?}, second {second:?}", call()));
         }
         self.words_agree(call, result.is_err(), base, &ours, &theirs);
         match result {
-            Err(refusal) => self.coverage.picture.refused(refusal, base.words()),
+            Err(refusal) => W::made(self)
+                .coverage
+                .picture
+                .refused(refusal, base.words()),
             Ok(_) => {
                 let geometry = Geometry::new(Numbers::from_array(*eight)).expect("accepted");
                 let all = |axis: &Axis| -> Vec<Option<(Reading, usize)>> {
@@ -311,7 +460,7 @@ impl Calls {
                         &rows[address / columns.len()],
                     );
                     let detail = count(
-                        &mut self.coverage.picture,
+                        &mut W::made(self).coverage.picture,
                         base.words(),
                         geometry.x.base_count(),
                         x,
@@ -322,32 +471,49 @@ impl Calls {
                 }
             }
         }
-        answered(library.refusal, &ours)
+        (library, ours)
     }
 
     /// The one-macroblock call. `broken` are the addresses of records that may
     /// be malformed. Returns the words that the library wrote, or the number of
     /// its refusal.
-    pub fn single(
+    pub fn single<W: Called>(
         &mut self,
         eight: &Eight,
-        base: &Lent,
+        base: &Lent<W>,
+        position: (i32, i32),
+        out_length: usize,
+        broken: &[usize],
+    ) -> Result<Vec<W>, u32> {
+        let (library, ours) = self.single_given(eight, base, position, out_length, broken);
+        answered(library.refusal, &ours)
+    }
+
+    /// The same with all that the library gave.
+    pub fn single_given<W: Called>(
+        &mut self,
+        eight: &Eight,
+        base: &Lent<W>,
         (column, row): (i32, i32),
         out_length: usize,
         broken: &[usize],
-    ) -> Result<Vec<i16>, u32> {
+    ) -> (numbers::Macroblock, Lent<W>) {
         let call = || {
-            let length = base.words().len();
-            format!("macroblock {column},{row} of {eight:?}, {length} base words, {out_length} to write")
+            let (name, length) = (W::NAME, base.words().len());
+            format!("{name}macroblock {column},{row} of {eight:?}, {length} base words, {out_length} to write")
         };
-        let mut ours = Lent::filled(out_length, FILL);
-        let mut theirs = vec![FILL_SECOND; out_length];
-        let library =
-            numbers::macroblock(library(eight), base.words(), column, row, ours.words_mut());
+        let mut ours = Lent::filled(out_length, W::FILL);
+        let mut theirs = vec![W::FILL_SECOND; out_length];
+        let library = W::macroblock(
+            library(eight),
+            base.words(),
+            (column, row),
+            ours.words_mut(),
+        );
         let numbers = Numbers::from_array(*eight);
-        let result = second::macroblock(numbers, base.words(), column, row, &mut theirs);
+        let result = W::second_macroblock(numbers, base.words(), (column, row), &mut theirs);
         let second = macroblock_numbers(result);
-        self.singles += 1;
+        W::made(self).singles += 1;
         let same = match (library == second, result) {
             (true, Ok(answer)) => library
                 .result()
@@ -359,13 +525,13 @@ impl Calls {
         }
         self.words_agree(call, result.is_err(), base, &ours, &theirs);
         match result {
-            Err(refusal) => self.coverage.single.refused(refusal, base.words()),
+            Err(refusal) => W::made(self).coverage.single.refused(refusal, base.words()),
             Ok(answer) => {
                 let geometry = Geometry::new(numbers).expect("accepted");
                 let x = along(&geometry.x, column as usize);
                 let y = along(&geometry.y, row as usize);
                 let detail = count(
-                    &mut self.coverage.single,
+                    &mut W::made(self).coverage.single,
                     base.words(),
                     geometry.x.base_count(),
                     &x,
@@ -375,12 +541,11 @@ impl Calls {
                 self.detail_is(call, &theirs, detail);
                 self.detail_is(call, ours.words(), answer.detail.into());
                 for &address in broken {
-                    let record = &base.words()[address * WORDS..][..WORDS];
-                    let rule = broken_rule(record.try_into().expect("a record"));
-                    self.coverage.unnamed[rule as usize] += 1;
+                    let rule = broken_rule(record_at(base.words(), address));
+                    W::made(self).coverage.unnamed[rule as usize] += 1;
                 }
             }
         }
-        answered(library.refusal, &ours)
+        (library, ours)
     }
 }

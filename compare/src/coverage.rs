@@ -1,7 +1,9 @@
-//! How often what can happen did happen, in calls whose answers were compared.
+//! How often what can happen did happen, in calls whose answers were compared: of one
+//! width of records, and of its long vectors.
 
 use second::geometry::Axis;
-use second::record::{DETAIL, MAX_DETAIL};
+use second::record::{broken_rule, record_at, DETAIL, MAX_DETAIL, VECTORS};
+use second::word::Word;
 use second::Refusal;
 use second::WORDS;
 
@@ -54,6 +56,40 @@ const BITS: [&str; 7] = [
     "not set",
 ];
 
+/// What a written vector word can be, by the word of the base that it comes from, and by
+/// the product v * scale + 32,768, of which it is the part above sixteen bits.
+const LONG: [&str; 8] = [
+    "of a narrow word",
+    "below, in 16 bits",
+    "above, in 16 bits",
+    "product below -2^31",
+    "product from 2^31 on",
+    "product from 2^32 on",
+    "-262,144",
+    "262,142",
+];
+
+/// What of the list above a word is; all but the first are of words beyond the narrow
+/// limit.
+fn long(word: i32) -> [bool; 8] {
+    [
+        (-16_384..=16_382).contains(&word),
+        (-32_768..-16_384).contains(&word),
+        (16_383..32_768).contains(&word),
+        word < -32_768,
+        word >= 32_768,
+        word >= 65_536,
+        word == -262_144,
+        word == 262_142,
+    ]
+}
+
+/// The first broken rule if each word were cut to its low half, and read as a number of
+/// sixteen bits.
+fn cut_rule<W: Word>(base: &[W], address: usize) -> u32 {
+    broken_rule(&record_at(base, address).map(|word| i32::from(word.number() as i16)))
+}
+
 /// The row of the block map for a macroblock inside at sample `p`.
 pub fn map_row(axis: &Axis, p: i32) -> usize {
     let borders = axis.borders(p);
@@ -65,12 +101,12 @@ pub fn map_row(axis: &Axis, p: i32) -> usize {
 }
 
 /// The number of a split, 0 to 258, by words 0 to 4 of a written record.
-fn split_number(words: &[i16]) -> usize {
-    match words[0] {
+fn split_number<W: Word>(words: &[W]) -> usize {
+    match words[0].number() {
         4 => {
             words[1..5]
                 .iter()
-                .fold(0, |number, &sub| 4 * number + sub as usize)
+                .fold(0, |number, &sub| 4 * number + sub.number() as usize)
                 + 3
         }
         kind => kind as usize - 1,
@@ -117,17 +153,22 @@ pub struct Counts {
     rules: [u64; 8],
     /// Rules that are given for a record that breaks rule 7 too.
     before_7: [u64; 7],
+    /// Written vector words by LONG and their place in a block's four; of wide records.
+    long: [[u64; 4]; 8],
+    /// Rules that are given for a record that would be well formed, or break a later rule
+    /// first, if its words were cut to their low halves.
+    cut: [u64; 8],
 }
 
 /// What a macroblock inside the window had.
-pub struct Inside<'a> {
+pub struct Inside<'a, W> {
     pub map_rows: [usize; 2],
     pub class: usize,
     /// How many of the four blocks along each axis fall in the first column and row.
     pub falls: [u8; 2],
     pub blocks: Blocks,
     /// The written record.
-    pub words: &'a [i16],
+    pub words: &'a [W],
 }
 
 impl Counts {
@@ -144,6 +185,8 @@ impl Counts {
             refusals: [0; 9],
             rules: [0; 8],
             before_7: [0; 7],
+            long: [[0; 4]; 8],
+            cut: [0; 8],
         }
     }
 
@@ -151,16 +194,19 @@ impl Counts {
         self.outside += 1;
     }
 
-    pub fn inside(&mut self, inside: Inside) {
+    pub fn inside<W: Word>(&mut self, inside: Inside<W>) {
         for axis in 0..2 {
             self.map_rows[axis][inside.map_rows[axis]] += 1;
         }
         self.classes[inside.class] += 1;
         let blocks = inside.blocks.as_flattened().iter();
         self.intra_blocks[blocks.filter(|block| block.intra).count()] += 1;
-        let intra = inside.words[0] == 0;
+        let intra = inside.words[0] == W::from(0);
         if !intra {
             self.splits[split_number(inside.words)] += 1;
+            if is_wide::<W>() {
+                self.vectors(&inside.words[VECTORS..DETAIL]);
+            }
         }
         let [columns, rows] = inside.falls.map(|falls| falls as usize - 1);
         self.falls[intra as usize][columns][rows] += 1;
@@ -187,17 +233,39 @@ impl Counts {
         }
     }
 
-    /// A call on this base was refused.
-    pub fn refused(&mut self, refusal: Refusal, base: &[i16]) {
-        self.refusals[refusal.number as usize] += 1;
-        if refusal.number == 8 {
-            self.rules[refusal.rule as usize] += 1;
-            let detail = base[refusal.place as usize * WORDS + DETAIL];
-            if refusal.rule < 7 && !(0..=MAX_DETAIL).contains(&detail) {
-                self.before_7[refusal.rule as usize] += 1;
+    /// The vector words of a wide record, which tell one piece from another: each word is
+    /// looked at once in a row of blocks.
+    fn vectors<W: Word>(&mut self, words: &[W]) {
+        for (at, &word) in words.iter().enumerate() {
+            if at % 16 >= 4 && words[at - 4] == word {
+                continue;
+            }
+            for (count, is) in self.long.iter_mut().zip(long(word.number())) {
+                count[at % 4] += is as u64;
             }
         }
     }
+
+    /// A call on this base was refused.
+    pub fn refused<W: Word>(&mut self, refusal: Refusal, base: &[W]) {
+        self.refusals[refusal.number as usize] += 1;
+        if refusal.number == 8 {
+            let (rule, place) = (refusal.rule as usize, refusal.place as usize);
+            self.rules[rule] += 1;
+            let detail = base[place * WORDS + DETAIL].number();
+            if rule < 7 && !(0..=MAX_DETAIL.into()).contains(&detail) {
+                self.before_7[rule] += 1;
+            }
+            if is_wide::<W>() {
+                let cut = cut_rule(base, place);
+                self.cut[rule] += (cut == 0 || cut > refusal.rule) as u64;
+            }
+        }
+    }
+}
+
+fn is_wide<W: Word>() -> bool {
+    size_of::<W>() == size_of::<i32>()
 }
 
 pub struct Coverage {
@@ -219,8 +287,8 @@ impl Coverage {
 
     /// Prints the tables. For each, its name and whether everything that it
     /// lists did happen.
-    pub fn report(&self) -> [(&'static str, bool); 10] {
-        [
+    pub fn report(&self) -> Vec<(&'static str, bool)> {
+        vec![
             (
                 "each row of the block map, on both axes, in both calls",
                 self.print_map_rows(),
@@ -256,6 +324,46 @@ impl Coverage {
                 self.print_before_7(),
             ),
         ]
+    }
+
+    /// The same of wide records: all that is above, and what only these can have.
+    pub fn report_wide(&self) -> Vec<(&'static str, bool)> {
+        let mut verdicts = self.report();
+        verdicts.push((
+            "vectors beyond the narrow limit, products beyond 32 bits and words at both ends, at each place, in both calls",
+            self.print_long(),
+        ));
+        verdicts.push((
+            "each rule but 4, of a record that keeps it in its words' low halves, in both calls",
+            self.print_cut(),
+        ));
+        verdicts
+    }
+
+    fn print_long(&self) -> bool {
+        println!(
+            "written vector words: horizontal and vertical of both lists in pictures, and singly"
+        );
+        let mut all = true;
+        for (number, name) in LONG.iter().enumerate() {
+            let counts = [self.picture.long[number], self.single.long[number]];
+            let counts = counts.as_flattened();
+            line(name, counts);
+            all &= counts.iter().all(|&count| count > 0);
+        }
+        all
+    }
+
+    fn print_cut(&self) -> bool {
+        println!("rule that refusal 8 gives of a record that keeps it in its words' low halves: in pictures, singly");
+        let mut all = true;
+        for rule in 1..8 {
+            let counts = [self.picture.cut[rule], self.single.cut[rule]];
+            line(&rule.to_string(), &counts);
+            // Rule 4 is asked of words in -1..31, by rules 1 to 3.
+            all &= counts.iter().all(|&count| (count > 0) == (rule != 4));
+        }
+        all
     }
 
     fn print_map_rows(&self) -> bool {

@@ -12,6 +12,11 @@ impl Guard for i16 {
     const GUARD: i16 = 0x7a5c;
 }
 
+impl Guard for i32 {
+    /// The same of a wide record.
+    const GUARD: i32 = 0x7a5c_3b91;
+}
+
 impl Guard for u8 {
     /// No text of the grammar and no log has such a byte.
     const GUARD: u8 = 0xa5;

@@ -4,6 +4,7 @@
 //!
 //!     compare                 every test
 //!     compare NUMBER          one random picture again, printed
+//!     compare wide NUMBER     one of wide records
 //!
 //! A random picture's number is its seed.
 
@@ -16,11 +17,15 @@ mod sessions;
 mod sweeps;
 mod text_coverage;
 mod texts;
+mod width_coverage;
+mod widths;
 
-use calls::Calls;
+use calls::{Called, Calls};
 
-/// Random pictures.
+/// Random pictures, of narrow and of wide records, and narrow ones made in both widths.
 const PICTURES: u64 = 30_000;
+const WIDE_PICTURES: u64 = 8_000;
+const BOTH_WIDTHS: u64 = 4_000;
 
 /// Random lists of session calls, whole pictures made by a session, and session
 /// values that no list of calls makes.
@@ -33,20 +38,20 @@ const TEXTS: u64 = 5_000;
 
 /// Every test, a line each: its name, and what makes its calls.
 #[rustfmt::skip]
-const TESTS: [(&str, fn(&mut Calls)); 29] = [
+const TESTS: [(&str, fn(&mut Calls)); 43] = [
     ("bench example: S 2B passes, 2B + 2 is refused", sweeps::bench_scaled),
     ("bench example: offset -8,192 passes, -8,194 is refused", sweeps::bench_offset),
-    ("each of the 259 splits", sweeps::splits),
-    ("every window of bases to 128", sweeps::windows),
-    ("windows of bases to 4096", sweeps::long_windows),
-    ("every two rows of the block map with every intra pattern", sweeps::intra_patterns),
-    ("every two rows of the block map with each bit of detail", sweeps::detail_patterns),
-    ("each word of a record at every limit", sweeps::words),
-    ("every vector word, scaled by more than 200 pairs of B and S", sweeps::scaled_words),
-    ("each number of a geometry at every limit", sweeps::numbers),
-    ("every set of faults in the order of their refusals", sweeps::faults),
-    ("large pictures", pictures::large),
-    ("random pictures", |calls| numbered(calls, "random picture", PICTURES, pictures::random)),
+    ("each of the 259 splits", sweeps::splits::<i16>),
+    ("every window of bases to 128", sweeps::windows::<i16>),
+    ("windows of bases to 4096", sweeps::long_windows::<i16>),
+    ("every two rows of the block map with every intra pattern", sweeps::intra_patterns::<i16>),
+    ("every two rows of the block map with each bit of detail", sweeps::detail_patterns::<i16>),
+    ("each word of a record at every limit", sweeps::words::<i16>),
+    ("every vector word, scaled by more than 200 pairs of B and S", sweeps::scaled_words::<i16>),
+    ("each number of a geometry at every limit", sweeps::numbers::<i16>),
+    ("every set of faults in the order of their refusals", sweeps::faults::<i16>),
+    ("large pictures", pictures::large::<i16>),
+    ("random pictures", |calls| numbered(calls, "random picture", PICTURES, pictures::random::<i16>)),
     ("random lists of session calls", |calls| numbered(calls, "random list", LISTS, sessions::list)),
     ("whole pictures made by a session", |calls| sessions::pictures(calls, SESSION_PICTURES)),
     ("sessions that no list of calls makes", |calls| numbered(calls, "forged session", FORGED, sessions::forged)),
@@ -63,6 +68,20 @@ const TESTS: [(&str, fn(&mut Calls)); 29] = [
     ("texts with a geometry's numbers at their limits", texts::numbers_at_limits),
     ("texts of the largest pictures", texts::largest),
     ("random texts", |calls| texts::random(calls, TEXTS)),
+    ("wide records: each of the 259 splits", sweeps::splits::<i32>),
+    ("wide records: every window of bases to 128", sweeps::windows::<i32>),
+    ("wide records: windows of bases to 4096", sweeps::long_windows::<i32>),
+    ("wide records: every two rows of the block map with every intra pattern", sweeps::intra_patterns::<i32>),
+    ("wide records: every two rows of the block map with each bit of detail", sweeps::detail_patterns::<i32>),
+    ("wide records: each word at every limit", sweeps::words::<i32>),
+    ("wide records: vector words to both ends, scaled by more than 200 pairs of B and S", sweeps::scaled_words::<i32>),
+    ("wide records: each number of a geometry at every limit", sweeps::numbers::<i32>),
+    ("wide records: every set of faults in the order of their refusals", sweeps::faults::<i32>),
+    ("wide records: large pictures", pictures::large::<i32>),
+    ("wide records: random pictures", |calls| numbered(calls, "random wide picture", WIDE_PICTURES, pictures::random::<i32>)),
+    ("wide records: words whose low halves would do", widths::low_halves),
+    ("the ends of the vectors' limits in both widths", widths::limits),
+    ("random narrow bases in both widths", |calls| numbered(calls, "narrow base", BOTH_WIDTHS, widths::random)),
 ];
 
 /// A test made for each number below `count`.
@@ -86,8 +105,10 @@ impl Tests {
     fn compare(&mut self, name: &str, test: impl FnOnce(&mut Calls)) {
         let made = |calls: &Calls| {
             [
-                (calls.pictures, "picture calls"),
-                (calls.singles, "one-macroblock calls"),
+                (calls.narrow.pictures, "picture calls"),
+                (calls.narrow.singles, "one-macroblock calls"),
+                (calls.wide.pictures, "wide picture calls"),
+                (calls.wide.singles, "wide one-macroblock calls"),
                 (calls.sessions, "session calls"),
                 (calls.texts, "texts"),
             ]
@@ -122,18 +143,22 @@ fn main() {
         passed: 0,
         failed: 0,
     };
-    match std::env::args().nth(1) {
-        Some(number) => again(&mut tests, &number),
-        None => everything(&mut tests),
+    let arguments: Vec<String> = std::env::args().skip(1).collect();
+    match &arguments.iter().map(String::as_str).collect::<Vec<_>>()[..] {
+        [] => everything(&mut tests),
+        ["wide", number] => again::<i32>(&mut tests, number),
+        [number, ..] => again::<i16>(&mut tests, number),
     }
     println!("{} passed, {} failed", tests.passed, tests.failed);
     std::process::exit((tests.failed > 0) as i32);
 }
 
-fn again(tests: &mut Tests, number: &str) {
+fn again<W: Called>(tests: &mut Tests, number: &str) {
     let number = number.parse().expect("a picture's number");
-    pictures::print(number);
-    tests.compare("random picture", |calls| pictures::random(calls, number));
+    pictures::print::<W>(number);
+    tests.compare("random picture", |calls| {
+        pictures::random::<W>(calls, number)
+    });
 }
 
 fn everything(tests: &mut Tests) {
@@ -145,20 +170,32 @@ fn everything(tests: &mut Tests) {
     println!("Coverage, in calls that were compared:");
     let calls = &tests.calls;
     let tables = [
-        &calls.coverage.report()[..],
+        &calls.narrow.coverage.report()[..],
         &calls.session_coverage.report(),
         &calls.text_coverage.report(),
     ]
     .concat();
+    println!();
+    println!("Coverage of wide records, and of both widths:");
+    let wide = calls.wide.coverage.report_wide();
+    let both = calls.width_coverage.report();
     for (name, good) in tables {
+        tests.verdict(name, good);
+    }
+    for (name, good) in wide {
+        tests.verdict(&format!("wide records: {name}"), good);
+    }
+    for (name, good) in both {
         tests.verdict(name, good);
     }
     println!();
     let calls = &tests.calls;
     println!(
-        "{} picture calls, {} one-macroblock calls, {} session calls and {} texts, {} written words and {} bytes of logs compared, {} differences",
-        calls.pictures,
-        calls.singles,
+        "{} and {} wide picture calls, {} and {} wide one-macroblock calls, {} session calls and {} texts, {} written words and {} bytes of logs compared, {} differences",
+        calls.narrow.pictures,
+        calls.wide.pictures,
+        calls.narrow.singles,
+        calls.wide.singles,
         calls.sessions,
         calls.texts,
         calls.words,

@@ -1,6 +1,6 @@
-//! Random pictures, and large ones.
+//! Random pictures, and large ones, of either width.
 
-use crate::calls::Calls;
+use crate::calls::{Called, Calls};
 use crate::lent::Lent;
 use compare::generate::{
     base_macroblocks, break_record, detailed, full_macroblocks, geometry, intra, random_rule,
@@ -13,7 +13,7 @@ use second::record::DETAIL;
 use second::{Numbers, WORDS};
 
 /// Column and row of a macroblock.
-type Position = (i32, i32);
+pub type Position = (i32, i32);
 
 /// All positions of a picture in raster order.
 pub fn positions(eight: &Eight) -> Vec<Position> {
@@ -24,7 +24,7 @@ pub fn positions(eight: &Eight) -> Vec<Position> {
 }
 
 /// A position of the picture; if it is outside the window, a second try is made.
-fn random_position(random: &mut Random, eight: &Eight) -> Position {
+pub fn random_position(random: &mut Random, eight: &Eight) -> Position {
     let mut any = || {
         (
             random.within(0, eight[6] / 16 - 1),
@@ -41,7 +41,12 @@ fn random_position(random: &mut Random, eight: &Eight) -> Position {
 
 /// The picture call on what must be accepted, and the one-macroblock call for
 /// some positions, whose words must be the picture's.
-pub fn whole_and_single(calls: &mut Calls, eight: &Eight, base: &Lent, singly: &[Position]) {
+pub fn whole_and_single<W: Called>(
+    calls: &mut Calls,
+    eight: &Eight,
+    base: &Lent<W>,
+    singly: &[Position],
+) {
     match calls.picture(eight, base, full_macroblocks(eight) * WORDS) {
         Err(number) => calls.differs(|| format!("picture {eight:?}: refused by {number}")),
         Ok(words) => {
@@ -78,32 +83,32 @@ fn named(eight: &Eight, (column, row): Position) -> Vec<usize> {
 
 /// Geometry and base of a random picture, and the generator for what is done
 /// with it.
-fn made(number: u64) -> (Eight, Vec<i16>, Random) {
+pub fn made<W: Called>(number: u64) -> (Eight, Vec<W>, Random) {
     let mut random = Random::new(number);
     let eight = geometry(&mut random);
-    let mood = Mood::new(&mut random);
+    let mood = Mood::<W>::new(&mut random);
     let base = mood.base(&mut random, base_macroblocks(&eight));
     (eight, base, random)
 }
 
 /// A random picture as the outside vectors are written: the eight numbers, and
 /// a line of words for each base record.
-pub fn print(number: u64) {
-    let (eight, base, _) = made(number);
+pub fn print<W: Called>(number: u64) {
+    let (eight, base, _) = made::<W>(number);
     let line = |words: &[String]| println!("{}", words.join(" "));
     line(&eight.map(|number| number.to_string()));
     for record in base.chunks(WORDS) {
         line(
             &record
                 .iter()
-                .map(|word| word.to_string())
+                .map(|word| word.number().to_string())
                 .collect::<Vec<_>>(),
         );
     }
 }
 
-pub fn random(calls: &mut Calls, number: u64) {
-    let (eight, base, mut random) = made(number);
+pub fn random<W: Called>(calls: &mut Calls, number: u64) {
+    let (eight, base, mut random) = made::<W>(number);
     let random = &mut random;
     let lent = Lent::of(&base);
     let macroblocks = full_macroblocks(&eight);
@@ -116,17 +121,26 @@ pub fn random(calls: &mut Calls, number: u64) {
     malformed(calls, random, &eight, &base, &sample);
     not_named(calls, random, &eight, &base);
     for _ in 0..2 {
-        refused(calls, random, &eight, &base);
+        let faulty = faulty(random, &eight, &base);
+        let lent = Lent::of(&faulty.base);
+        let _ = calls.picture(&faulty.eight, &lent, faulty.picture_length);
+        let _ = calls.single(
+            &faulty.eight,
+            &lent,
+            faulty.position,
+            faulty.single_length,
+            &faulty.broken,
+        );
     }
 }
 
 /// Some records broken: the picture call refuses, the one-macroblock call if it
 /// reads one of them.
-fn malformed(
+fn malformed<W: Called>(
     calls: &mut Calls,
     random: &mut Random,
     eight: &Eight,
-    base: &[i16],
+    base: &[W],
     sample: &[Position],
 ) {
     let (base, broken) = with_broken_records(random, base);
@@ -137,7 +151,7 @@ fn malformed(
     }
 }
 
-fn with_broken_records(random: &mut Random, base: &[i16]) -> (Vec<i16>, Vec<usize>) {
+pub fn with_broken_records<W: Called>(random: &mut Random, base: &[W]) -> (Vec<W>, Vec<usize>) {
     let mut base = base.to_vec();
     let records = base.len() / WORDS;
     let mut broken = Vec::new();
@@ -152,14 +166,14 @@ fn with_broken_records(random: &mut Random, base: &[i16]) -> (Vec<i16>, Vec<usiz
 
 /// Every record but those that one macroblock names is overwritten with any
 /// words: its answer and words stay.
-fn not_named(calls: &mut Calls, random: &mut Random, eight: &Eight, base: &[i16]) {
+fn not_named<W: Called>(calls: &mut Calls, random: &mut Random, eight: &Eight, base: &[W]) {
     let position = random_position(random, eight);
     let before = calls.single(eight, &Lent::of(base), position, WORDS, &[]);
     let named = named(eight, position);
     let mut other = base.to_vec();
     for (address, record) in other.chunks_mut(WORDS).enumerate() {
         if !named.contains(&address) {
-            record.iter_mut().for_each(|word| *word = random.word());
+            record.iter_mut().for_each(|word| *word = W::any(random));
         }
     }
     let after = calls.single(eight, &Lent::of(&other), position, WORDS, &[]);
@@ -170,8 +184,19 @@ fn not_named(calls: &mut Calls, random: &mut Random, eight: &Eight, base: &[i16]
     }
 }
 
+/// What is handed to both calls with some faults.
+pub struct Faulty<W> {
+    pub eight: Eight,
+    pub base: Vec<W>,
+    /// The addresses of records that may be malformed.
+    pub broken: Vec<usize>,
+    pub position: Position,
+    pub single_length: usize,
+    pub picture_length: usize,
+}
+
 /// Some of: numbers of the geometry, lengths and position wrong, a record broken.
-fn refused(calls: &mut Calls, random: &mut Random, eight: &Eight, base: &[i16]) {
+pub fn faulty<W: Called>(random: &mut Random, eight: &Eight, base: &[W]) -> Faulty<W> {
     let mut eight = *eight;
     let (mut base, mut broken) = (base.to_vec(), Vec::new());
     let (mut single_length, mut picture_length) = (WORDS, full_macroblocks(&eight) * WORDS);
@@ -225,9 +250,14 @@ fn refused(calls: &mut Calls, random: &mut Random, eight: &Eight, base: &[i16]) 
             };
         }
     }
-    let lent = Lent::of(&base);
-    let _ = calls.picture(&eight, &lent, picture_length);
-    let _ = calls.single(&eight, &lent, position, single_length, &broken);
+    Faulty {
+        eight,
+        base,
+        broken,
+        position,
+        single_length,
+        picture_length,
+    }
 }
 
 fn wrong_length(random: &mut Random, length: usize) -> usize {
@@ -249,7 +279,7 @@ fn wrong_length(random: &mut Random, length: usize) -> usize {
 /// Pictures of 4096 by 4096: every ratio's end, a window that is cut on all
 /// sides, one off the picture, and a record at the last address that breaks rule 7
 /// and then rule 5.
-pub fn large(calls: &mut Calls) {
+pub fn large<W: Called>(calls: &mut Calls) {
     let geometries: [Eight; 5] = [
         [4096, 4096, 4096, 4096, 0, 0, 4096, 4096],
         [2720, 2720, 4080, 4080, 6, -10, 4096, 4096],
@@ -259,7 +289,7 @@ pub fn large(calls: &mut Calls) {
     ];
     for (number, eight) in geometries.iter().enumerate() {
         let random = &mut Random::new(number as u64);
-        let mood = Mood::mixed(random);
+        let mood = Mood::<W>::mixed(random);
         let base = Lent::of(&mood.base(random, base_macroblocks(eight)));
         let mut sample: Vec<Position> = (0..100).map(|_| random_position(random, eight)).collect();
         sample.extend([(0, 0), (255, 0), (0, 255), (255, 255)]);
@@ -267,11 +297,11 @@ pub fn large(calls: &mut Calls) {
     }
 
     let eight = geometries[0];
-    let mut base = detailed(intra(), 10).repeat(65_536);
+    let mut base = detailed(intra::<W>(), 10).repeat(65_536);
     whole_and_single(calls, &eight, &Lent::of(&base), &[(255, 255)]);
     let last = 65_535 * WORDS;
     for (word, value) in [(DETAIL, 16), (DETAIL - 1, 1)] {
-        base[last + word] = value;
+        base[last + word] = W::from(value);
         let base = Lent::of(&base);
         let _ = calls.picture(&eight, &base, 65_536 * WORDS);
         let _ = calls.single(&eight, &base, (255, 255), WORDS, &[65_535]);

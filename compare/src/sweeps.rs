@@ -1,6 +1,6 @@
-//! Tests that go through all cases of a kind.
+//! Tests that go through all cases of a kind, of either width.
 
-use crate::calls::Calls;
+use crate::calls::{Called, Calls};
 use crate::coverage::map_row;
 use crate::lent::Lent;
 use crate::pictures::{positions, whole_and_single};
@@ -14,12 +14,6 @@ use second::{Numbers, WORDS};
 
 /// A picture of 3 by 3 macroblocks over a base of 2 by 2, with every class.
 const SMALL: Eight = [32, 32, 48, 48, 0, 0, 48, 48];
-
-/// Values of a record's word at and beside every limit of the seven rules.
-const WORD_LIMITS: [i16; 29] = [
-    -32768, -8194, -8193, -8192, -8191, -256, -2, -1, 0, 1, 2, 3, 4, 5, 6, 8, 14, 15, 16, 17, 30,
-    31, 32, 33, 256, 8190, 8191, 8192, 32767,
-];
 
 /// Numbers of a geometry at and beside every limit, and far from all.
 const NUMBER_LIMITS: [i32; 30] = [
@@ -55,12 +49,12 @@ const NUMBER_LIMITS: [i32; 30] = [
     i32::MAX,
 ];
 
-fn small_base() -> Vec<i16> {
+fn small_base<W: Called>() -> Vec<W> {
     [
-        detailed(distinct(1, [0; 4], 1), 8),
+        detailed(distinct(1, [0; 4], W::FIRST), 8),
         detailed(intra(), 6),
-        distinct(4, [0, 1, 2, 3], 20),
-        detailed(distinct(3, [0; 4], 40), 15),
+        distinct(4, [0, 1, 2, 3], W::FIRST + 19),
+        detailed(distinct(3, [0; 4], W::FIRST + 39), 15),
     ]
     .concat()
 }
@@ -101,21 +95,22 @@ pub fn bench_offset(calls: &mut Calls) {
 }
 
 /// At ratio 1 each split of the base comes out as it is, and so does its detail.
-pub fn splits(calls: &mut Calls) {
+pub fn splits<W: Called>(calls: &mut Calls) {
     let eight = [16, 16, 16, 16, 0, 0, 16, 16];
-    let mut records = vec![
-        distinct(1, [0; 4], 1),
-        distinct(2, [0; 4], 1),
-        distinct(3, [0; 4], 1),
+    let mut records: Vec<Record<W>> = vec![
+        distinct(1, [0; 4], W::FIRST),
+        distinct(2, [0; 4], W::FIRST),
+        distinct(3, [0; 4], W::FIRST),
     ];
     for n in 0..256 {
-        records.push(distinct(4, [n / 64, n / 16 % 4, n / 4 % 4, n % 4], 1));
+        let subs = [n / 64, n / 16 % 4, n / 4 % 4, n % 4];
+        records.push(distinct(4, subs, W::FIRST));
     }
     for (detail, record) in (0..).zip(records) {
         let record = detailed(record, detail % 16);
         whole_and_single(calls, &eight, &Lent::of(&record), &[(0, 0)]);
         let words = calls.single(&eight, &Lent::of(&record), (0, 0), WORDS, &[]);
-        if words.as_deref() != Ok(&record) {
+        if words.as_deref() != Ok(&record[..]) {
             calls.differs(|| format!("a split is not kept at ratio 1: {:?}", &record[..5]));
         }
     }
@@ -136,14 +131,20 @@ fn accepted_windows() -> Vec<(i32, i32, i32)> {
     found
 }
 
+/// So many records with another vector in each block, and any details.
+fn stepping<W: Called>(random: &mut Random, records: i32) -> Vec<Record<W>> {
+    let record = |n| distinct(4, [3; 4], W::FIRST + 16 * n);
+    (0..records)
+        .map(|n| detailed(record(n), random.below(16) as i16))
+        .collect()
+}
+
 /// Each of them along either axis, with another vector in each base block, and any
 /// details.
-pub fn windows(calls: &mut Calls) {
+pub fn windows<W: Called>(calls: &mut Calls) {
     let random = &mut Random::new(6);
     for (base, scaled, distance) in accepted_windows() {
-        let records: Vec<Record> = (0..base as i16 / 16)
-            .map(|n| detailed(distinct(4, [3; 4], 1 + 16 * n), random.below(16) as i16))
-            .collect();
+        let records = stepping::<W>(random, base / 16);
         let lent = Lent::of(&records.concat());
         whole_and_single(
             calls,
@@ -161,12 +162,9 @@ pub fn windows(calls: &mut Calls) {
 }
 
 /// Random windows of bases to 4096 along either axis.
-pub fn long_windows(calls: &mut Calls) {
+pub fn long_windows<W: Called>(calls: &mut Calls) {
     let random = &mut Random::new(4);
-    let records: Vec<Record> = (0..256)
-        .map(|n| detailed(distinct(4, [3; 4], 1 + 16 * n), random.below(16) as i16))
-        .collect();
-    let words = records.concat();
+    let words = stepping::<W>(random, 256).concat();
     for _ in 0..5_000 {
         let base = 16 * random.within(1, 256);
         let scaled = base + 2 * random.within(0, base / 2);
@@ -237,10 +235,10 @@ fn neighbour(eight: &Eight, address: usize) -> usize {
 }
 
 /// With each of the sixteen ways in which four base macroblocks are intra or not.
-pub fn intra_patterns(calls: &mut Calls) {
+pub fn intra_patterns<W: Called>(calls: &mut Calls) {
     let random = &mut Random::new(1);
     for eight in two_map_rows() {
-        let mood = Mood::without_intra(random);
+        let mood = Mood::<W>::without_intra(random);
         let base = mood.base(random, base_macroblocks(&eight));
         for pattern in 0..16 {
             let mut base = base.clone();
@@ -257,12 +255,12 @@ pub fn intra_patterns(calls: &mut Calls) {
 
 /// With one quadrant of four base macroblocks that has detail, and with one that has
 /// none; the macroblock is intra, or all others are, or none is.
-pub fn detail_patterns(calls: &mut Calls) {
-    let moving = distinct(4, [0, 1, 2, 3], 1);
+pub fn detail_patterns<W: Called>(calls: &mut Calls) {
+    let moving = distinct(4, [0, 1, 2, 3], W::FIRST);
     for eight in two_map_rows() {
         for one in 0..16 {
             for (bits, intras) in [(0, 1), (0, 2), (0, 0), (15, 1), (15, 2), (15, 0)] {
-                let records: Vec<Record> = (0..base_macroblocks(&eight))
+                let records: Vec<Record<W>> = (0..base_macroblocks(&eight))
                     .map(|address| {
                         let named = neighbour(&eight, address) == one / 4;
                         let record = match (intras, named) {
@@ -279,16 +277,16 @@ pub fn detail_patterns(calls: &mut Calls) {
 }
 
 /// In records of every type, each word is set to every limit in turn.
-pub fn words(calls: &mut Calls) {
+pub fn words<W: Called>(calls: &mut Calls) {
     let eight = [16, 16, 24, 32, 0, 0, 32, 32];
-    let mut records = vec![
+    let mut records: Vec<Record<W>> = vec![
         intra(),
-        distinct(1, [0; 4], 1),
-        distinct(2, [0; 4], 1),
-        distinct(3, [0; 4], 1),
+        distinct(1, [0; 4], W::FIRST),
+        distinct(2, [0; 4], W::FIRST),
+        distinct(3, [0; 4], W::FIRST),
     ];
     for subs in [[0; 4], [1; 4], [2; 4], [3; 4], [0, 1, 2, 3]] {
-        records.push(distinct(4, subs, 1));
+        records.push(distinct(4, subs, W::FIRST));
     }
     let random = &mut Random::new(2);
     for _ in 0..8 {
@@ -296,7 +294,7 @@ pub fn words(calls: &mut Calls) {
     }
     for record in records {
         for at in 0..WORDS {
-            for value in WORD_LIMITS {
+            for &value in W::LIMITS {
                 let mut record = record;
                 record[at] = value;
                 let base = Lent::of(&record);
@@ -307,11 +305,21 @@ pub fn words(calls: &mut Calls) {
     }
 }
 
-/// Every vector word is scaled, for more than 200 pairs B, S along either axis: the
-/// smallest and the largest of both, ratios whose scale is exact and some whose is
-/// not. The macroblock at 0,0 reads base macroblock 0 alone, which moves as a whole,
-/// by a word below zero in list 0 and one from 0 on in list 1, with any detail.
-pub fn scaled_words(calls: &mut Calls) {
+/// Every vector word is scaled (of wide records one in so many, and both ends), for more
+/// than 200 pairs B, S along either axis: the smallest and the largest of both, ratios whose
+/// scale is exact and some whose is not. The macroblock at 0,0 reads base macroblock 0 alone,
+/// which moves as a whole, by a word below zero in list 0 and one from 0 on in list 1, with
+/// any detail.
+pub fn scaled_words<W: Called>(calls: &mut Calls) {
+    let (limit, step) = (-W::VECTORS.start().number(), W::STEP as i32);
+    // In each step another one of its words, -limit first; and the last before 0.
+    let mut words: Vec<i32> = (-limit..0)
+        .step_by(W::STEP)
+        .map(|word| word + (word / step * 37).rem_euclid(step))
+        .collect();
+    if words.last() != Some(&-1) {
+        words.push(-1);
+    }
     let random = &mut Random::new(5);
     let mut pairs: Vec<(i32, i32)> = vec![(32, 48), (80, 156), (112, 130)];
     for base in [
@@ -327,25 +335,29 @@ pub fn scaled_words(calls: &mut Calls) {
     assert!(pairs.len() >= 200, "{} pairs", pairs.len());
     for &(base, scaled) in &pairs {
         let other = 16 + 2 * random.within(0, 8);
-        let mut lent = Lent::of(&vec![0; base as usize / 16 * WORDS]);
+        let mut lent = Lent::of(&vec![W::from(0); base as usize / 16 * WORDS]);
         for eight in [
             [base, 16, scaled, other, 0, 0, 16, 16],
             [16, base, other, scaled, 0, 0, 16, 16],
         ] {
-            for word in -8192..0 {
-                lent.lend_first(&detailed(whole(word, word + 8192), word & 15));
+            for &word in &words {
+                lent.lend_first(&detailed(whole(word, word + limit), (word & 15) as i16));
                 let _ = calls.single(&eight, &lent, (0, 0), WORDS, &[]);
             }
         }
     }
-    println!("{} pairs of B and S with every word", pairs.len());
+    println!(
+        "{} pairs of B and S with {} words",
+        pairs.len(),
+        2 * words.len()
+    );
 }
 
 /// Every two of a geometry's numbers are set to every two limits. The calls are
 /// made with the base as it was, and if the geometry is accepted and small with
 /// one that fits.
-pub fn numbers(calls: &mut Calls) {
-    let base = Lent::of(&small_base());
+pub fn numbers<W: Called>(calls: &mut Calls) {
+    let base = Lent::of(&small_base::<W>());
     let random = &mut Random::new(3);
     for first in 0..8 {
         for second in first + 1..8 {
@@ -358,7 +370,7 @@ pub fn numbers(calls: &mut Calls) {
                     let _ = calls.single(&eight, &base, (1, 1), WORDS, &[]);
                     let accepted = Geometry::new(Numbers::from_array(eight)).is_ok();
                     if accepted && base_macroblocks(&eight).max(full_macroblocks(&eight)) <= 768 {
-                        let mood = Mood::mixed(random);
+                        let mood = Mood::<W>::mixed(random);
                         let base = Lent::of(&mood.base(random, base_macroblocks(&eight)));
                         let positions = positions(&eight);
                         let some = [random.pick(&positions), random.pick(&positions)];
@@ -371,7 +383,7 @@ pub fn numbers(calls: &mut Calls) {
 }
 
 /// Every set of the faults 1 to 8, on either axis: the lowest is the refusal.
-pub fn faults(calls: &mut Calls) {
+pub fn faults<W: Called>(calls: &mut Calls) {
     for axis in 0..2 {
         for set in 0..256u32 {
             let has = |number: u32| set >> (number - 1) & 1 == 1;
@@ -381,10 +393,10 @@ pub fn faults(calls: &mut Calls) {
                     eight[at + axis] = wrong;
                 }
             }
-            let mut base = small_base();
+            let mut base = small_base::<W>();
             if has(8) {
                 // By rule 3, or by rule 7.
-                base[2 * WORDS + [5, DETAIL][axis]] = 32;
+                base[2 * WORDS + [5, DETAIL][axis]] = W::from(32);
             }
             if has(5) {
                 base.pop();

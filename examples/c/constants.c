@@ -20,6 +20,7 @@ static void is(int line, const char *what, uint32_t got, uint32_t expected) {
 
 #define W SPIEWOMIR_WORDS
 static int16_t base[SPIEWOMIR_TEXT_WORDS + 1], one[W + 1], out[25 * W];
+static int32_t wide[2 * W], wide_one[2 * W];
 static uint8_t text[SPIEWOMIR_TEXT_BYTES + 1], room[SPIEWOMIR_LOG_BYTES];
 static const SpiewomirGeometry small = {16, 16, 16, 16, 0, 0, 16, 16};
 
@@ -27,16 +28,24 @@ static void intra(int16_t *words) {
     for (int i = 0; i < W; i++) words[i] = i >= 5 && i < 13 ? -1 : 0;
 }
 
+/* `base` again, in wide words */
+static void widen(void) {
+    for (int i = 0; i < 2 * W; i++) wide[i] = base[i];
+}
+
 /* ---- refusals 1 to 4: each of the eight numbers, wrong by itself */
 static void judged(SpiewomirGeometry g, uint32_t expected) {
     IS(spiewomir_macroblock(g, base, W, 0, 0, one, W).refusal, expected);
     IS(spiewomir_picture(g, base, W, out, W).refusal, expected);
+    IS(spiewomir_macroblock_wide(g, wide, W, 0, 0, wide_one, W).refusal, expected);
+    IS(spiewomir_picture_wide(g, wide, W, wide_one, W).refusal, expected);
     IS(spiewomir_session_begin(spiewomir_session_fresh(), g).refusal, expected);
 }
 
 static void geometries(void) {
     SpiewomirGeometry g = small;
     intra(base);
+    widen();
     judged(g, SPIEWOMIR_ANSWERED);
     g = small, g.base_width++, judged(g, SPIEWOMIR_REFUSED_BASE_SIZE);
     g = small, g.base_height++, judged(g, SPIEWOMIR_REFUSED_BASE_SIZE);
@@ -123,6 +132,56 @@ static void kinds(void) {
         IS(m.detail, detail);
         IS(one[77], detail);
     }
+}
+
+/* ---- wide records: rule 5 by width, and words that are right in their low halves only. At ratio 1 a word `v` at `at` of a base whose one motion, in list 0, is the vector
+ * 4, 0, in sixteen blocks. */
+static void word_is(int at, int32_t v, uint32_t wide_rule) {
+    SpiewomirMacroblock m = split("4444444444444444");
+    IS(m.refusal, SPIEWOMIR_ANSWERED);
+    widen();
+    wide[at] = v;
+    m = spiewomir_macroblock_wide(small, wide, W, 0, 0, wide_one, W);
+    IS(m.refusal, wide_rule ? SPIEWOMIR_REFUSED_RECORD : SPIEWOMIR_ANSWERED);
+    IS(m.rule, wide_rule);
+    SpiewomirPicture p = spiewomir_picture_wide(small, wide, W, wide_one + W, W);
+    IS(p.refusal, m.refusal);
+    IS(p.rule, wide_rule);
+    if (wide_rule) return;
+    IS(wide_one[at], v);
+    IS(memcmp(wide_one, wide_one + W, sizeof *wide_one * W), 0);
+}
+
+static void widths(void) {
+    static const int32_t narrow[] = {-8193, -8192, 8191, 8192};
+    for (int i = 0; i < 4; i++) {
+        split("4444444444444444");
+        base[13] = (int16_t)narrow[i];
+        SpiewomirMacroblock m = spiewomir_macroblock(small, base, W, 0, 0, one, W);
+        IS(m.rule, i == 0 || i == 3 ? 5 : 0);
+        word_is(13, narrow[i], 0);
+    }
+    word_is(13, -131073, 5), word_is(13, -131072, 0), word_is(13, 131071, 0), word_is(13, 131072, 5);
+    word_is(74, -131073, 5), word_is(74, -131072, 0), word_is(74, 131071, 0), word_is(74, 131072, 5);
+    word_is(74, INT32_MIN, 5), word_is(74, INT32_MAX, 5);
+    word_is(76, 65536, 5); /* list 1 is not used */
+    word_is(0, 65536 + 4, 1), word_is(1, 65536 + 3, 2), word_is(5, 65536, 3), word_is(6, 65535, 3), word_is(77, 65536, 7);
+
+    /* lengths are in words; refusals 5 to 7, and 8 with its place */
+    SpiewomirGeometry g = small;
+    split("4444444444444444");
+    widen();
+    IS(spiewomir_macroblock_wide(g, wide, W - 1, 0, 0, wide_one, W).refusal, SPIEWOMIR_REFUSED_BASE_LENGTH);
+    IS(spiewomir_macroblock_wide(g, wide, W, 0, 0, wide_one, 2 * W).refusal, SPIEWOMIR_REFUSED_OUTPUT_LENGTH);
+    IS(spiewomir_picture_wide(g, wide, W, wide_one, W / 2).refusal, SPIEWOMIR_REFUSED_OUTPUT_LENGTH);
+    IS(spiewomir_macroblock_wide(g, wide, W, 1, 0, wide_one, W).refusal, SPIEWOMIR_REFUSED_POSITION);
+    g.base_width = g.scaled_width = 32, g.offset_x = -16;
+    memcpy(wide + W, wide, W * sizeof *wide);
+    wide[W + 13] = 131072;
+    SpiewomirMacroblock m = spiewomir_macroblock_wide(g, wide, 2 * W, 0, 0, wide_one, W);
+    IS(m.refusal, SPIEWOMIR_REFUSED_RECORD);
+    IS(m.place, 1);
+    IS(m.rule, 5);
 }
 
 /* ---- the log of the text's first n bytes is one line, of a refusal, or of no picture where n is 0, and its call hands that back */
@@ -329,6 +388,7 @@ int main(void) {
     geometries();
     records();
     kinds();
+    widths();
     texts();
     empty_texts();
     return wrong;

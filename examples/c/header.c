@@ -1,6 +1,7 @@
 /* What the header says beside its constants, in C and in C++: the version, a picture's
  * words, a session's next address; every call with what it writes lent uninitialised,
- * which a memory checker can look at.
+ * which a memory checker can look at; and the two wide calls, their types and what they
+ * make of the same base.
  *
  *     header < examples/unaligned.sync
  *
@@ -56,6 +57,34 @@ static void *room(size_t size) { /* uninitialised */
 
 static uint32_t next_address(SpiewomirSession s) { return s.inherited + s.intra + s.outside; }
 
+/* the wide calls are the narrow ones with other words */
+static SpiewomirMacroblock (*const macroblock_wide)(SpiewomirGeometry, const int32_t *, size_t, int32_t, int32_t, int32_t *, size_t) = spiewomir_macroblock_wide;
+static SpiewomirPicture (*const picture_wide)(SpiewomirGeometry, const int32_t *, size_t, int32_t *, size_t) = spiewomir_picture_wide;
+
+/* a base through both widths: the same answers, counts and words */
+static void widths(SpiewomirGeometry g, const int16_t *base, size_t base_len, const int16_t *out, size_t count) {
+    int32_t *wide = (int32_t *)room(base_len * sizeof *wide), *wide_out = (int32_t *)room(count * sizeof *wide_out);
+    int16_t *again = (int16_t *)room(count * sizeof *again);
+    uint32_t columns = (uint32_t)SPIEWOMIR_MACROBLOCKS(g.full_width);
+    for (size_t i = 0; i < base_len; i++) wide[i] = base[i];
+    SpiewomirPicture p = spiewomir_picture(g, base, base_len, again, count), w = picture_wide(g, wide, base_len, wide_out, count);
+    IS(memcmp(&p, &w, sizeof p), 0);
+    IS(p.refusal, SPIEWOMIR_ANSWERED);
+    for (size_t i = 0; i < count; i++) IS(wide_out[i], out[i]);
+    IS(picture_wide(g, wide, base_len, wide_out, count + 1).refusal, SPIEWOMIR_REFUSED_OUTPUT_LENGTH);
+    for (uint32_t a = 0; a < count / SPIEWOMIR_WORDS; a++) {
+        int32_t *one = (int32_t *)room(SPIEWOMIR_WORDS * sizeof *one), column = (int32_t)(a % columns), row = (int32_t)(a / columns);
+        SpiewomirMacroblock m = spiewomir_macroblock(g, base, base_len, column, row, again, SPIEWOMIR_WORDS);
+        SpiewomirMacroblock n = macroblock_wide(g, wide, base_len, column, row, one, SPIEWOMIR_WORDS);
+        IS(memcmp(&m, &n, sizeof m), 0);
+        IS(memcmp(one, wide_out + a * (size_t)SPIEWOMIR_WORDS, SPIEWOMIR_WORDS * sizeof *one), 0);
+        free(one);
+    }
+    free(wide);
+    free(wide_out);
+    free(again);
+}
+
 static void calls(const uint8_t *text, size_t length) {
     int16_t *words = (int16_t *)room(SPIEWOMIR_TEXT_WORDS * sizeof *words);
     uint8_t *log = (uint8_t *)room(SPIEWOMIR_LOG_BYTES);
@@ -92,6 +121,7 @@ static void calls(const uint8_t *text, size_t length) {
         free(next);
     }
     IS(next_address(s), count / SPIEWOMIR_WORDS);
+    widths(g, words, base_len, out, count);
 
     SpiewomirLog l = spiewomir_log(NULL, 0, log, SPIEWOMIR_LOG_BYTES);
     IS(l.empty, 1);

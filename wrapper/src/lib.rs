@@ -5,7 +5,8 @@
 //! paper, with what document 02's E2 says of a text of no bytes, vectors rounded as
 //! its E3 says, the counts of its E5 and the detail of its E7. No call asks anything
 //! of its caller: it judges what it is lent, and a refused call leaves every lent
-//! word and byte as it was. `numbers` has the same calls with plain numbers.
+//! word and byte as it was. One macroblock and a picture can be made of wide records
+//! too, of 32-bit words, as its E12 says. `numbers` has the same calls with plain numbers.
 //!
 //! The proved archive, libspiewomir.a, has to be there first: `rt staticlib
 //! spiewomir` writes it to target/staticlib of the repository. SPIEWOMIR_LIB
@@ -49,7 +50,7 @@ use std::fmt;
 
 /// The version that this crate is of: major times 10,000, plus minor times 100,
 /// plus patch. [`version`] gives that of the library.
-pub const VERSION: u32 = 50_000;
+pub const VERSION: u32 = 50_100;
 
 /// Words of a motion record. Quadrants, blocks, and the macroblocks of a picture
 /// go in raster order; `l` is the list, 0 or 1.
@@ -66,6 +67,10 @@ pub const VERSION: u32 = 50_000;
 /// 32768) / 65536, rounded down, also below zero, of a base's word v, with scale = (S *
 /// 65536 + B / 2) / B of its axis, rounded down (B is the base's size, S the scaled one):
 /// -16384 to 16382. A written detail is [`Answer::detail`].
+///
+/// A wide record has words of 32 bits at the same places. Its vector words are -131072 to
+/// 131071, and written ones -262144 to 262142; all else is the same. [`macroblock_wide`]
+/// and [`picture_wide`] take and write such.
 pub const WORDS: usize = 78;
 
 /// The words of the records of a picture, [`WORDS`] for each macroblock; 0 for a
@@ -227,6 +232,23 @@ pub fn macroblock(
 /// macroblock. Refusals 1 to 6 and 8 in rising order; 8 checks all base records.
 pub fn picture(geometry: Geometry, base: &[i16], out: &mut [i16]) -> Result<Counts, Refusal> {
     numbers::picture(geometry, base, out).result()
+}
+
+/// [`macroblock`] on wide records: rule 5 of refusal 8 has another limit, all else is the
+/// same. On a base whose vector words are all -8192 to 8191 both give the same.
+pub fn macroblock_wide(
+    geometry: Geometry,
+    base: &[i32],
+    column: i32,
+    row: i32,
+    out: &mut [i32],
+) -> Result<Answer, Refusal> {
+    numbers::macroblock_wide(geometry, base, column, row, out).result()
+}
+
+/// [`picture`] on wide records, each made as [`macroblock_wide`] does.
+pub fn picture_wide(geometry: Geometry, base: &[i32], out: &mut [i32]) -> Result<Counts, Refusal> {
+    numbers::picture_wide(geometry, base, out).result()
 }
 
 /// What a sync text has.

@@ -26,7 +26,7 @@ pub struct Geometry {
     pub full_height: i32,
 }
 
-/// Answer of the one-macroblock call; `refusal` 0 means answered.
+/// Answer of the one-macroblock call of either width; `refusal` 0 means answered.
 #[repr(C)]
 #[derive(Clone, Copy, Debug, Default, PartialEq, Eq)]
 pub struct Macroblock {
@@ -65,7 +65,7 @@ pub struct Macroblock {
     pub diagonal: u32,
 }
 
-/// Answer of the picture call; `refusal` 0 means answered.
+/// Answer of the picture call of either width; `refusal` 0 means answered.
 #[repr(C)]
 #[derive(Clone, Copy, Debug, Default, PartialEq, Eq)]
 pub struct Picture {
@@ -194,6 +194,24 @@ extern "C" {
         out_len: usize,
     ) -> Picture;
 
+    fn spiewomir_macroblock_wide(
+        geometry: Geometry,
+        base: *const i32,
+        base_len: usize,
+        column: i32,
+        row: i32,
+        out: *mut i32,
+        out_len: usize,
+    ) -> Macroblock;
+
+    fn spiewomir_picture_wide(
+        geometry: Geometry,
+        base: *const i32,
+        base_len: usize,
+        out: *mut i32,
+        out_len: usize,
+    ) -> Picture;
+
     fn spiewomir_session_fresh() -> Session;
 
     fn spiewomir_session_begin(session: Session, geometry: Geometry) -> Judged;
@@ -246,6 +264,42 @@ pub fn picture(geometry: Geometry, base: &[i16], out: &mut [i16]) -> Picture {
     // SAFETY: as in `macroblock`.
     unsafe {
         spiewomir_picture(
+            geometry,
+            base.as_ptr(),
+            base.len(),
+            out.as_mut_ptr(),
+            out.len(),
+        )
+    }
+}
+
+/// The one-macroblock call on wide records.
+pub fn macroblock_wide(
+    geometry: Geometry,
+    base: &[i32],
+    column: i32,
+    row: i32,
+    out: &mut [i32],
+) -> Macroblock {
+    // SAFETY: as in `macroblock`, with words of 32 bits.
+    unsafe {
+        spiewomir_macroblock_wide(
+            geometry,
+            base.as_ptr(),
+            base.len(),
+            column,
+            row,
+            out.as_mut_ptr(),
+            out.len(),
+        )
+    }
+}
+
+/// The picture call on wide records.
+pub fn picture_wide(geometry: Geometry, base: &[i32], out: &mut [i32]) -> Picture {
+    // SAFETY: as in `macroblock`, with words of 32 bits.
+    unsafe {
+        spiewomir_picture_wide(
             geometry,
             base.as_ptr(),
             base.len(),

@@ -29,7 +29,8 @@ pub const POSITION: u32 = 7;
 /// 2. sub-types 0 to 3, and 0 unless type 4;
 /// 3. references -1 to 31;
 /// 4. all references -1 in type 0, at least one used in each quadrant of another;
-/// 5. vector words -8192 to 8191, and 0 where the reference is -1;
+/// 5. vector words -8192 to 8191, of a wide record -131072 to 131071, and 0 where the
+///    reference is -1;
 /// 6. the same references and vectors all over a partition or sub-partition;
 /// 7. detail 0 to 15.
 pub const RECORD: u32 = 8;
