@@ -112,7 +112,11 @@ pub fn make(base: &[i32], f: Fixed, h: AxisRead, v: AxisRead, out: &mut [i32]) -
     ensures written { λ r. ⌜ now (out .exit) ≡ writtenBy f h v (now (base .entry)) ⌝ }
 {
     if h.inside & v.inside {
-        return make_inside(base, f, h.reads, v.reads, h.halves, v.halves, out);
+        let across = h.reads;
+        let down = v.reads;
+        let columns = h.halves;
+        let rows = v.halves;
+        return make_inside(base, f, across, down, columns, rows, out);
     }
     write_unused(out, OUTSIDE, 0);
     Sort::Outside
