@@ -1,6 +1,5 @@
 -- `vectors_within` meets its contract: the ends of the range are numbers of 32 bits. Assumes nothing.
 use borrow.Author.Needs.{needs}
-use mathlib.Core.Path.{_∙_}
 use native.Mathlib.Omega.{arith}
 use Rattle.rules.proofs.Parts.{low-fits, high-fits, low-is, high-is}
 use Rattle.rules.proofs.vectors_within.Statement.{statement}
