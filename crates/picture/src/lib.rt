@@ -38,7 +38,7 @@ use macroblock::read_nowhere;
 use scan::check;
 
 // The horizontal axis at each column of the picture; 256 is the most.
-fn column_reads(a: Axis) -> [AxisRead; 256]
+pub fn column_reads(a: Axis) -> [AxisRead; 256]
     requires { ⌜ AcceptedAxis a ⌝ }
     ensures { λ r. ⌜ AxisReads a (macroblocks (fullSize a)) r ⌝ }
 {
@@ -53,13 +53,13 @@ fn column_reads(a: Axis) -> [AxisRead; 256]
 }
 
 // A macroblock's column and row.
-struct Position {
-    column: u32,
-    row: u32,
+pub struct Position {
+    pub column: u32,
+    pub row: u32,
 }
 
 // The next in raster order.
-fn next(p: Position, width: u32) -> Position
+pub fn next(p: Position, width: u32) -> Position
     requires { ⌜ (p .column < width) × (p .row < 256) ⌝ }
     ensures address { λ r. ⌜ r .row * width + r .column ≡ p .row * width + p .column + 1 ⌝ }
     ensures column { λ r. ⌜ r .column < width ⌝ }
@@ -76,7 +76,7 @@ fn next(p: Position, width: u32) -> Position
 }
 
 // The vertical axis at a row: read at its first column, and kept.
-fn row_read(a: Axis, p: Position, kept: AxisRead) -> AxisRead
+pub fn row_read(a: Axis, p: Position, kept: AxisRead) -> AxisRead
     requires { ⌜ AcceptedAxis a × (p .row < 256) × ((0 < p .column → kept ≡ readOf a (p .row))) ⌝ }
     ensures { λ r. ⌜ r ≡ readOf a (p .row) ⌝ }
 {

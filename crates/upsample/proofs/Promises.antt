@@ -1,4 +1,5 @@
 -- What the calls hand over is as demand 3 says: the theorem of definitions, at their replies. Assumes nothing.
+use Prim.Native.Nat.{ℕ}
 use mathlib.Core.Path.{_≡_, refl, sym, _∙_}
 use mathlib.Core.List.{List}
 use lib.IntN.{ℤ, pos, natAbs}
