@@ -1,5 +1,5 @@
 // The C interface: the calls on numbers and slices, with results by value. include/spiewomir.h declares it.
-ghost use Rattle.definitions.specs.Record.{narrow};
+ghost use Rattle.definitions.specs.Record.{narrow, wide};
 ghost use Rattle.definitions.specs.Answer.{answerBasis};
 ghost use Rattle.definitions.specs.Calls.{macroblockCall, pictureCall};
 ghost use Rattle.definitions.specs.Session.{nextCall};
@@ -24,6 +24,7 @@ use definitions::PictureReply;
 use definitions::TextReply;
 use definitions::Verdict;
 use picture::upsample_picture;
+use picture_wide::upsample_picture_wide;
 use records::layout::answer_type;
 use records::layout::sub_types;
 use session::Advanced;
@@ -31,6 +32,7 @@ use session::Judged;
 use session::Session;
 use sync_text::read_text;
 use upsample::upsample_macroblock;
+use upsample_wide::upsample_macroblock_wide;
 
 // Width and height of the base, the scaled base, the window's offset, and the full picture: any numbers.
 #[repr(C)]
@@ -276,18 +278,11 @@ pub extern "C" fn spiewomir_macroblock(
     reply_result(upsample_macroblock(numbers_from_c(g), base, column, row, out))
 }
 
-// The picture call.
-#[no_mangle]
-pub extern "C" fn spiewomir_picture(
-    g: GeometryNumbers,
-    base: &[i16],
-    out: &mut [i16],
-) -> PictureResult
-    ensures result { λ r. ⌜ r ≡ pictureResult (pictureCall narrow (numbersFromC g) (now (base .entry)) (now (out .entry)) .reply) ⌝ }
-    ensures words { λ r. ⌜ now (out .exit) ≡ pictureCall narrow (numbersFromC g) (now (base .entry)) (now (out .entry)) .words ⌝ }
-    ensures demand3 { λ r. ⌜ PictureGiven narrow (numbersFromC g) (now (base .entry)) (now (out .entry)) r (now (out .exit)) ⌝ }
+// The picture call's reply.
+fn picture_reply(reply: PictureReply) -> PictureResult
+    ensures { λ r. ⌜ r ≡ pictureResult reply ⌝ }
 {
-    match upsample_picture(numbers_from_c(g), base, out) {
+    match reply {
         PictureReply::Counted(c) => PictureResult {
             refusal: 0,
             place: 0,
@@ -305,6 +300,50 @@ pub extern "C" fn spiewomir_picture(
             outside: 0,
         },
     }
+}
+
+// The picture call.
+#[no_mangle]
+pub extern "C" fn spiewomir_picture(
+    g: GeometryNumbers,
+    base: &[i16],
+    out: &mut [i16],
+) -> PictureResult
+    ensures result { λ r. ⌜ r ≡ pictureResult (pictureCall narrow (numbersFromC g) (now (base .entry)) (now (out .entry)) .reply) ⌝ }
+    ensures words { λ r. ⌜ now (out .exit) ≡ pictureCall narrow (numbersFromC g) (now (base .entry)) (now (out .entry)) .words ⌝ }
+    ensures demand3 { λ r. ⌜ PictureGiven narrow (numbersFromC g) (now (base .entry)) (now (out .entry)) r (now (out .exit)) ⌝ }
+{
+    picture_reply(upsample_picture(numbers_from_c(g), base, out))
+}
+
+// The one-macroblock call on records of 32-bit words (document 02, E12).
+#[no_mangle]
+pub extern "C" fn spiewomir_macroblock_wide(
+    g: GeometryNumbers,
+    base: &[i32],
+    column: i32,
+    row: i32,
+    out: &mut [i32],
+) -> MacroblockResult
+    ensures result { λ r. ⌜ r ≡ macroblockResult (macroblockCall wide (numbersFromC g) (now (base .entry)) column row (now (out .entry)) .reply) ⌝ }
+    ensures words { λ r. ⌜ now (out .exit) ≡ macroblockCall wide (numbersFromC g) (now (base .entry)) column row (now (out .entry)) .words ⌝ }
+    ensures demand3 { λ r. ⌜ MacroblockGiven wide (numbersFromC g) (now (base .entry)) column row (now (out .entry)) r (now (out .exit)) ⌝ }
+{
+    reply_result(upsample_macroblock_wide(numbers_from_c(g), base, column, row, out))
+}
+
+// The picture call on them.
+#[no_mangle]
+pub extern "C" fn spiewomir_picture_wide(
+    g: GeometryNumbers,
+    base: &[i32],
+    out: &mut [i32],
+) -> PictureResult
+    ensures result { λ r. ⌜ r ≡ pictureResult (pictureCall wide (numbersFromC g) (now (base .entry)) (now (out .entry)) .reply) ⌝ }
+    ensures words { λ r. ⌜ now (out .exit) ≡ pictureCall wide (numbersFromC g) (now (base .entry)) (now (out .entry)) .words ⌝ }
+    ensures demand3 { λ r. ⌜ PictureGiven wide (numbersFromC g) (now (base .entry)) (now (out .entry)) r (now (out .exit)) ⌝ }
+{
+    picture_reply(upsample_picture_wide(numbers_from_c(g), base, out))
 }
 
 // ---- The session. A refused call hands back the very numbers that it was handed.
@@ -553,5 +592,5 @@ pub extern "C" fn spiewomir_log(text: &[u8], out: &mut [u8]) -> LogResult
 pub extern "C" fn spiewomir_version() -> u32
     ensures { λ r. ⌜ r ≡ version ⌝ }
 {
-    50000
+    50100
 }
