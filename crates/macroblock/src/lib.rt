@@ -305,7 +305,7 @@ fn motions_made(
 }
 
 // The four blocks of a quadrant read one quadrant of a base macroblock: their references stand in one place.
-fn is_plain(x0: Spot, x1: Spot, y0: Spot, y1: Spot) -> bool
+pub fn is_plain(x0: Spot, x1: Spot, y0: Spot, y1: Spot) -> bool
     ensures { λ r. ⌜ r ≡ plainAt x0 x1 y0 y1 ⌝ }
 {
     (x0.references == x1.references) & (y0.references == y1.references)

@@ -6,7 +6,7 @@ ghost use Rattle.definitions.specs.Record.{recordWords, rule7, wide};
 ghost use Rattle.details.specs.Bits.{halvesOf};
 ghost use Rattle.gather.specs.Reads.{Readable, gatheredBy, quadrantFrom, setBy};
 ghost use Rattle.macroblock.specs.Made.{Makeable, Ready, answerBy, saidBy, sortBy, sortInside, writtenBy, writtenInside};
-ghost use Rattle.macroblock.specs.Quadrants.{Mergeable};
+ghost use Rattle.macroblock.specs.Quadrants.{Alike, Mergeable, plainAt};
 ghost use Rattle.motion.specs.ByValue.{motionsIn, quadrantsIn};
 ghost use lib.ListN.{length};
 ghost use mathlib.Core.Bool.{true};
@@ -28,6 +28,7 @@ use macroblock::AxisRead;
 use macroblock::Fixed;
 use macroblock::Said;
 use macroblock::answer_of;
+use macroblock::is_plain;
 use motion::BlockMotion;
 use quadrant::fill;
 use quadrant::merge;
@@ -40,7 +41,8 @@ use writing_wide::write_made;
 use writing_wide::write_unused;
 
 // ---- Steps 1 to 3
-// Steps 1 and 2 of a quadrant, at two columns and two rows.
+// Steps 1 and 2 of a quadrant, at two columns and two rows. In a plain one nothing is to fill (`filled-alike`) or to merge (`settled-merged`), and where no block is intra nothing is to
+// fill (`filled-leaves`).
 fn quadrant_made(
     base: &[i32],
     x0: Spot,
@@ -49,9 +51,15 @@ fn quadrant_made(
     y1: Spot,
     clear: [bool; 4],
 ) -> [BlockMotion; 4]
-    requires { ⌜ Mergeable (now base) x0 x1 y0 y1 ⌝ }
+    requires { ⌜ Mergeable (now base) x0 x1 y0 y1 × ((plainAt x0 x1 y0 y1 ≡ true → Alike clear)) ⌝ }
     ensures { λ r. ⌜ motionsIn r ≡ merged (filled clear (motionsIn (quadrantFrom (now (base .entry)) x0 x1 y0 y1))) ⌝ }
 {
+    if is_plain(x0, x1, y0, y1) {
+        return quadrant_read(base, x0, x1, y0, y1);
+    }
+    if clear[0] & clear[1] & clear[2] & clear[3] {
+        return merge(quadrant_read(base, x0, x1, y0, y1));
+    }
     merge(fill(clear, quadrant_read(base, x0, x1, y0, y1)))
 }
 

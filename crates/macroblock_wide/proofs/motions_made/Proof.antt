@@ -1,8 +1,9 @@
 -- `macroblock_wide::motions_made` meets its contract. Assumes nothing.
-use mathlib.Core.Path.{_∙_}
+use mathlib.Core.Path.{subst, sym, _∙_}
 use Rattle.definitions.specs.Inheriting.{filled, merged}
 use Rattle.definitions.specs.Record.{wide}
-use Rattle.macroblock.proofs.Motions.{Spotted, made-of-quadrants, placed-0, placed-1, placed-2, placed-3}
+use Rattle.macroblock.specs.Quadrants.{Alike}
+use Rattle.macroblock.proofs.Motions.{Spotted, alike-0, alike-1, alike-2, alike-3, made-of-quadrants, placed-0, placed-1, placed-2, placed-3}
 use borrow.Author.Needs.{needs}
 use Rattle.macroblock_wide.proofs.motions_made.Statement.{statement}
 use Rattle.macroblock_wide.proofs.motions_made.Tie as tie
@@ -79,7 +80,7 @@ clear-of-requires c κs = search needs
 quadrant-made-requires : tie.Need-quadrant-made-requires
 quadrant-made-requires c κs =
     let k = c .before in
-    placed-0 (spotted k) .mergeable
+    (placed-0 (spotted k) .mergeable, λ p. subst Alike (sym (c .clear-of .ensures)) (alike-0 (s k .args .width) (s k .args .t3) (s k .args .t4) (s k .args .base .now) (s k .pre .2) (spotted k) p))
 
 clear-of-requires-2 : tie.Need-clear-of-requires-2
 clear-of-requires-2 c κs = search needs
@@ -87,7 +88,7 @@ clear-of-requires-2 c κs = search needs
 quadrant-made-requires-2 : tie.Need-quadrant-made-requires-2
 quadrant-made-requires-2 c κs =
     let k = c .before .before .before in
-    placed-1 (spotted k) .mergeable
+    (placed-1 (spotted k) .mergeable, λ p. subst Alike (sym (c .clear-of2 .ensures)) (alike-1 (s k .args .width) (s k .args .t3) (s k .args .t4) (s k .args .base .now) (s k .pre .2) (spotted k) p))
 
 clear-of-requires-3 : tie.Need-clear-of-requires-3
 clear-of-requires-3 c κs = search needs
@@ -95,7 +96,7 @@ clear-of-requires-3 c κs = search needs
 quadrant-made-requires-3 : tie.Need-quadrant-made-requires-3
 quadrant-made-requires-3 c κs =
     let k = c .before .before .before .before .before in
-    placed-2 (spotted k) .mergeable
+    (placed-2 (spotted k) .mergeable, λ p. subst Alike (sym (c .clear-of3 .ensures)) (alike-2 (s k .args .width) (s k .args .t3) (s k .args .t4) (s k .args .base .now) (s k .pre .2) (spotted k) p))
 
 clear-of-requires-4 : tie.Need-clear-of-requires-4
 clear-of-requires-4 c κs = search needs
@@ -103,7 +104,7 @@ clear-of-requires-4 c κs = search needs
 quadrant-made-requires-4 : tie.Need-quadrant-made-requires-4
 quadrant-made-requires-4 c κs =
     let k = c .before .before .before .before .before .before .before in
-    placed-3 (spotted k) .mergeable
+    (placed-3 (spotted k) .mergeable, λ p. subst Alike (sym (c .clear-of4 .ensures)) (alike-3 (s k .args .width) (s k .args .t3) (s k .args .t4) (s k .args .base .now) (s k .pre .2) (spotted k) p))
 
 copy-requires : tie.Need-copy-requires
 copy-requires c κs = search needs
