@@ -36,7 +36,7 @@ whole-zero S4x8 e = cc
 whole-zero S4x4 e = cc
 
 -- ---- the type and the sub-types of a split
-abbrev Says : Split → ℕ → ℕ → ℕ → ℕ → ℕ → Type 0
+abbrev pub Says : Split → ℕ → ℕ → ℕ → ℕ → ℕ → Type 0
 Says t kind a b c d = _≡_ {A = Types} (record { kind = kind; a = a; b = b; c = c; d = d }) (typesOf t)
 
 module _ (t : SubSplits) (a b c d : ℕ) (ea : a ≡ subTypeNumber (t .a)) (eb : b ≡ subTypeNumber (t .b)) (ec : c ≡ subTypeNumber (t .c)) (ed : d ≡ subTypeNumber (t .d)) where

@@ -1,16 +1,23 @@
--- Scaling keeps different motions different, and so the split that is chosen. Assumes nothing.
+-- Scaling keeps different motions different, and so the split that is chosen, and the type of quadrants of one motion each. Assumes nothing.
+use Prim.Native.Nat.{_+_}
 use mathlib.Core.Path.{_≡_, sym, _∙_, ap}
 use mathlib.Core.List.{List}
 use lib.IntN.{ℤ}
 use Rattle.definitions.specs.declared.Motion.{Motion}
 use Rattle.definitions.specs.declared.Prediction.{Prediction}
-use Rattle.definitions.specs.Inheriting.{chosen, scaledBy}
+use Rattle.definitions.specs.declared.SubSplit.{SubSplit}
+use Rattle.definitions.specs.Basics.{four}
+use Rattle.definitions.specs.Inheriting.{at, chosen, scaledBy}
+use Rattle.definitions.specs.Record.{subTypeNumber}
 use Rattle.definitions.proofs.Rounding.{number-apart}
-use Rattle.definitions.proofs.Scaling.{chosen-kept}
+use Rattle.definitions.proofs.Scaling.{chosen-kept, shape-kept}
+use Rattle.definitions.proofs.Shapes.{quadrantShape}
 use Rattle.motion.specs.declared.Scale.{Scale}
 use Rattle.motion.specs.declared.Scales.{Scales}
 use Rattle.motion.specs.Scales.{AcceptedScale, AcceptedScales, allScaled, motionScaled, predictionScaled, scaledWith}
 use Rattle.motion.proofs.ByScales.{with-number}
+use Rattle.split.specs.Said.{typeAmong}
+use Rattle.split.proofs.Chosen.{sub-chosen-is}
 
 module _ (s : Scales) (accepted : AcceptedScales s) where
   word-apart : (t : Scale) → AcceptedScale t → (v w : ℤ) → scaledWith t v ≡ scaledWith t w → v ≡ w
@@ -34,3 +41,10 @@ module _ (s : Scales) (accepted : AcceptedScales s) where
   pub chosen-with : (m : List (List Motion)) → chosen (allScaled s m) ≡ chosen m
   unfolding allScaled
   chosen-with = chosen-kept (motionScaled s) motion-apart
+
+  pub type-with : (m : List (List Motion)) → typeAmong (four (λ q. at (allScaled s m) q 0)) ≡ typeAmong (four (λ q. at m q 0))
+  unfolding allScaled typeAmong quadrantShape
+  type-with m =
+      let scaled = sub-chosen-is (four (λ q. at (allScaled s m) q 0)) in
+      let kept = shape-kept (motionScaled s) motion-apart (at m 0 0) (at m 1 0) (at m 2 0) (at m 3 0) in
+      ap (λ (x : SubSplit). subTypeNumber x + 1) (scaled ∙ (kept ∙ sym (sub-chosen-is (four (λ q. at m q 0)))))

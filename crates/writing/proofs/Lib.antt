@@ -2,4 +2,5 @@
 pub mod Rounded
 pub mod Apart
 pub mod Placed
+mod Compared
 pub mod Assembled

@@ -1,4 +1,4 @@
--- A quadrant's words in a record.
+-- A quadrant's words in a record, and the motions that they say.
 use Prim.Native.Nat.{ℕ, _+_, _*_}
 use mathlib.Core.List.{List, _++_}
 use lib.IntN.{ℤ}
@@ -8,7 +8,7 @@ use Rattle.definitions.specs.declared.Motion.{Motion}
 use Rattle.definitions.specs.Basics.{four}
 use Rattle.definitions.specs.Blocks.{rasterOf}
 use Rattle.definitions.specs.Inheriting.{zeroMotion}
-use Rattle.definitions.specs.Record.{referencesOf, vectorsOf}
+use Rattle.definitions.specs.Record.{motionOf, referencesOf, vectorsOf}
 use Rattle.motion.specs.declared.Scales.{Scales}
 use Rattle.motion.specs.Scales.{motionScaled}
 
@@ -24,3 +24,7 @@ pairOf m k = vectorsOf (getD m k zeroMotion) ++ vectorsOf (getD m (k + 1) zeroMo
 unfoldable pub quadrantPut : ℕ → List Motion → List ℤ → List ℤ
 quadrantPut q m record′ =
     sets (sets (sets record′ (5 + 2 * q) (referencesOf (getD m 0 zeroMotion))) (13 + 4 * rasterOf q 0) (pairOf m 0)) (13 + 4 * rasterOf q 2) (pairOf m 2)
+
+-- the motions of the quadrants' first blocks, read back
+abbrev pub firstsIn : List ℤ → List Motion
+firstsIn r = four (λ q. motionOf r (rasterOf q 0))

@@ -55,7 +55,7 @@ cast-result-2 : tie.Need-cast-result-2
 cast-result-2 c = search needs
 
 sub-result-2 : tie.Need-sub-result-2
-sub-result-2 c = number-fits (c .before .before .before .before .before .before .before .before .before .same-vectors .result && c .before .before .before .before .before .before .same-vectors2 .result) (c .before .before .before .same-vectors3 .result && c .same-vectors4 .result) .1
+sub-result-2 c = omega (arith, number-fits (c .before .before .before .before .before .before .before .before .before .same-vectors .result && c .before .before .before .before .before .before .same-vectors2 .result) (c .before .before .before .same-vectors3 .result && c .same-vectors4 .result) .1)
 
 returns : tie.Need-returns
 returns c = sub-type-is (c .before .before .before .before .before .before .before .before .before .before .before .before .args .t1) (c .before .before .before .before .before .before .before .before .before .before .before .before .pre) _ _ _ _ (c .before .before .before .before .before .before .before .before .before .same-vectors .ensures) (c .before .before .before .before .before .before .same-vectors2 .ensures) (c .before .before .before .same-vectors3 .ensures) (c .same-vectors4 .ensures)

@@ -108,18 +108,23 @@ put-pair-requires-2 c κs =
     let g = s .args in
     (part-long _ (13 + 4 * (g .i + 4)) (13 + 4 * (g .i + 4) + 8 - (13 + 4 * (g .i + 4))) 8 (omega arith) (omega (arith, c .before .before .before .out2 .given .1, c .before .before .before .before .before .before .before .before .out .given .1, s .pre .0, s .pre .2, first-low (g .q) (s .pre .1))), s .pre .3, s .pre .4 .blocks _ (lit< tt), s .pre .4 .blocks _ (lit< tt))
 
+sub-type-of-requires : tie.Need-sub-type-of-requires
+sub-type-of-requires c κs = search needs
+
 same-length : tie.Need-same-length
 same-length c = search needs
 
 returns : tie.Need-returns
 returns c =
-    let s = c .before .before .before .before .before .before .before .before .before .before .before .before .before .before in
-    let g = s .args in
-    quadrant-put (quadrantScaled (g .s) (motionsIn (g .t5))) (g .out .now) (g .q) (g .i) (s .pre .0) (s .pre .1) (s .pre .2)
-    (c .before .before .before .before .before .before .before .before .before .before .before .put-references .last .0) (c .before .before .before .before .before .before .put-pair .last .0) (c .before .put-pair2 .last .0)
-    (5 + 2 * g .q + 2 - (5 + 2 * g .q)) (13 + 4 * g .i + 8 - (13 + 4 * g .i)) (13 + 4 * (g .i + 4) + 8 - (13 + 4 * (g .i + 4)))
-    (c .before .before .before .before .before .before .before .before .before .before .before .put-references .ensures) (c .before .before .before .before .before .before .put-pair .ensures) (c .before .put-pair2 .ensures)
-    (omega arith) (omega arith) (omega arith)
+    let s = c .before .before .before .before .before .before .before .before .before .before .before .before .before .before .before in
+    let g = s .args in (
+      quadrant-put (quadrantScaled (g .s) (motionsIn (g .t5))) (g .out .now) (g .q) (g .i) (s .pre .0) (s .pre .1) (s .pre .2)
+          (c .before .before .before .before .before .before .before .before .before .before .before .before .put-references .last .0) (c .before .before .before .before .before .before .before .put-pair .last .0) (c .before .before .put-pair2 .last .0)
+          (5 + 2 * g .q + 2 - (5 + 2 * g .q)) (13 + 4 * g .i + 8 - (13 + 4 * g .i)) (13 + 4 * (g .i + 4) + 8 - (13 + 4 * (g .i + 4)))
+          (c .before .before .before .before .before .before .before .before .before .before .before .before .put-references .ensures) (c .before .before .before .before .before .before .before .put-pair .ensures) (c .before .before .put-pair2 .ensures)
+          (omega arith) (omega arith) (omega arith),
+      c .sub-type-of .ensures,
+    )
 
 pub put-quadrant-spec : {M : Type 1} → statement M
 put-quadrant-spec =
@@ -155,5 +160,6 @@ put-quadrant-spec =
     array-copy-out-put-pair-3
     array-copy-out-put-pair-4
     put-pair-requires-2
+    sub-type-of-requires
     same-length
     returns)

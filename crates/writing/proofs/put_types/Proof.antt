@@ -6,8 +6,8 @@ use lib.IntN.{pos}
 use lib.ListN.{length-set}
 use borrow.Author.Needs.{needs}
 use mir.Facts.{toZ-pos}
-use mir.Syntax.{w8, w16}
-use mir.Val.{Fits, toZ}
+use mir.Syntax.{w16}
+use mir.Val.{toZ}
 use Rattle.definitions.proofs.Parts.{stored-all}
 use Rattle.writing.proofs.put_types.Statement.{statement}
 use Rattle.writing.proofs.put_types.Tie as tie
@@ -40,27 +40,22 @@ cast-out-5 : tie.Need-cast-out-5
 cast-out-5 c = search needs
 
 slice-set-from-out-5 : tie.Need-slice-set-from-out-5
-slice-set-from-out-5 c = simp length-set (omega (arith, c .before .before .before .before .before .pre))
+slice-set-from-out-5 c = simp length-set (omega (arith, c .pre))
 
 same-length : tie.Need-same-length
 same-length c = search needs
 
 returns : tie.Need-returns
 returns c =
-    let s = c .before .before .before .before .before in
-    let t = s .args .t in
-    let f0 : Fits w8 (t .kind) = search needs in
-    let w0 : toZ w16 (t .kind) ≡ pos (t .kind) = toZ-pos w16 {n = t .kind} (omega (arith, f0)) in
-    let f1 : Fits w8 (t .a) = search needs in
-    let w1 : toZ w16 (t .a) ≡ pos (t .a) = toZ-pos w16 {n = t .a} (omega (arith, f1)) in
-    let f2 : Fits w8 (t .b) = search needs in
-    let w2 : toZ w16 (t .b) ≡ pos (t .b) = toZ-pos w16 {n = t .b} (omega (arith, f2)) in
-    let f3 : Fits w8 (t .c) = search needs in
-    let w3 : toZ w16 (t .c) ≡ pos (t .c) = toZ-pos w16 {n = t .c} (omega (arith, f3)) in
-    let f4 : Fits w8 (t .d) = search needs in
-    let w4 : toZ w16 (t .d) ≡ pos (t .d) = toZ-pos w16 {n = t .d} (omega (arith, f4)) in
-    stored-all (toZ w16 (t .kind) ∷ toZ w16 (t .a) ∷ toZ w16 (t .b) ∷ toZ w16 (t .c) ∷ toZ w16 (t .d) ∷ []) (s .args .out .now) (s .pre)
-    ∙ (λ i. w0 i ∷ w1 i ∷ w2 i ∷ w3 i ∷ w4 i ∷ [])
+    let x = c .args in
+    let f = c .fits in
+    let t0 : toZ w16 (x .kind) ≡ pos (x .kind) = toZ-pos w16 {n = x .kind} (omega (arith, f .kind)) in
+    let t1 : toZ w16 (x .a) ≡ pos (x .a) = toZ-pos w16 {n = x .a} (omega (arith, f .a)) in
+    let t2 : toZ w16 (x .b) ≡ pos (x .b) = toZ-pos w16 {n = x .b} (omega (arith, f .b)) in
+    let t3 : toZ w16 (x .c) ≡ pos (x .c) = toZ-pos w16 {n = x .c} (omega (arith, f .c)) in
+    let t4 : toZ w16 (x .d) ≡ pos (x .d) = toZ-pos w16 {n = x .d} (omega (arith, f .d)) in
+    stored-all (toZ w16 (x .kind) ∷ toZ w16 (x .a) ∷ toZ w16 (x .b) ∷ toZ w16 (x .c) ∷ toZ w16 (x .d) ∷ []) (x .out .now) (c .pre)
+    ∙ (λ i. t0 i ∷ t1 i ∷ t2 i ∷ t3 i ∷ t4 i ∷ [])
 
 pub put-types-spec : {M : Type 1} → statement M
 put-types-spec =
