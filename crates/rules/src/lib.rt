@@ -1,13 +1,14 @@
 // The rules of a well-formed motion record, once for both widths (document 02, E12): on the words of one record in 32 bits, with the limit of vectors as an argument.
 ghost use mathlib.Core.Path.{_≡_};
-ghost use Prim.Native.Nat.{_+_, _-_, _≤_, _<_};
+ghost use Prim.Native.Nat.{ℕ, _+_, _-_, _≤_, _<_};
+ghost use lib.Bits.{bitAnd};
 ghost use lib.IntN.{ℤ, pos};
 ghost use lib.ListN.{length};
-ghost use Rattle.definitions.specs.Basics.{between, eqZ, minus};
-ghost use Rattle.definitions.specs.Blocks.{quadrantOf};
+ghost use Rattle.definitions.specs.Basics.{allBelow, between, eqZ, minus};
+ghost use Rattle.definitions.specs.Blocks.{quadrantOf, rasterOf};
 ghost use Rattle.definitions.specs.Record.{firstBroken, motionOf, recordWords, rule2, rule4, rule5, rule6, subSplitOf, subTypeOf, used, vectorWord, wide, wordOf};
 ghost use Rattle.definitions.specs.Splits.{sameMotion};
-ghost use Rattle.records.specs.Checking.{allWithin, firstBlockOf, foundAt, listRight, quadrantUsed, subFirstBlock};
+ghost use Rattle.records.specs.Checking.{allWithin, blockWithin, firstBlockOf, foundAt, quadrantUsed, subFirstBlock, vectorsRight};
 use common::refusals;
 use definitions::Refusal;
 use definitions::Verdict;
@@ -41,6 +42,7 @@ const ONLY_UNUSED: Range = Range {
 const ONLY_ZERO: Range = Range { low: 0, high: 0 };
 
 // ---- Rules 1 to 4: words 0 to 12
+// Both tests are made: `&` has no branch. So it is wherever words are tested by `&` below, and the compiler takes several at once.
 fn word_within(words: &[i32], w: usize, range: Range) -> bool
     requires { ⌜ (length (now words) ≡ recordWords) × (w < recordWords) ⌝ }
     ensures { λ t. ⌜ t ≡ between (range .low) (range .high) (wordOf (now (words .entry)) w) ⌝ }
@@ -121,15 +123,30 @@ fn range_by(words: &[i32], w: usize, limit: u32) -> Range
     vectors_within(limit)
 }
 
-// The vector of block b in list l.
-fn list_right(words: &[i32], b: usize, l: usize, limit: u32) -> bool
-    requires { ⌜ (length (now words) ≡ recordWords) × (b < 16) × (l < 2) × (0 < limit) × (limit ≤ wide) ⌝ }
-    ensures { λ t. ⌜ t ≡ listRight limit (now (words .entry)) b l ⌝ }
+// A block's four vector words, from the first on: those of list 0 are in range0, those of list 1 in range1.
+fn block_within(words: &[i32], first: usize, range0: Range, range1: Range) -> bool
+    requires { ⌜ (length (now words) ≡ recordWords) × (first + 4 ≤ recordWords) ⌝ }
+    ensures { λ t. ⌜ t ≡ blockWithin (between (range0 .low) (range0 .high)) (between (range1 .low) (range1 .high)) (now (words .entry)) first ⌝ }
 {
-    let q = 2 * (b / 8) + b % 4 / 2;
-    let range = range_by(words, layout::REFERENCES + 2 * q + l, limit);
-    let first = layout::VECTORS + 4 * b + 2 * l;
-    word_within(words, first, range) & word_within(words, first + 1, range)
+    word_within(words, first, range0)
+        & word_within(words, first + 1, range0)
+        & word_within(words, first + 2, range1)
+        & word_within(words, first + 3, range1)
+}
+
+// The blocks of quadrant q, two rows of two: a row of four blocks is sixteen words.
+fn quadrant_vectors(words: &[i32], q: usize, limit: u32) -> bool
+    requires { ⌜ (length (now words) ≡ recordWords) × (q < 4) × (0 < limit) × (limit ≤ wide) ⌝ }
+    ensures { λ t. ⌜ t ≡ vectorsRight limit (now (words .entry)) q ⌝ }
+{
+    let reference = layout::REFERENCES + 2 * q;
+    let range0 = range_by(words, reference, limit);
+    let range1 = range_by(words, reference + 1, limit);
+    let first = layout::VECTORS + 32 * (q / 2) + 8 * (q % 2);
+    block_within(words, first, range0, range1)
+        & block_within(words, first + 4, range0, range1)
+        & block_within(words, first + 16, range0, range1)
+        & block_within(words, first + 20, range0, range1)
 }
 
 fn vectors_right(words: &[i32], limit: u32) -> bool
@@ -137,53 +154,53 @@ fn vectors_right(words: &[i32], limit: u32) -> bool
     ensures { λ t. ⌜ t ≡ rule5 limit (now (words .entry)) ⌝ }
 {
     let mut right = true;
-    let mut b: usize = 0;
-    while b < 16 {
-        right = right & (list_right(words, b, 0, limit) & list_right(words, b, 1, limit));
-        b += 1;
+    let mut q: usize = 0;
+    while q < 4 {
+        right = right & quadrant_vectors(words, q, limit);
+        q += 1;
     }
     right
 }
 
 // ---- Rule 6: one motion in each piece
-// The first block of the piece that block b stands in: of a sub-partition,
-fn sub_first_block(words: &[i32], b: usize) -> usize
-    requires { ⌜ (length (now words) ≡ recordWords) × (b < 16) ⌝ }
-    ensures { λ d. ⌜ (d ≡ subFirstBlock (subSplitOf (subTypeOf (now (words .entry)) (quadrantOf b))) b) × (d < 16) ⌝ }
+// The bits of a block's number that tell pieces apart: with these alone kept, it is the number of its piece's first block.
+// Those of quadrant q by its sub-type,
+fn sub_kept(words: &[i32], q: usize) -> usize
+    requires { ⌜ (length (now words) ≡ recordWords) × (q < 4) ⌝ }
+    ensures { λ keep. ⌜ (keep < 16) × ((b : ℕ) → b < 16 → bitAnd b keep ≡ subFirstBlock (subSplitOf (subTypeOf (now (words .entry)) q)) b) ⌝ }
 {
-    let q = 2 * (b / 8) + b % 4 / 2;
     let sub = words[layout::SUB_TYPES + q];
     if sub == 0 {
-        return b / 8 * 8 + b % 4 / 2 * 2;
+        return 10;
     }
     if sub == 1 {
-        return b / 2 * 2;
+        return 14;
     }
     if sub == 2 {
-        return b / 8 * 8 + b % 4;
+        return 11;
     }
-    b
+    15
 }
 
 // and by the type. An intra record has no pieces: each block stands for itself.
-fn first_block(words: &[i32], b: usize) -> usize
-    requires { ⌜ (length (now words) ≡ recordWords) × (b < 16) ⌝ }
-    ensures { λ d. ⌜ (d ≡ firstBlockOf (now (words .entry)) b) × (d < 16) ⌝ }
+fn kept(words: &[i32], q: usize) -> usize
+    requires { ⌜ (length (now words) ≡ recordWords) × (q < 4) ⌝ }
+    ensures { λ keep. ⌜ (keep < 16) × ((b : ℕ) → b < 16 → quadrantOf b ≡ q → bitAnd b keep ≡ firstBlockOf (now (words .entry)) b) ⌝ }
 {
     let kind = words[layout::TYPE];
     if kind == 0 {
-        return b;
+        return 15;
     }
     if kind == 1 {
         return 0;
     }
     if kind == 2 {
-        return b / 8 * 8;
+        return 8;
     }
     if kind == 3 {
-        return b % 4 / 2 * 2;
+        return 2;
     }
-    sub_first_block(words, b)
+    sub_kept(words, q)
 }
 
 // Words v and w are the same.
@@ -211,15 +228,28 @@ fn same_motion(words: &[i32], b: usize, d: usize) -> bool
     references & vectors
 }
 
+// The blocks of quadrant q, which are i, i + 1, i + 4 and i + 5, have the motion of their pieces' first blocks.
+fn quadrant_pieces(words: &[i32], q: usize) -> bool
+    requires { ⌜ (length (now words) ≡ recordWords) × (q < 4) ⌝ }
+    ensures { λ t. ⌜ t ≡ allBelow 4 (λ k. sameMotion (motionOf (now (words .entry)) (rasterOf q k)) (motionOf (now (words .entry)) (firstBlockOf (now (words .entry)) (rasterOf q k)))) ⌝ }
+{
+    let i = 8 * (q / 2) + 2 * (q % 2);
+    let keep = kept(words, q);
+    same_motion(words, i, i & keep)
+        & same_motion(words, i + 1, (i + 1) & keep)
+        & same_motion(words, i + 4, (i + 4) & keep)
+        & same_motion(words, i + 5, (i + 5) & keep)
+}
+
 fn pieces_right(words: &[i32]) -> bool
     requires { ⌜ length (now words) ≡ recordWords ⌝ }
     ensures { λ t. ⌜ t ≡ rule6 (now (words .entry)) ⌝ }
 {
     let mut same = true;
-    let mut b: usize = 0;
-    while b < 16 {
-        same = same & same_motion(words, b, first_block(words, b));
-        b += 1;
+    let mut q: usize = 0;
+    while q < 4 {
+        same = same & quadrant_pieces(words, q);
+        q += 1;
     }
     same
 }

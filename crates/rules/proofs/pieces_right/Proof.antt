@@ -1,50 +1,44 @@
--- `pieces_right` meets its contract: the blocks passed. Assumes nothing.
+-- `pieces_right` meets its contract: the quadrants passed. Assumes nothing.
 use borrow.Author.Needs.{needs}
-use Prim.Native.Nat.{ℕ, _-_, _≤_}
-use mathlib.Core.Path.{_≡_, sym, ap, _∙_}
+use Prim.Native.Nat.{_-_, _≤_}
+use mathlib.Core.Path.{_≡_, sym, _∙_}
 use Rattle.definitions.specs.Basics.{allBelow}
-use Rattle.definitions.specs.Record.{motionOf}
-use Rattle.definitions.specs.Splits.{sameMotion}
-use Rattle.records.proofs.FirstBlocks.{asFirst, same-all}
+use Rattle.definitions.specs.Blocks.{rasterOf}
+use Rattle.records.proofs.FirstBlocks.{asFirst}
 use Rattle.records.proofs.Searches.{search-none, below-more, search-end}
+use Rattle.rules.proofs.Parts.{same-quadrants}
 use Rattle.rules.proofs.pieces_right.Statement.{statement}
 use Rattle.rules.proofs.pieces_right.Tie as tie
 
 abbrev Inv-loop : tie.InvT-loop
-Inv-loop words same₀ b₀ same b = (b ≤ 16) × (same ≡ allBelow b (asFirst words))
+Inv-loop words same₀ q₀ same q = (q ≤ 4) × (same ≡ allBelow q (λ q. allBelow 4 (λ k. asFirst words (rasterOf q k))))
 
 abbrev μ-loop : tie.MeasureT-loop
-μ-loop words same₀ b₀ same b = 16 - b
+μ-loop words same₀ q₀ same q = 4 - q
 
 loop-holds : tie.Need-loop-holds Inv-loop μ-loop
-loop-holds c = (search needs, sym (search-none (asFirst (c .args .words .now))))
+loop-holds c = (search needs, sym (search-none (λ q. allBelow 4 (λ k. asFirst (c .args .words .now) (rasterOf q k)))))
 
-first-block-requires : tie.Need-first-block-requires Inv-loop μ-loop
-first-block-requires c κs = search needs
+quadrant-pieces-requires : tie.Need-quadrant-pieces-requires Inv-loop μ-loop
+quadrant-pieces-requires c κs = search needs
 
-same-motion-requires : tie.Need-same-motion-requires Inv-loop μ-loop
-same-motion-requires c κs = search needs
-
-add-b : tie.Need-add-b Inv-loop μ-loop
-add-b c = search needs
+add-q : tie.Need-add-q Inv-loop μ-loop
+add-q c = search needs
 
 loop-less : tie.Need-loop-less Inv-loop μ-loop
 loop-less c = search needs
 
 loop-again : tie.Need-loop-again Inv-loop μ-loop
 loop-again c =
-    let words = c .before .before .before .before .args .words .now in
-    let l = c .before .before .before .loop in (
-      search needs,
-      below-more (asFirst words) (l .b) (l .inv .1)
-          (c .same-motion .ensures ∙ ap (λ (d : ℕ). sameMotion (motionOf words (l .b)) (motionOf words d)) (c .before .first-block .ensures .0)),
-    )
+    let words = c .before .before .before .args .words .now in
+    let l = c .before .before .loop in
+    (search needs, below-more (λ q. allBelow 4 (λ k. asFirst words (rasterOf q k))) (l .q) (l .inv .1) (c .quadrant-pieces .ensures))
 
 returns : tie.Need-returns Inv-loop μ-loop
 returns c =
     let words = c .before .before .args .words .now in
     let l = c .before .loop in
-    sym (same-all words ∙ search-end (asFirst words) 16 (l .b) (l .inv .0) (c .loop-test .left) (sym (l .inv .1)))
+    sym (same-quadrants words ∙ search-end (λ q. allBelow 4 (λ k. asFirst words (rasterOf q k))) 4 (l .q) (l .inv .0) (c .loop-test .left) (sym (l .inv .1)))
 
 pub pieces-right-spec : {M : Type 1} → statement M
 pieces-right-spec =
@@ -53,9 +47,8 @@ pieces-right-spec =
     Inv-loop
     μ-loop
     loop-holds
-    first-block-requires
-    same-motion-requires
-    add-b
+    quadrant-pieces-requires
+    add-q
     loop-less
     loop-again
     returns)
