@@ -2,49 +2,48 @@
 use Prim.Native.Nat.{ℕ, _+_, _*_, _/_, _≤_, _^_}
 use mathlib.Core.Path.{_≡_, refl, sym, ap, subst, _∙_}
 use mathlib.Core.Bool.{true}
+use mathlib.Core.List.{List, []}
 use native.Mathlib.Nat.{mul-le-mul}
 use native.Mathlib.Omega.{arith}
 use lib.IntN.{ℤ, pos, subℕ, _+ℤ_, _*ℤ_}
-use lib.ListN.{replicate}
+use lib.ListN.{getD, replicate}
 use mir.Syntax.{w16, w32}
 use mir.Val.{SFits, ofZ, toZ}
 use mir.Facts.{toZ-ofZ}
 use Rattle.definitions.specs.Answer.{withoutMotion}
-use Rattle.definitions.specs.Basics.{down, minus, upTo}
+use Rattle.definitions.specs.Basics.{minus, upTo}
 use Rattle.definitions.specs.Inheriting.{motionAt, scaledBy}
 use Rattle.definitions.specs.Record.{fits, laidOut, wide}
+use Rattle.definitions.proofs.Choices.{each}
 use Rattle.definitions.proofs.Differences.{sub-cases}
 use Rattle.motion.specs.declared.BlockMotion.{BlockMotion}
 use Rattle.motion.specs.declared.Scale.{Scale}
-use Rattle.motion.specs.ByValue.{quadrantsIn}
-use Rattle.motion.specs.Scales.{AcceptedScale, numberOf, scaleIn, scaledWith}
+use Rattle.motion.specs.ByValue.{AllWritable, QuadrantWritable, Writable, quadrantsIn, zeroBlock}
+use Rattle.motion.specs.Scales.{AcceptedScale, allScaled, scaleIn, scaledWith}
+use Rattle.motion.proofs.ByScales.{with-number}
 use Rattle.motion.proofs.Parts.{number-is, part-fits}
 use Rattle.split.specs.Said.{contentsBy}
+use Rattle.writing_wide.specs.Numbers.{scalesIn}
 use Rattle.writing.proofs.Rounded.{by-raised, by-size, raised, size-word}
 
 -- ---- the number
-pub record Numbered (s : Scale) : Type 0 where
-  pub number : ℕ
-  pub high : number ≤ 131072
+pub record Numbered (s : Scale) (n : ℕ) : Type 0 where
   pub whole : SFits w16 (s .whole)
   pub part : SFits w16 (s .part)
   pub upper : SFits w32 (s .whole *ℤ pos 65536)
   pub sum : SFits w32 (s .whole *ℤ pos 65536 +ℤ s .part)
-  pub is : s .whole *ℤ pos 65536 +ℤ s .part ≡ pos number
+  pub is : s .whole *ℤ pos 65536 +ℤ s .part ≡ pos n
 
-in-number : (n : ℕ) → n ≤ 131072 → Numbered (scaleIn n)
-in-number n high = record {
-  number = n;
-  high = high;
-  whole = record { sfits = omega arith };
-  part = part-fits n;
-  upper = record { sfits = omega arith };
-  sum = subst (SFits w32) (sym (number-is n)) (record { sfits = omega arith });
-  is = number-is n;
-}
-
-pub numbered : (s : Scale) → AcceptedScale s → Numbered s
-numbered s a = subst Numbered (sym (a .parts)) (in-number (a .number) (a .high))
+pub numbered : (s : Scale) (a : AcceptedScale s) → Numbered s (a .number)
+numbered s a =
+    let n = a .number in
+    subst (λ (t : Scale). Numbered t n) (sym (a .parts)) (record {
+      whole = record { sfits = omega (arith, a .high) };
+      part = part-fits n;
+      upper = record { sfits = omega (arith, a .high) };
+      sum = subst (SFits w32) (sym (number-is n)) (record { sfits = omega (arith, a .high) });
+      is = number-is n;
+    })
 
 -- ---- a word, by the number
 pub record Rising (n : ℕ) (v : ℤ) : Type 0 where
@@ -71,19 +70,38 @@ rising n v high e =
     }
 
 -- ---- handed to scale_word and handed back
-pub back : (v : ℤ) → fits wide v ≡ true → (s : Scale) → AcceptedScale s → (r : ℤ) → r ≡ scaledWith s (toZ w32 (ofZ w32 v)) → toZ w32 (ofZ w32 r) ≡ scaledWith s v
-back v e s a r is =
-    let whole : toZ w32 (ofZ w32 v) ≡ v = toZ-ofZ (by-size w32 v (omega (arith, size-word wide v e))) in
-    let p = rising (a .number) v (a .high) e in
-    let number : numberOf s ≡ pos (a .number) = ap numberOf (a .parts) ∙ number-is (a .number) in
-    let by : scaledBy (a .number) v ≡ scaledWith s v = ap (λ (z : ℤ). down (v *ℤ z +ℤ pos 32768) 65536) (sym number) in
-    ap (λ (z : ℤ). toZ w32 (ofZ w32 z)) (is ∙ ap (scaledWith s) whole) ∙ toZ-ofZ (subst (SFits w32) (p .is ∙ by) (p .fits))
+module _ (v : ℤ) (e : fits wide v ≡ true) where
+  word-back : toZ w32 (ofZ w32 v) ≡ v
+  word-back = toZ-ofZ (by-size w32 v (omega (arith, size-word wide v e)))
+
+  pub handed : fits wide (toZ w32 (ofZ w32 v)) ≡ true
+  handed = rw word-back e
+
+  pub back : (n : ℕ) → n ≤ 131072 → (r : ℤ) → r ≡ scaledBy n (toZ w32 (ofZ w32 v)) → toZ w32 (ofZ w32 r) ≡ scaledWith (scaleIn n) v
+  back n high r is =
+      let p = rising n v high e in
+      ap (λ (z : ℤ). toZ w32 (ofZ w32 z)) (is ∙ ap (scaledBy n) word-back) ∙ (toZ-ofZ (subst (SFits w32) (p .is) (p .fits)) ∙ sym (with-number n v))
 
 -- ---- a record without motion
 abbrev noMotion : BlockMotion
 noMotion = record { r0 = minus 1; r1 = minus 1; x0 = pos 0; y0 = pos 0; x1 = pos 0; y1 = pos 0 }
 
+abbrev noMotions : List (List BlockMotion)
+noMotions = replicate 4 (replicate 4 noMotion)
+
+none-block : Writable wide noMotion
+none-block = record { referring = (refl, refl); vectors = (record { x = refl; y = refl }, record { x = refl; y = refl }) }
+
+none-quadrant : QuadrantWritable wide (replicate 4 noMotion)
+none-quadrant = record {
+  blocks = each (λ k. Writable wide (getD (replicate 4 noMotion) k zeroBlock)) none-block none-block none-block none-block;
+  one = each (λ k. (getD (replicate 4 noMotion) k zeroBlock .r0 ≡ minus 1) × (getD (replicate 4 noMotion) k zeroBlock .r1 ≡ minus 1)) (refl, refl) (refl, refl) (refl, refl) (refl, refl);
+}
+
+pub none-writable : AllWritable wide noMotions
+none-writable = each (λ q. QuadrantWritable wide (getD noMotions q [])) none-quadrant none-quadrant none-quadrant none-quadrant
+
 pub unused-laid : (kind : ℕ) (detail : ℤ)
-    → laidOut (contentsBy (record { kind = kind; a = 0; b = 0; c = 0; d = 0 }) (motionAt (quadrantsIn (replicate 4 (replicate 4 noMotion)))) detail) ≡ withoutMotion kind detail
-unfolding laidOut upTo
+    → laidOut (contentsBy (record { kind = kind; a = 0; b = 0; c = 0; d = 0 }) (motionAt (allScaled (scalesIn 65536 65536) (quadrantsIn noMotions))) detail) ≡ withoutMotion kind detail
+unfolding laidOut upTo allScaled
 unused-laid kind detail = refl

@@ -1,13 +1,14 @@
-// Writing what was made of a macroblock into a record of wide words (document 02, E12): step 4 of "Inheriting" on motions by value, and then the record as it stands.
+// Writing what was made of a macroblock into a record of wide words (document 02, E12): step 4 of "Inheriting" while the vectors are written, and step 5, the split.
 ghost use Prim.Native.Nat.{_<_, _≤_};
 ghost use Rattle.definitions.specs.Answer.{dividedBy, withoutMotion};
 ghost use Rattle.definitions.specs.Blocks.{rasterOf};
-ghost use Rattle.definitions.specs.Inheriting.{chosen, motionAt};
+ghost use Rattle.definitions.specs.Inheriting.{chosen, motionAt, scaledBy};
 ghost use Rattle.definitions.specs.Record.{fits, laidOut, recordWords, referencesOf, vectorsOf, wide};
 ghost use Rattle.motion.specs.ByValue.{AllWritable, QuadrantWritable, Writable, motionIn, motionsIn, quadrantsIn};
-ghost use Rattle.motion.specs.Scales.{AcceptedScale, AcceptedScales, allScaled, motionScaled, numberOf, scaledWith};
+ghost use Rattle.motion.specs.Scales.{AcceptedScale, AcceptedScales, allScaled, motionScaled, scaleIn};
 ghost use Rattle.split.specs.Said.{contentsBy, typeWords};
 ghost use Rattle.writing.specs.Words.{quadrantPut, quadrantScaled};
+ghost use Rattle.writing_wide.specs.Numbers.{Numbers, scalesIn};
 ghost use lib.IntN.{pos};
 ghost use lib.ListN.{length};
 ghost use mathlib.Core.Bool.{true};
@@ -25,60 +26,22 @@ use split::Types;
 use split::types_of;
 
 // ---- Step 4
+// The number of a scale, of which it is two parts: made once a macroblock.
 fn number_of(s: Scale) -> u32
     requires { ⌜ AcceptedScale s ⌝ }
-    ensures { λ r. ⌜ (numberOf s ≡ pos r) × (r ≤ 131072) ⌝ }
+    ensures { λ r. ⌜ (s ≡ scaleIn r) × (r ≤ 131072) ⌝ }
 {
     (s.whole as i32 * 65536 + s.part as i32) as u32
 }
 
-// A vector word: (v · scale + 32,768) / 65,536, rounded down. With 131,072 more it is not below 0, so that the product is unsigned, and what that adds, twice the scale, is
+// A vector word: (v · n + 32,768) / 65,536, rounded down. With 131,072 more it is not below 0, so that the product is unsigned, and what that adds, twice the scale, is
 // taken away again (`by-raised` of writing's proofs/Rounded).
-fn scale_word(s: Scale, v: i32) -> i32
-    requires { ⌜ AcceptedScale s × (fits wide v ≡ true) ⌝ }
-    ensures { λ r. ⌜ r ≡ scaledWith s v ⌝ }
+fn scale_word(n: u32, v: i32) -> i32
+    requires { ⌜ (n ≤ 131072) × (fits wide v ≡ true) ⌝ }
+    ensures { λ r. ⌜ r ≡ scaledBy n v ⌝ }
 {
-    let n = number_of(s);
-    let up = (v + 131072) as u64;
-    ((up * n as u64 + 32768) / 65536) as i32 - (2 * n) as i32
-}
-
-// A block's motion, scaled.
-pub fn scaled(s: Scales, m: BlockMotion) -> BlockMotion
-    requires { ⌜ AcceptedScales s × Writable wide m ⌝ }
-    ensures { λ r. ⌜ motionIn r ≡ motionScaled s (motionIn m) ⌝ }
-{
-    BlockMotion {
-        r0: m.r0,
-        r1: m.r1,
-        x0: scale_word(s.horizontal, m.x0),
-        y0: scale_word(s.vertical, m.y0),
-        x1: scale_word(s.horizontal, m.x1),
-        y1: scale_word(s.vertical, m.y1),
-    }
-}
-
-fn scaled_quadrant(s: Scales, m: [BlockMotion; 4]) -> [BlockMotion; 4]
-    requires { ⌜ AcceptedScales s × QuadrantWritable wide m ⌝ }
-    ensures { λ r. ⌜ motionsIn r ≡ quadrantScaled s (motionsIn m) ⌝ }
-{
-    let a = scaled(s, m[0]);
-    let b = scaled(s, m[1]);
-    let c = scaled(s, m[2]);
-    let d = scaled(s, m[3]);
-    [a, b, c, d]
-}
-
-// Four quadrants of four blocks, scaled.
-pub fn scaled_all(s: Scales, m: [[BlockMotion; 4]; 4]) -> [[BlockMotion; 4]; 4]
-    requires { ⌜ AcceptedScales s × AllWritable wide m ⌝ }
-    ensures { λ r. ⌜ quadrantsIn r ≡ allScaled s (quadrantsIn m) ⌝ }
-{
-    let a = scaled_quadrant(s, m[0]);
-    let b = scaled_quadrant(s, m[1]);
-    let c = scaled_quadrant(s, m[2]);
-    let d = scaled_quadrant(s, m[3]);
-    [a, b, c, d]
+    let up = (v + 131072) as u32;
+    ((up as u64 * n as u64 + 32768) / 65536) as i32 - (2 * n) as i32
 }
 
 // ---- A quadrant
@@ -93,40 +56,32 @@ fn put_references(out: &mut [i32], m: BlockMotion)
     out[1] = r1;
 }
 
-// A row of two blocks: their vectors.
-fn put_pair(out: &mut [i32], a: BlockMotion, b: BlockMotion)
-    requires { ⌜ length (now out) ≡ 8 ⌝ }
-    ensures { λ _. ⌜ now (out .exit) ≡ vectorsOf (motionIn a) ++ vectorsOf (motionIn b) ⌝ }
+// A row of two blocks: their vectors, scaled.
+fn put_pair(out: &mut [i32], h: u32, v: u32, a: BlockMotion, b: BlockMotion)
+    requires { ⌜ (length (now out) ≡ 8) × Numbers h v × Writable wide a × Writable wide b ⌝ }
+    ensures { λ _. ⌜ now (out .exit) ≡ vectorsOf (motionScaled (scalesIn h v) (motionIn a)) ++ vectorsOf (motionScaled (scalesIn h v) (motionIn b)) ⌝ }
 {
-    let ax0 = a.x0;
-    let ay0 = a.y0;
-    let ax1 = a.x1;
-    let ay1 = a.y1;
-    let bx0 = b.x0;
-    let by0 = b.y0;
-    let bx1 = b.x1;
-    let by1 = b.y1;
-    out[0] = ax0;
-    out[1] = ay0;
-    out[2] = ax1;
-    out[3] = ay1;
-    out[4] = bx0;
-    out[5] = by0;
-    out[6] = bx1;
-    out[7] = by1;
+    out[0] = scale_word(h, a.x0);
+    out[1] = scale_word(v, a.y0);
+    out[2] = scale_word(h, a.x1);
+    out[3] = scale_word(v, a.y1);
+    out[4] = scale_word(h, b.x0);
+    out[5] = scale_word(v, b.y0);
+    out[6] = scale_word(h, b.x1);
+    out[7] = scale_word(v, b.y1);
 }
 
 // Quadrant q, whose first block is i: its references, and its two rows of blocks.
-fn put_quadrant(out: &mut [i32], q: usize, i: usize, m: [BlockMotion; 4])
-    requires { ⌜ (length (now out) ≡ recordWords) × (q < 4) × (i ≡ rasterOf q 0) ⌝ }
-    ensures { λ _. ⌜ now (out .exit) ≡ quadrantPut q (motionsIn m) (now (out .entry)) ⌝ }
+fn put_quadrant(out: &mut [i32], h: u32, v: u32, q: usize, i: usize, m: [BlockMotion; 4])
+    requires { ⌜ (length (now out) ≡ recordWords) × (q < 4) × (i ≡ rasterOf q 0) × Numbers h v × QuadrantWritable wide m ⌝ }
+    ensures { λ _. ⌜ now (out .exit) ≡ quadrantPut q (quadrantScaled (scalesIn h v) (motionsIn m)) (now (out .entry)) ⌝ }
 {
     let r = REFERENCES + 2 * q;
     let k = VECTORS + 4 * i;
     let below = VECTORS + 4 * (i + 4);
     put_references(&mut out[r..r + 2], m[0]);
-    put_pair(&mut out[k..k + 8], m[0], m[1]);
-    put_pair(&mut out[below..below + 8], m[2], m[3]);
+    put_pair(&mut out[k..k + 8], h, v, m[0], m[1]);
+    put_pair(&mut out[below..below + 8], h, v, m[2], m[3]);
 }
 
 // ---- The record
@@ -142,16 +97,16 @@ fn put_types(out: &mut [i32], t: Types)
     out[4] = t.d as i32;
 }
 
-// A record of these types and motions.
-pub fn lay_out(out: &mut [i32], t: Types, m: [[BlockMotion; 4]; 4], detail: u8)
-    requires { ⌜ length (now out) ≡ recordWords ⌝ }
-    ensures { λ _. ⌜ now (out .exit) ≡ laidOut (contentsBy t (motionAt (quadrantsIn m)) (pos detail)) ⌝ }
+// A record of these types, and of these motions, scaled.
+fn lay_out(out: &mut [i32], h: u32, v: u32, t: Types, m: [[BlockMotion; 4]; 4], detail: u8)
+    requires { ⌜ (length (now out) ≡ recordWords) × Numbers h v × AllWritable wide m ⌝ }
+    ensures { λ _. ⌜ now (out .exit) ≡ laidOut (contentsBy t (motionAt (allScaled (scalesIn h v) (quadrantsIn m))) (pos detail)) ⌝ }
 {
     put_types(&mut out[TYPE..REFERENCES], t);
-    put_quadrant(out, 0, 0, m[0]);
-    put_quadrant(out, 1, 2, m[1]);
-    put_quadrant(out, 2, 8, m[2]);
-    put_quadrant(out, 3, 10, m[3]);
+    put_quadrant(out, h, v, 0, 0, m[0]);
+    put_quadrant(out, h, v, 1, 2, m[1]);
+    put_quadrant(out, h, v, 2, 8, m[2]);
+    put_quadrant(out, h, v, 3, 10, m[3]);
     out[DETAIL] = detail as i32;
 }
 
@@ -162,11 +117,12 @@ pub fn write_made(out: &mut [i32], s: Scales, m: [[BlockMotion; 4]; 4], detail: 
     ensures { λ _. ⌜ now (out .exit) ≡ laidOut (dividedBy (chosen (allScaled s (quadrantsIn m))) (motionAt (allScaled s (quadrantsIn m))) (pos detail)) ⌝ }
 {
     let t = types_of(m);
-    let made = scaled_all(s, m);
-    lay_out(out, t, made, detail);
+    let h = number_of(s.horizontal);
+    let v = number_of(s.vertical);
+    lay_out(out, h, v, t, m, detail);
 }
 
-// A record without motion, of type 0 (intra) or 5 (outside).
+// A record without motion, of type 0 (intra) or 5 (outside): vectors of 0 stay 0, here by the scale of S = B.
 pub fn write_unused(out: &mut [i32], kind: u8, detail: u8)
     requires { ⌜ length (now out) ≡ recordWords ⌝ }
     ensures { λ _. ⌜ now (out .exit) ≡ withoutMotion kind (pos detail) ⌝ }
@@ -178,5 +134,5 @@ pub fn write_unused(out: &mut [i32], kind: u8, detail: u8)
         c: 0,
         d: 0,
     };
-    lay_out(out, t, [[NO_MOTION; 4]; 4], detail);
+    lay_out(out, 65536, 65536, t, [[NO_MOTION; 4]; 4], detail);
 }

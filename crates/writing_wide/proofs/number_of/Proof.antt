@@ -1,5 +1,5 @@
 -- `writing_wide::number_of` meets its contract: no step leaves its width. Assumes nothing.
-use mathlib.Core.Path.{_≡_, refl}
+use mathlib.Core.Path.{_≡_}
 use native.Mathlib.Omega.{arith}
 use mir.Facts.{sfits-widen, toZ-ofZ}
 use mir.Syntax.{w16, w32}
@@ -9,7 +9,7 @@ use Rattle.writing_wide.proofs.number_of.Statement.{statement}
 use Rattle.writing_wide.proofs.number_of.Tie as tie
 
 module _ (c : tie.Start) where
-  f : Numbered (c .args .s)
+  f : Numbered (c .args .s) (c .pre .number)
   f = numbered (c .args .s) (c .pre)
 
   whole16 : toZ w16 (ofZ w16 (c .args .s .whole)) ≡ c .args .s .whole
@@ -37,10 +37,10 @@ add-result : tie.Need-add-result
 add-result c = let s = c .before .before .before .before in rw (whole16 s, whole32 s, part16 s, part32 s, toZ-ofZ (f s .upper)) (f s .sum)
 
 cast-result-3 : tie.Need-cast-result-3
-cast-result-3 c = let s = c .before .before .before .before in rw (whole16 s, whole32 s, part16 s, part32 s, toZ-ofZ (f s .upper), toZ-ofZ (f s .sum), f s .is) (tt, record { fits = omega (arith, f s .high) })
+cast-result-3 c = let s = c .before .before .before .before in rw (whole16 s, whole32 s, part16 s, part32 s, toZ-ofZ (f s .upper), toZ-ofZ (f s .sum), f s .is) (tt, record { fits = omega (arith, s .pre .high) })
 
 returns : tie.Need-returns
-returns c = let s = c .before .before .before .before in rw (whole16 s, whole32 s, part16 s, part32 s, toZ-ofZ (f s .upper), toZ-ofZ (f s .sum), f s .is) (refl, f s .high)
+returns c = let s = c .before .before .before .before in rw (whole16 s, whole32 s, part16 s, part32 s, toZ-ofZ (f s .upper), toZ-ofZ (f s .sum), f s .is) (s .pre .parts, s .pre .high)
 
 pub number-of-spec : {M : Type 1} → statement M
 number-of-spec =

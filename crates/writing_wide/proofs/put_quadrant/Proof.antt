@@ -1,9 +1,12 @@
 -- `writing_wide::put_quadrant` meets its contract: three parts of the record are lent in turn. Assumes nothing.
 use Prim.Native.Nat.{_+_, _*_, _-_}
 use native.Mathlib.Omega.{arith}
+use lib.Dec.{lit<}
 use borrow.Author.Needs.{needs}
 use Rattle.motion.specs.ByValue.{motionsIn}
+use Rattle.writing.specs.Words.{quadrantScaled}
 use Rattle.writing.proofs.Placed.{first-low, part-long, quadrant-put}
+use Rattle.writing_wide.specs.Numbers.{scalesIn}
 use Rattle.writing_wide.proofs.put_quadrant.Statement.{statement}
 use Rattle.writing_wide.proofs.put_quadrant.Tie as tie
 
@@ -77,7 +80,7 @@ put-pair-requires : tie.Need-put-pair-requires
 put-pair-requires c κs =
     let s = c .before .before .before .before .before .before .before in
     let g = s .args in
-    (part-long _ (13 + 4 * g .i) (13 + 4 * g .i + 8 - (13 + 4 * g .i)) 8 (omega arith) (omega (arith, c .before .before .before .out .given .1, s .pre .0, s .pre .2, first-low (g .q) (s .pre .1))))
+    (part-long _ (13 + 4 * g .i) (13 + 4 * g .i + 8 - (13 + 4 * g .i)) 8 (omega arith) (omega (arith, c .before .before .before .out .given .1, s .pre .0, s .pre .2, first-low (g .q) (s .pre .1))), s .pre .3, s .pre .4 .blocks _ (lit< tt), s .pre .4 .blocks _ (lit< tt))
 
 add-put-pair-2 : tie.Need-add-put-pair-2
 add-put-pair-2 c = let s = c .before .before .before .before .before .before .before .before .before in omega (arith, first-low (s .args .q) (s .pre .1), s .pre .2)
@@ -104,7 +107,7 @@ put-pair-requires-2 : tie.Need-put-pair-requires-2
 put-pair-requires-2 c κs =
     let s = c .before .before .before .before .before .before .before .before .before .before .before .before in
     let g = s .args in
-    (part-long _ (13 + 4 * (g .i + 4)) (13 + 4 * (g .i + 4) + 8 - (13 + 4 * (g .i + 4))) 8 (omega arith) (omega (arith, c .before .before .before .out2 .given .1, c .before .before .before .before .before .before .before .before .out .given .1, s .pre .0, s .pre .2, first-low (g .q) (s .pre .1))))
+    (part-long _ (13 + 4 * (g .i + 4)) (13 + 4 * (g .i + 4) + 8 - (13 + 4 * (g .i + 4))) 8 (omega arith) (omega (arith, c .before .before .before .out2 .given .1, c .before .before .before .before .before .before .before .before .out .given .1, s .pre .0, s .pre .2, first-low (g .q) (s .pre .1))), s .pre .3, s .pre .4 .blocks _ (lit< tt), s .pre .4 .blocks _ (lit< tt))
 
 same-length : tie.Need-same-length
 same-length c = search needs
@@ -113,7 +116,7 @@ returns : tie.Need-returns
 returns c =
     let s = c .before .before .before .before .before .before .before .before .before .before .before .before .before .before in
     let g = s .args in
-    quadrant-put (motionsIn (g .t4)) (g .out .now) (g .q) (g .i) (s .pre .0) (s .pre .1) (s .pre .2)
+    quadrant-put (quadrantScaled (scalesIn (g .h) (g .v)) (motionsIn (g .t6))) (g .out .now) (g .q) (g .i) (s .pre .0) (s .pre .1) (s .pre .2)
     (c .before .before .before .before .before .before .before .before .before .before .before .put-references .last .0) (c .before .before .before .before .before .before .put-pair .last .0) (c .before .put-pair2 .last .0)
     (5 + 2 * g .q + 2 - (5 + 2 * g .q)) (13 + 4 * g .i + 8 - (13 + 4 * g .i)) (13 + 4 * (g .i + 4) + 8 - (13 + 4 * (g .i + 4)))
     (c .before .before .before .before .before .before .before .before .before .before .before .put-references .ensures) (c .before .before .before .before .before .before .put-pair .ensures) (c .before .put-pair2 .ensures)

@@ -1,39 +1,35 @@
 -- `writing_wide::scale_word` meets its contract: the raised word is not below 0, and the product fits 64 bits. Assumes nothing.
 use Prim.Native.Nat.{_+_, _*_, _/_, _<_, _^_}
-use mathlib.Core.Path.{_≡_, sym, ap, _∙_}
+use mathlib.Core.Path.{_≡_, ap, _∙_}
 use native.Mathlib.Omega.{arith}
-use lib.IntN.{ℤ, pos, subℕ, _+ℤ_, _-ℤ_, _*ℤ_}
+use lib.IntN.{ℤ, pos, subℕ, _+ℤ_, _-ℤ_}
 use borrow.Author.Needs.{needs}
 use mir.Facts.{toZ-ofZ, toZ-pos}
 use mir.Syntax.{w32}
 use mir.Val.{ofZ, toZ}
-use Rattle.definitions.specs.Basics.{down}
 use Rattle.definitions.proofs.Differences.{pos-minus}
 use Rattle.writing_wide.proofs.Wide.{Rising, rising}
 use Rattle.writing_wide.proofs.scale_word.Statement.{statement}
 use Rattle.writing_wide.proofs.scale_word.Tie as tie
 
-module _ (c : tie.After-number-of) where
-  f : Rising (c .number-of .result) (c .before .args .v)
-  f = rising (c .number-of .result) (c .before .args .v) (c .number-of .ensures .1) (c .before .pre .1)
+module _ (c : tie.Start) where
+  f : Rising (c .args .n) (c .args .v)
+  f = rising (c .args .n) (c .args .v) (c .pre .0) (c .pre .1)
 
   up-small : f .up < 2 ^ 31
   up-small = omega (arith, f .low)
 
-  word : toZ w32 (ofZ w32 (c .before .args .v)) +ℤ pos 131072 ≡ pos (f .up)
-  word = ap (λ (z : ℤ). z +ℤ pos 131072) (toZ-ofZ (c .before .fits .v)) ∙ f .sum
+  word : toZ w32 (ofZ w32 (c .args .v)) +ℤ pos 131072 ≡ pos (f .up)
+  word = ap (λ (z : ℤ). z +ℤ pos 131072) (toZ-ofZ (c .fits .v)) ∙ f .sum
 
-  quotient : toZ w32 ((f .up * c .number-of .result + 32768) / 65536) ≡ pos ((f .up * c .number-of .result + 32768) / 65536)
+  quotient : toZ w32 ((f .up * c .args .n + 32768) / 65536) ≡ pos ((f .up * c .args .n + 32768) / 65536)
   quotient = toZ-pos w32 (omega (arith, f .product))
 
-  twice : toZ w32 (2 * c .number-of .result) ≡ pos (2 * c .number-of .result)
-  twice = toZ-pos w32 (omega (arith, c .number-of .ensures .1))
+  twice : toZ w32 (2 * c .args .n) ≡ pos (2 * c .args .n)
+  twice = toZ-pos w32 (omega (arith, c .pre .0))
 
-  difference : toZ w32 ((f .up * c .number-of .result + 32768) / 65536) -ℤ toZ w32 (2 * c .number-of .result) ≡ subℕ ((f .up * c .number-of .result + 32768) / 65536) (2 * c .number-of .result)
-  difference = (λ i. quotient i -ℤ twice i) ∙ pos-minus ((f .up * c .number-of .result + 32768) / 65536) (2 * c .number-of .result)
-
-number-of-requires : tie.Need-number-of-requires
-number-of-requires c κs = search needs
+  difference : toZ w32 ((f .up * c .args .n + 32768) / 65536) -ℤ toZ w32 (2 * c .args .n) ≡ subℕ ((f .up * c .args .n + 32768) / 65536) (2 * c .args .n)
+  difference = (λ i. quotient i -ℤ twice i) ∙ pos-minus ((f .up * c .args .n + 32768) / 65536) (2 * c .args .n)
 
 add-up : tie.Need-add-up
 add-up c = rw (word c) (record { sfits = up-small c })
@@ -42,7 +38,7 @@ cast-up : tie.Need-cast-up
 cast-up c = rw (word c, toZ-pos w32 (up-small c)) (tt, record { fits = omega (arith, up-small c) })
 
 cast-result : tie.Need-cast-result
-cast-result c = search needs
+cast-result c = rw (word c, toZ-pos w32 (up-small c)) (record { fits = omega (arith, up-small c) })
 
 mul-result : tie.Need-mul-result
 mul-result c = rw (word c, toZ-pos w32 (up-small c)) (record { fits = omega (arith, f c .product) })
@@ -63,15 +59,12 @@ sub-result : tie.Need-sub-result
 sub-result c = rw (word c, toZ-pos w32 (up-small c), difference c) (f c .fits)
 
 returns : tie.Need-returns
-returns c =
-    rw (word c, toZ-pos w32 (up-small c), difference c, toZ-ofZ (f c .fits))
-    (f c .is ∙ ap (λ (z : ℤ). down (c .before .args .v *ℤ z +ℤ pos 32768) 65536) (sym (c .number-of .ensures .0)))
+returns c = rw (word c, toZ-pos w32 (up-small c), difference c, toZ-ofZ (f c .fits)) (f c .is)
 
 pub scale-word-spec : {M : Type 1} → statement M
 scale-word-spec =
     tie.close
     (tie.spec
-    number-of-requires
     add-up
     cast-up
     cast-result

@@ -1,13 +1,14 @@
 -- `writing_wide::write_unused` meets its contract. Assumes nothing.
 use mathlib.Core.Path.{_∙_}
+use native.Mathlib.Omega.{arith}
 use lib.IntN.{pos}
 use borrow.Author.Needs.{needs}
-use Rattle.writing_wide.proofs.Wide.{unused-laid}
+use Rattle.writing_wide.proofs.Wide.{none-writable, unused-laid}
 use Rattle.writing_wide.proofs.write_unused.Statement.{statement}
 use Rattle.writing_wide.proofs.write_unused.Tie as tie
 
 lay-out-requires : tie.Need-lay-out-requires
-lay-out-requires c κs = search needs
+lay-out-requires c κs = (c .before .pre, (omega arith, omega arith), none-writable)
 
 same-length : tie.Need-same-length
 same-length c = search needs
