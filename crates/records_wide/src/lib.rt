@@ -7,25 +7,13 @@ ghost use lib.ListN.{length};
 ghost use Rattle.definitions.specs.Record.{detailOf, isIntra, recordAt, recordWords, rule7, wide};
 ghost use Rattle.definitions.specs.Refusals.{recordTests, verdictOf};
 ghost use Rattle.records.specs.Checking.{addresses};
-use definitions::RECORD_WORDS;
 use definitions::Verdict;
 use definitions::WIDE;
 use records::layout::DETAIL;
 use records::layout::TYPE;
-use rules::first_broken;
-use rules::found;
+use rules::record_at;
 
 // ---- Reading
-// The words of the record at address a.
-pub fn record_at(base: &[i32], a: usize) -> &[i32]
-    requires { ⌜ ((a + 1) * recordWords ≤ length (now base)) × (a < 65536) ⌝ }
-    ensures { λ r. ⌜ (now r ≡ recordAt (now (base .entry)) a) × (length (now r) ≡ recordWords) ⌝ }
-{
-    let from = RECORD_WORDS * a;
-    let to = from + RECORD_WORDS;
-    &base[from..to]
-}
-
 // Of type 0, intra.
 pub fn is_intra(base: &[i32], a: usize) -> bool
     requires { ⌜ ((a + 1) * recordWords ≤ length (now base)) × (a < 65536) ⌝ }
@@ -50,13 +38,5 @@ pub fn check(base: &[i32], from: usize, to: usize) -> Verdict
     requires { ⌜ (to * recordWords ≤ length (now base)) × (from ≤ to) × (to ≤ 65536) ⌝ }
     ensures { λ v. ⌜ v ≡ verdictOf (recordTests wide (now (base .entry)) (addresses from to)) ⌝ }
 {
-    let mut a = from;
-    while a < to {
-        let rule = first_broken(record_at(base, a), WIDE);
-        if rule != 0 {
-            return found(a, rule);
-        }
-        a += 1;
-    }
-    Verdict::Accepted
+    rules::check(base, from, to, WIDE)
 }

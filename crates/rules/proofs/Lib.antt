@@ -1,3 +1,3 @@
 -- Laws that the proofs of the functions cite.
-mod Broken
 mod Parts
+mod Searched

@@ -1,15 +1,18 @@
 // The rules of a well-formed motion record, once for both widths (document 02, E12): on the words of one record in 32 bits, with the limit of vectors as an argument.
 ghost use mathlib.Core.Path.{_≡_};
-ghost use Prim.Native.Nat.{ℕ, _+_, _-_, _≤_, _<_};
+ghost use Prim.Native.Nat.{ℕ, _+_, _*_, _-_, _≤_, _<_};
 ghost use lib.Bits.{bitAnd};
 ghost use lib.IntN.{ℤ, pos};
 ghost use lib.ListN.{length};
-ghost use Rattle.definitions.specs.Basics.{allBelow, between, eqZ, minus};
-ghost use Rattle.definitions.specs.Blocks.{quadrantOf, rasterOf};
-ghost use Rattle.definitions.specs.Record.{firstBroken, motionOf, recordWords, rule2, rule4, rule5, rule6, subSplitOf, subTypeOf, used, vectorWord, wide, wordOf};
+ghost use Rattle.definitions.specs.Basics.{between, eqZ, minus};
+ghost use Rattle.definitions.specs.Blocks.{quadrantOf};
+ghost use Rattle.definitions.specs.Record.{motionOf, recordAt, recordWords, rule2, rule4, rule7, subSplitOf, subTypeOf, used, vectorWord, wide, wordOf};
+ghost use Rattle.definitions.specs.Refusals.{recordTests, verdictOf};
 ghost use Rattle.definitions.specs.Splits.{sameMotion};
-ghost use Rattle.records.specs.Checking.{allWithin, blockWithin, firstBlockOf, foundAt, quadrantUsed, subFirstBlock, vectorsRight};
+ghost use Rattle.records.specs.Checking.{addresses, allWithin, blockWithin, firstBlockOf, foundAt, quadrantUsed, subFirstBlock, vectorsRight};
+ghost use Rattle.rules.specs.Searching.{headBroken, piecesRight};
 use common::refusals;
+use definitions::RECORD_WORDS;
 use definitions::Refusal;
 use definitions::Verdict;
 use records::layout;
@@ -99,6 +102,26 @@ fn usage_right(words: &[i32]) -> bool
         & quadrant_used(words, 3)
 }
 
+// The first of rules 1 to 4 that is broken, or 0.
+fn head_rule(words: &[i32]) -> u32
+    requires { ⌜ length (now words) ≡ recordWords ⌝ }
+    ensures { λ rule. ⌜ rule ≡ headBroken (now (words .entry)) ⌝ }
+{
+    if !all_within(words, layout::TYPE, 1, TYPES) {
+        return 1;
+    }
+    if !sub_types_right(words) {
+        return 2;
+    }
+    if !all_within(words, layout::REFERENCES, 8, REFERENCES) {
+        return 3;
+    }
+    if !usage_right(words) {
+        return 4;
+    }
+    0
+}
+
 // ---- Rule 5
 // Vector words of a used list: -limit..limit - 1.
 fn vectors_within(limit: u32) -> Range
@@ -147,19 +170,6 @@ fn quadrant_vectors(words: &[i32], q: usize, limit: u32) -> bool
         & block_within(words, first + 4, range0, range1)
         & block_within(words, first + 16, range0, range1)
         & block_within(words, first + 20, range0, range1)
-}
-
-fn vectors_right(words: &[i32], limit: u32) -> bool
-    requires { ⌜ (length (now words) ≡ recordWords) × (0 < limit) × (limit ≤ wide) ⌝ }
-    ensures { λ t. ⌜ t ≡ rule5 limit (now (words .entry)) ⌝ }
-{
-    let mut right = true;
-    let mut q: usize = 0;
-    while q < 4 {
-        right = right & quadrant_vectors(words, q, limit);
-        q += 1;
-    }
-    right
 }
 
 // ---- Rule 6: one motion in each piece
@@ -231,7 +241,7 @@ fn same_motion(words: &[i32], b: usize, d: usize) -> bool
 // The blocks of quadrant q, which are i, i + 1, i + 4 and i + 5, have the motion of their pieces' first blocks.
 fn quadrant_pieces(words: &[i32], q: usize) -> bool
     requires { ⌜ (length (now words) ≡ recordWords) × (q < 4) ⌝ }
-    ensures { λ t. ⌜ t ≡ allBelow 4 (λ k. sameMotion (motionOf (now (words .entry)) (rasterOf q k)) (motionOf (now (words .entry)) (firstBlockOf (now (words .entry)) (rasterOf q k)))) ⌝ }
+    ensures { λ t. ⌜ t ≡ piecesRight (now (words .entry)) q ⌝ }
 {
     let i = 8 * (q / 2) + 2 * (q % 2);
     let keep = kept(words, q);
@@ -241,51 +251,27 @@ fn quadrant_pieces(words: &[i32], q: usize) -> bool
         & same_motion(words, i + 5, (i + 5) & keep)
 }
 
-fn pieces_right(words: &[i32]) -> bool
+// ---- Rule 7
+fn detail_right(words: &[i32]) -> bool
     requires { ⌜ length (now words) ≡ recordWords ⌝ }
-    ensures { λ t. ⌜ t ≡ rule6 (now (words .entry)) ⌝ }
+    ensures { λ t. ⌜ t ≡ rule7 (now (words .entry)) ⌝ }
 {
-    let mut same = true;
-    let mut q: usize = 0;
-    while q < 4 {
-        same = same & quadrant_pieces(words, q);
-        q += 1;
-    }
-    same
+    word_within(words, layout::DETAIL, DETAILS)
 }
 
-// ---- The record
-// The first broken rule, or 0.
-pub fn first_broken(words: &[i32], limit: u32) -> u32
-    requires { ⌜ (length (now words) ≡ recordWords) × (0 < limit) × (limit ≤ wide) ⌝ }
-    ensures { λ rule. ⌜ rule ≡ firstBroken limit (now (words .entry)) ⌝ }
+// ---- The check
+// The words of the record at address a.
+pub fn record_at(base: &[i32], a: usize) -> &[i32]
+    requires { ⌜ ((a + 1) * recordWords ≤ length (now base)) × (a < 65536) ⌝ }
+    ensures { λ r. ⌜ (now r ≡ recordAt (now (base .entry)) a) × (length (now r) ≡ recordWords) ⌝ }
 {
-    if !all_within(words, layout::TYPE, 1, TYPES) {
-        return 1;
-    }
-    if !sub_types_right(words) {
-        return 2;
-    }
-    if !all_within(words, layout::REFERENCES, 8, REFERENCES) {
-        return 3;
-    }
-    if !usage_right(words) {
-        return 4;
-    }
-    if !vectors_right(words, limit) {
-        return 5;
-    }
-    if !pieces_right(words) {
-        return 6;
-    }
-    if !all_within(words, layout::DETAIL, 1, DETAILS) {
-        return 7;
-    }
-    0
+    let from = RECORD_WORDS * a;
+    let to = from + RECORD_WORDS;
+    &base[from..to]
 }
 
-// What a check says that ended at an address with a broken rule, or with none.
-pub fn found(a: usize, rule: u32) -> Verdict
+// What a search says that ended at an address with a broken rule, or with none.
+fn found(a: usize, rule: u32) -> Verdict
     requires { ⌜ a ≤ 65536 ⌝ }
     ensures { λ v. ⌜ v ≡ foundAt a rule ⌝ }
 {
@@ -297,4 +283,44 @@ pub fn found(a: usize, rule: u32) -> Verdict
         place: a as u32,
         rule,
     })
+}
+
+// Records from..to-1 are well formed, or refusal 8 at the lowest that is not, with its first broken rule.
+pub fn check(base: &[i32], from: usize, to: usize, limit: u32) -> Verdict
+    requires { ⌜ (to * recordWords ≤ length (now base)) × (from ≤ to) × (to ≤ 65536) × (0 < limit) × (limit ≤ wide) ⌝ }
+    ensures { λ v. ⌜ v ≡ verdictOf (recordTests limit (now (base .entry)) (addresses from to)) ⌝ }
+{
+    let mut a = from;
+    let mut rule: u32 = 0;
+    'records: while a < to {
+        let words = record_at(base, a);
+        rule = head_rule(words);
+        if rule != 0 {
+            break 'records;
+        }
+        // rule 5
+        let mut q: usize = 0;
+        while q < 4 {
+            if !quadrant_vectors(words, q, limit) {
+                rule = 5;
+                break 'records;
+            }
+            q += 1;
+        }
+        // rule 6
+        q = 0;
+        while q < 4 {
+            if !quadrant_pieces(words, q) {
+                rule = 6;
+                break 'records;
+            }
+            q += 1;
+        }
+        if !detail_right(words) {
+            rule = 7;
+            break 'records;
+        }
+        a += 1;
+    }
+    found(a, rule)
 }

@@ -7,8 +7,14 @@ use mathlib.Core.List.{List}
 use native.Mathlib.Nat.{eq-or-lt-of-le}
 use native.Mathlib.Omega.{arith}
 use lib.IntN.{ℤ}
+use lib.ListN.{length}
+use lib.Seq.{take-all}
 use borrow.Author.Tests.{eqb-true, eqb-false}
-use Rattle.definitions.specs.Record.{recordAt, firstBroken, wellFormed}
+use Rattle.definitions.specs.declared.Refusal.{Refusal}
+use Rattle.definitions.specs.declared.Verdict.{Verdict}
+use Rattle.definitions.specs.declared.Verdict.the-variants.{Accepted, Refused}
+use Rattle.definitions.specs.Record.{recordAt, recordWords, firstBroken, wellFormed}
+use Rattle.definitions.proofs.Choices.{no}
 use Rattle.records.specs.Checking.{foundAt}
 use Rattle.records.proofs.Verdicts.{verdict, verdict-more, verdict-here}
 
@@ -31,9 +37,43 @@ module _ (limit : ℕ) (base : List ℤ) (to : ℕ) where
       let e : from + (a - from) ≡ a = omega arith in
       ap (λ (n : ℕ). verdict limit base n to) (sym e) ∙ passed (a - from) from (omega arith) (λ k low high. formed k low (omega arith))
 
-  -- the first that is not
+  -- the first that is not, by its first broken rule
   pub verdict-at :
       (from a : ℕ) → from ≤ a → a < to → ((k : ℕ) → from ≤ k → k < a → wellFormed limit (recordAt base k) ≡ true) → wellFormed limit (recordAt base a) ≡ false →
-      (rule : ℕ) → rule ≡ firstBroken limit (recordAt base a) → foundAt a rule ≡ verdict limit base from to
-  verdict-at from a h l formed broken rule e =
-      verdict-here limit base a to l (recordAt base a) refl rule (sym e) (λ z. eqb-false _ 0 broken (sym e ∙ z)) ∙ verdict-from from a h (omega arith) formed
+      foundAt a (firstBroken limit (recordAt base a)) ≡ verdict limit base from to
+  verdict-at from a h l formed broken =
+      verdict-here limit base a to l (recordAt base a) refl (firstBroken limit (recordAt base a)) refl (eqb-false _ 0 broken) ∙ verdict-from from a h (omega arith) formed
+
+-- ---- A record alone
+-- its own base
+pub alone : (r : List ℤ) → length r ≡ recordWords → recordAt r 0 ≡ r
+unfolding recordAt
+alone r e = take-all recordWords r (omega (arith, e))
+
+-- what is found of it there, it is found of anywhere
+numberIn : Verdict → ℕ
+numberIn Accepted = 0
+numberIn (Refused r) = r .number
+
+ruleIn : Verdict → ℕ
+ruleIn Accepted = 0
+ruleIn (Refused r) = r .rule
+
+module _ (limit : ℕ) (r : List ℤ) (whole : length r ≡ recordWords) (broken : wellFormed limit r ≡ false) where
+  found-alone : foundAt 0 (firstBroken limit r) ≡ verdict limit r 0 1
+  found-alone = verdict-here limit r 0 1 (omega arith) r (sym (alone r whole)) (firstBroken limit r) refl (eqb-false _ 0 broken)
+
+  here : (a : ℕ) → foundAt a (firstBroken limit r) ≡ Refused (record { number = 8; place = a; rule = firstBroken limit r })
+  unfolding foundAt
+  here a = no _ _ broken
+
+  pub not-accepted : Accepted ≡ verdict limit r 0 1 → ⊥
+  unfolding numberIn
+  not-accepted e = let n : _≡_ {A = ℕ} 0 8 = ap numberIn (e ∙ (sym found-alone ∙ here 0)) in omega arith
+
+  pub moved : (a : ℕ) (f : Refusal) → Refused f ≡ verdict limit r 0 1 → Refused (record { number = f .number; place = a; rule = f .rule }) ≡ foundAt a (firstBroken limit r)
+  unfolding numberIn ruleIn
+  moved a f e =
+      let n = ap numberIn (e ∙ (sym found-alone ∙ here 0)) in
+      let k = ap ruleIn (e ∙ (sym found-alone ∙ here 0)) in
+      (λ i. Refused (record { number = n i; place = a; rule = k i })) ∙ sym (here a)

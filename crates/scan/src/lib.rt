@@ -12,12 +12,11 @@ ghost use Rattle.records.specs.Checking.{addresses, listRight};
 ghost use Rattle.scan.specs.Quick.{blockRight, quadrantRight, subAsFirst, vectorsRepeat};
 use definitions::NARROW;
 use definitions::RECORD_WORDS;
+use definitions::Refusal;
 use definitions::Verdict;
 use records::check;
 use records::layout;
 use records::read::record_at;
-use rules::first_broken;
-use rules::found;
 
 // ---- Type 0, intra
 // No sub-type but 0, no reference but -1, no vector but 0.
@@ -250,7 +249,8 @@ fn widened(words: &[i16]) -> [i32; RECORD_WORDS]
     copy
 }
 
-// Records from..to-1 are well formed, or refusal 8 at the lowest that is not, with its first broken rule. Records that are well formed leave it to those after them (`verdict-from`).
+// Records from..to-1 are well formed, or refusal 8 at the lowest that is not, with its first broken rule. Records that are well formed leave it to those after them (`verdict-from`);
+// of the first that is not, the rules are asked, as of a base of that record alone (`verdict-at`).
 pub fn check(base: &[i16], from: usize, to: usize) -> Verdict
     requires { ⌜ (to * recordWords ≤ length (now base)) × (from ≤ to) × (to ≤ 65536) ⌝ }
     ensures { λ v. ⌜ v ≡ verdictOf (recordTests narrow (now (base .entry)) (addresses from to)) ⌝ }
@@ -260,5 +260,12 @@ pub fn check(base: &[i16], from: usize, to: usize) -> Verdict
         return Verdict::Accepted;
     }
     let copy = widened(record_at(base, a));
-    found(a, first_broken(&copy, NARROW))
+    match rules::check(&copy, 0, 1, NARROW) {
+        Verdict::Accepted => Verdict::Accepted,
+        Verdict::Refused(r) => Verdict::Refused(Refusal {
+            number: r.number,
+            place: a as u32,
+            rule: r.rule,
+        }),
+    }
 }

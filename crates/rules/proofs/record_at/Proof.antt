@@ -8,8 +8,8 @@ use lib.IntN.{ℤ}
 use borrow.Author.Needs.{needs}
 use Rattle.definitions.specs.Record.{recordWords}
 use Rattle.definitions.proofs.Records.{record-part, record-length}
-use Rattle.records_wide.proofs.record_at.Statement.{statement}
-use Rattle.records_wide.proofs.record_at.Tie as tie
+use Rattle.rules.proofs.record_at.Statement.{statement}
+use Rattle.rules.proofs.record_at.Tie as tie
 
 mul-from : tie.Need-mul-from
 mul-from c = search needs

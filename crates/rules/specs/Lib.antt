@@ -1,0 +1,2 @@
+-- The definitions that only this crate's contracts cite.
+pub mod Searching
