@@ -66,7 +66,7 @@ returns c =
     let b5 = c .block-within4 .ensures in
     (λ i. ((b0 i && b1 i) && b4 i) && b5 i)
     ∙ quadrant-right (a .limit) (a .words .now) (a .q) (search needs) (between (range0 .result .low) (range0 .result .high)) (between (range1 .result .low) (range1 .result .high))
-        (range0 .ensures) (range1 .ensures)
+    (range0 .ensures) (range1 .ensures)
 
 pub quadrant-vectors-spec : {M : Type 1} → statement M
 quadrant-vectors-spec =
