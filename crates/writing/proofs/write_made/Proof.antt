@@ -3,11 +3,10 @@ use mathlib.Core.Logic.{⊎-elim}
 use mathlib.Core.List.{_++_}
 use mathlib.Core.Path.{_≡_, refl, sym, ap, _∙_}
 use native.Mathlib.Omega.{arith}
-use lib.IntN.{ℤ, pos}
+use lib.IntN.{ℤ}
 use lib.ListN.{length, drop, set}
 use mir.Facts.{toZ-pos}
 use mir.Syntax.{w16}
-use mir.Val.{toZ}
 use Rattle.definitions.specs.Answer.{dividedBy}
 use Rattle.definitions.specs.Record.{laidOut}
 use Rattle.definitions.proofs.Records.{laid-length}
