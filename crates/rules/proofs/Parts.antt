@@ -1,7 +1,7 @@
 -- The parts of rules 4 to 6 as the functions test them. Assumes nothing.
 use Prim.Native.Nat.{ℕ, zero, suc, _+_, _-_, _*_, _/_, _%_, _^_, _<_, _≤_}
 use mathlib.Core.Path.{_≡_, refl, sym, ap, _∙_, subst}
-use mathlib.Core.Bool.{Bool, true, _&&_, _||_}
+use mathlib.Core.Bool.{Bool, true, false, _&&_, _||_, and-assoc}
 use mathlib.Core.List.{List, [], _∷_}
 use native.Mathlib.Nat.{add-zero}
 use native.Mathlib.Omega.{arith}
@@ -16,16 +16,21 @@ use mir.Facts.{toZ-ofZ, toZ-pos}
 use borrow.Author.Tests.{eqb-true}
 use Rattle.definitions.specs.declared.SubSplit.{SubSplit}
 use Rattle.definitions.specs.declared.SubSplit.the-variants.{S8x8, S8x4, S4x8, S4x4}
-use Rattle.definitions.specs.Basics.{minus, allBelow}
+use Rattle.definitions.specs.Basics.{minus, eqZ, allBelow}
 use Rattle.definitions.specs.Blocks.{quadrantOf, rasterOf}
-use Rattle.definitions.specs.Record.{wide, wordOf, referenceOf, used, vectorWord, motionOf, subSplitOf, rule6}
+use Rattle.definitions.specs.Record.{wide, wordOf, referenceOf, vectorXOf, vectorYOf, used, fits, motionOf, subSplitOf, rule5, rule6}
 use Rattle.definitions.specs.Splits.{sameMotion}
 use Rattle.definitions.proofs.Choices.{each, below-true, below-same}
 use Rattle.definitions.proofs.Differences.{sub-pos, pos-minus, zero-minus}
 use Rattle.definitions.proofs.Records.{raster-quadrant, raster-below}
-use Rattle.records.specs.Checking.{quadrantUsed, blockWithin, vectorsRight, subFirstBlock, firstBlockOf, sameReferences, sameVectors}
+use Rattle.records.specs.Checking.{allWithin, quadrantUsed, listRight, subFirstBlock, firstBlockOf, sameReferences, sameVectors}
 use Rattle.records.proofs.FirstBlocks.{asFirst, same-all, motion-parts}
-use Rattle.records.proofs.Searches.{by-quadrants}
+use Rattle.records.proofs.Ranges.{one-number}
+use Rattle.records.proofs.Searches.{and-swap, below-both, by-quadrants}
+
+-- the first block of a quadrant
+first-at : (q : ℕ) → q < 4 → 8 * (q / 2) + 2 * (q % 2) ≡ getD (0 ∷ 2 ∷ 8 ∷ 10 ∷ []) q 0
+first-at = each (λ q. 8 * (q / 2) + 2 * (q % 2) ≡ getD (0 ∷ 2 ∷ 8 ∷ 10 ∷ []) q 0) refl refl refl refl
 
 -- ---- Rule 4
 pub used-either : (r : List ℤ) (q : ℕ) → (used (wordOf r (5 + 2 * q)) || used (wordOf r (5 + 2 * q + 1))) ≡ quadrantUsed r q
@@ -69,29 +74,97 @@ module _ (limit : ℕ) (most : limit ≤ wide) where
     pub high-is : toZ w32 (ofZ w32 (toZ w32 limit -ℤ toZ w32 1)) ≡ pos (limit - 1)
     high-is = toZ-ofZ high-fits ∙ high
 
--- the words of a quadrant's four blocks, by its references
-module _ (limit : ℕ) (r : List ℤ) where
-  abbrev quadrantWithin : (ℤ → Bool) → (ℤ → Bool) → ℕ → Bool
-  quadrantWithin f g w = ((blockWithin f g r w && blockWithin f g r (w + 4)) && blockWithin f g r (w + 16)) && blockWithin f g r (w + 20)
+-- two words are 0
+zero-pair : (r : List ℤ) (w : ℕ) → allWithin r w 2 (pos 0) (pos 0) ≡ (eqZ (wordOf r w) (pos 0) && eqZ (wordOf r (w + 1)) (pos 0))
+unfolding allWithin allBelow
+zero-pair r w = rw (add-zero w) (λ i. one-number (pos 0) (wordOf r w) i && one-number (pos 0) (wordOf r (w + 1)) i)
 
-  abbrev byReferences : ℕ → Bool
-  byReferences q =
-      quadrantWithin (vectorWord limit (used (referenceOf r q 0))) (vectorWord limit (used (referenceOf r q 1))) (13 + 32 * (q / 2) + 8 * (q % 2))
+-- two tests of each of four, unless u holds
+unless : (u : Bool) (f g : ℕ → Bool) → allBelow 4 (λ k. (u || f k) && (u || g k)) ≡ (u || allBelow 4 (λ k. f k && g k))
+unfolding allBelow
+unless true f g = refl
+unless false f g = refl
 
-  by-words : (q : ℕ) → q < 4 → byReferences q ≡ vectorsRight limit r q
-  unfolding vectorsRight allBelow
-  by-words = each (λ q. byReferences q ≡ vectorsRight limit r q) refl refl refl refl
+both-lists : (f : ℕ → Bool) → (f 0 && f 1) ≡ allBelow 2 f
+unfolding allBelow
+both-lists f = refl
 
-  pub quadrant-right :
-      (q : ℕ) →
-      q < 4 →
-      (f g : ℤ → Bool) →
-      ((v : ℤ) → f v ≡ vectorWord limit (used (wordOf r (5 + 2 * q))) v) →
-      ((v : ℤ) → g v ≡ vectorWord limit (used (wordOf r (5 + 2 * q + 1))) v) →
-      quadrantWithin f g (13 + 32 * (q / 2) + 8 * (q % 2)) ≡ vectorsRight limit r q
-  quadrant-right q h f g e0 e1 =
-      (λ i. quadrantWithin (λ v. (e0 v ∙ ap (λ (w : ℕ). vectorWord limit (used (wordOf r w)) v) (sym (add-zero (5 + 2 * q)))) i) (λ v. e1 v i) (13 + 32 * (q / 2) + 8 * (q % 2)))
-      ∙ by-words q h
+-- the words of n blocks from word s on
+and-four : (t a b c d : Bool) → ((((t && a) && b) && c) && d) ≡ (t && ((a && b) && (c && d)))
+and-four true a b c d = and-assoc (a && b) c d
+and-four false a b c d = refl
+
+module _ (f : ℕ → Bool) (s : ℕ) where
+  abbrev pair : ℕ → ℕ → Bool
+  pair b l = f (s + 4 * b + 2 * l) && f (s + 4 * b + 2 * l + 1)
+
+  by-blocks : (n : ℕ) → allBelow (4 * n) (λ k. f (s + k)) ≡ allBelow n (λ b. allBelow 2 (pair b))
+  unfolding allBelow
+  by-blocks zero = refl
+  by-blocks (suc n) =
+      let e : 4 * suc n ≡ suc (suc (suc (suc (4 * n)))) = omega arith in
+      let p0 : s + 4 * n ≡ s + 4 * n + 0 = omega arith in
+      let p1 : s + suc (4 * n) ≡ s + 4 * n + 0 + 1 = omega arith in
+      let p2 : s + suc (suc (4 * n)) ≡ s + 4 * n + 2 = omega arith in
+      let p3 : s + suc (suc (suc (4 * n))) ≡ s + 4 * n + 2 + 1 = omega arith in
+      ap (λ (m : ℕ). allBelow m (λ k. f (s + k))) e
+      ∙ ((λ i. (((by-blocks n i && f (p0 i)) && f (p1 i)) && f (p2 i)) && f (p3 i))
+      ∙ and-four (allBelow n (λ b. allBelow 2 (pair b))) (f (s + 4 * n + 0)) (f (s + 4 * n + 0 + 1)) (f (s + 4 * n + 2)) (f (s + 4 * n + 2 + 1)))
+
+module _ (r : List ℤ) where
+  -- of a block, of a quadrant
+  abbrev zeroUnless : ℕ → ℕ → Bool → Bool
+  zeroUnless b l u = (u || eqZ (vectorXOf r b l) (pos 0)) && (u || eqZ (vectorYOf r b l) (pos 0))
+
+  abbrev blockZero : ℕ → ℕ → Bool
+  blockZero b l = zeroUnless b l (used (referenceOf r (quadrantOf b) l))
+
+  abbrev pub unusedZero : ℕ → ℕ → Bool
+  unusedZero q l = used (referenceOf r q l) || allBelow 4 (λ k. allWithin r (13 + 4 * rasterOf q k + 2 * l) 2 (pos 0) (pos 0))
+
+  of-list : (q l : ℕ) → q < 4 → allBelow 4 (λ k. blockZero (rasterOf q k) l) ≡ unusedZero q l
+  of-list q l hq =
+      below-same 4 (λ k. blockZero (rasterOf q k) l) (λ k. zeroUnless (rasterOf q k) l (used (referenceOf r q l)))
+      (λ k hk. ap (λ (e : ℕ). zeroUnless (rasterOf q k) l (used (referenceOf r e l))) (raster-quadrant q k hq hk))
+      ∙ (unless (used (referenceOf r q l)) (λ k. eqZ (vectorXOf r (rasterOf q k) l) (pos 0)) (λ k. eqZ (vectorYOf r (rasterOf q k) l) (pos 0))
+      ∙ ap (λ (t : Bool). used (referenceOf r q l) || t) (below-same 4 _ _ (λ k hk. sym (zero-pair r (13 + 4 * rasterOf q k + 2 * l)))))
+
+  of-quadrant : (q : ℕ) → q < 4 → (unusedZero q 0 && unusedZero q 1) ≡ allBelow 4 (λ k. allBelow 2 (blockZero (rasterOf q k)))
+  of-quadrant q hq =
+      (λ i. sym (of-list q 0 hq) i && sym (of-list q 1 hq) i)
+      ∙ below-both 4 (λ k. blockZero (rasterOf q k) 0) (λ k. blockZero (rasterOf q k) 1) (λ k. allBelow 2 (blockZero (rasterOf q k))) (λ k. both-lists (blockZero (rasterOf q k)))
+
+  -- rule 5: all words fit, and those of unused lists are 0
+  pub vectors-apart :
+      (limit : ℕ) → (allWithin r 13 64 (minus limit) (pos (limit - 1)) && allBelow 4 (λ q. unusedZero q 0 && unusedZero q 1)) ≡ rule5 limit r
+  unfolding rule5 allWithin
+  vectors-apart limit =
+      let words = by-blocks (λ w. fits limit (wordOf r w)) 13 16 in
+      let quadrants = below-same 4 _ _ of-quadrant ∙ sym (by-quadrants (λ b. allBelow 2 (blockZero b))) in
+      (λ i. words i && quadrants i) ∙ below-both 16 (λ b. allBelow 2 (fitting b)) (λ b. allBelow 2 (blockZero b)) _ of-block
+    where
+      fitting : ℕ → ℕ → Bool
+      fitting b l = fits limit (vectorXOf r b l) && fits limit (vectorYOf r b l)
+
+      of-block : (b : ℕ) → (allBelow 2 (fitting b) && allBelow 2 (blockZero b)) ≡ allBelow 2 (listRight limit r b)
+      of-block b = below-both 2 (fitting b) (blockZero b) (listRight limit r b) (λ l. and-swap (fits limit (vectorXOf r b l)) (fits limit (vectorYOf r b l)) _ _)
+
+  -- the four blocks of a quadrant, by the numbers of their words
+  module _ (q l : ℕ) (hq : q < 4) where
+    abbrev zeroAt : ℕ → Bool
+    zeroAt w = allWithin r w 2 (pos 0) (pos 0)
+
+    abbrev first : ℕ
+    first = 13 + 32 * (q / 2) + 8 * (q % 2) + 2 * l
+
+    pub quadrant-zero : (used (referenceOf r q l) || (((zeroAt first && zeroAt (first + 4)) && zeroAt (first + 16)) && zeroAt (first + 20))) ≡ unusedZero q l
+    unfolding allBelow
+    quadrant-zero =
+        let p0 : first ≡ 13 + 4 * rasterOf q 0 + 2 * l = omega (arith, first-at q hq) in
+        let p1 : first + 4 ≡ 13 + 4 * rasterOf q 1 + 2 * l = omega (arith, first-at q hq) in
+        let p2 : first + 16 ≡ 13 + 4 * rasterOf q 2 + 2 * l = omega (arith, first-at q hq) in
+        let p3 : first + 20 ≡ 13 + 4 * rasterOf q 3 + 2 * l = omega (arith, first-at q hq) in
+        λ i. used (referenceOf r q l) || (((zeroAt (p0 i) && zeroAt (p1 i)) && zeroAt (p2 i)) && zeroAt (p3 i))
 
 -- ---- Rule 6
 pub motions-same :
@@ -150,7 +223,7 @@ module _ (r : List ℤ) where
     i = 8 * (q / 2) + 2 * (q % 2)
 
     at : (k : ℕ) → i + getD (0 ∷ 1 ∷ 4 ∷ 5 ∷ []) k 0 ≡ rasterOf q k
-    at k = ap (λ (n : ℕ). n + getD (0 ∷ 1 ∷ 4 ∷ 5 ∷ []) k 0) (each (λ q. 8 * (q / 2) + 2 * (q % 2) ≡ getD (0 ∷ 2 ∷ 8 ∷ 10 ∷ []) q 0) refl refl refl refl q hq)
+    at k = ap (λ (n : ℕ). n + getD (0 ∷ 1 ∷ 4 ∷ 5 ∷ []) k 0) (first-at q hq)
 
     one-same : (k : ℕ) → k < 4 → same (rasterOf q k) ≡ asFirst r (rasterOf q k)
     one-same k hk = ap (λ (d : ℕ). sameMotion (motionOf r (rasterOf q k)) (motionOf r d)) (firsts (rasterOf q k) (raster-below q k hq hk) (raster-quadrant q k hq hk))

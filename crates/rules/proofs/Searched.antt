@@ -11,9 +11,8 @@ use Rattle.definitions.specs.Basics.{pick, allBelow}
 use Rattle.definitions.specs.Record.{recordAt, rule1, rule2, rule3, rule4, rule5, rule6, rule7, firstBroken}
 use Rattle.definitions.specs.Refusals.{verdictOf, recordTests}
 use Rattle.definitions.proofs.Choices.{yes, no}
-use Rattle.records.specs.Checking.{vectorsRight, foundAt, addresses}
+use Rattle.records.specs.Checking.{foundAt, addresses}
 use Rattle.records.proofs.Searches.{search-end, search-fault}
-use Rattle.records.proofs.Ranges.{vectors-all}
 use Rattle.records.proofs.Verdicts.{verdict, verdict-end, verdict-here, verdict-more}
 use Rattle.rules.specs.Searching.{headBroken, piecesRight}
 use Rattle.rules.proofs.Parts.{same-quadrants}
@@ -67,13 +66,10 @@ module _ (limit : ℕ) (base : List ℤ) (a to : ℕ) where
     found-head n e broken = verdict-here limit base a to h r here n (broken-head limit r n (sym e) broken) broken
 
     module _ (head : headBroken r ≡ 0) where
-      pub found-5 : (q : ℕ) → q < 4 → vectorsRight limit r q ≡ false → foundAt a 5 ≡ verdict limit base a to
-      found-5 q l e = verdict-here limit base a to h r here 5 (broken-5 limit r head (vectors-all limit r ∙ search-fault (vectorsRight limit r) 4 q l e)) (λ z. omega arith)
+      pub found-5 : rule5 limit r ≡ false → foundAt a 5 ≡ verdict limit base a to
+      found-5 e = verdict-here limit base a to h r here 5 (broken-5 limit r head e) (λ z. omega arith)
 
-      module _ (q5 : ℕ) (le5 : q5 ≤ 4) (ge5 : 4 ≤ q5) (passed5 : allBelow q5 (vectorsRight limit r) ≡ true) where
-        right5 : rule5 limit r ≡ true
-        right5 = vectors-all limit r ∙ search-end (vectorsRight limit r) 4 q5 le5 ge5 passed5
-
+      module _ (right5 : rule5 limit r ≡ true) where
         pub found-6 : (q : ℕ) → q < 4 → piecesRight r q ≡ false → foundAt a 6 ≡ verdict limit base a to
         found-6 q l e = verdict-here limit base a to h r here 6 (broken-6 limit r head right5 (same-quadrants r ∙ search-fault (piecesRight r) 4 q l e)) (λ z. omega arith)
 

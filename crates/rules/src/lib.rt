@@ -1,15 +1,16 @@
 // The rules of a well-formed motion record, once for both widths (document 02, E12): on the words of one record in 32 bits, with the limit of vectors as an argument.
+ghost use mathlib.Core.Bool.{_||_};
 ghost use mathlib.Core.Path.{_≡_};
 ghost use Prim.Native.Nat.{ℕ, _+_, _*_, _-_, _≤_, _<_};
 ghost use lib.Bits.{bitAnd};
-ghost use lib.IntN.{ℤ, pos};
+ghost use lib.IntN.{pos};
 ghost use lib.ListN.{length};
-ghost use Rattle.definitions.specs.Basics.{between, eqZ, minus};
-ghost use Rattle.definitions.specs.Blocks.{quadrantOf};
-ghost use Rattle.definitions.specs.Record.{motionOf, recordAt, recordWords, rule2, rule4, rule7, subSplitOf, subTypeOf, used, vectorWord, wide, wordOf};
+ghost use Rattle.definitions.specs.Basics.{allBelow, between, eqZ, minus};
+ghost use Rattle.definitions.specs.Blocks.{quadrantOf, rasterOf};
+ghost use Rattle.definitions.specs.Record.{motionOf, recordAt, recordWords, referenceOf, rule2, rule4, rule5, rule7, subSplitOf, subTypeOf, used, wide, wordOf};
 ghost use Rattle.definitions.specs.Refusals.{recordTests, verdictOf};
 ghost use Rattle.definitions.specs.Splits.{sameMotion};
-ghost use Rattle.records.specs.Checking.{addresses, allWithin, blockWithin, firstBlockOf, foundAt, quadrantUsed, subFirstBlock, vectorsRight};
+ghost use Rattle.records.specs.Checking.{addresses, allWithin, firstBlockOf, foundAt, quadrantUsed, subFirstBlock};
 ghost use Rattle.rules.specs.Searching.{headBroken, piecesRight};
 use common::refusals;
 use definitions::RECORD_WORDS;
@@ -123,7 +124,7 @@ fn head_rule(words: &[i32]) -> u32
 }
 
 // ---- Rule 5
-// Vector words of a used list: -limit..limit - 1.
+// Vector words: -limit..limit - 1.
 fn vectors_within(limit: u32) -> Range
     requires { ⌜ (0 < limit) × (limit ≤ wide) ⌝ }
     ensures { λ range. ⌜ (range .low ≡ minus limit) × (range .high ≡ pos (limit - 1)) ⌝ }
@@ -135,41 +136,30 @@ fn vectors_within(limit: u32) -> Range
     }
 }
 
-// The range that the reference at word w allows its vector words.
-fn range_by(words: &[i32], w: usize, limit: u32) -> Range
-    requires { ⌜ (length (now words) ≡ recordWords) × (w < recordWords) × (0 < limit) × (limit ≤ wide) ⌝ }
-    ensures { λ range. ⌜ ((v : ℤ) → between (range .low) (range .high) v ≡ vectorWord limit (used (wordOf (now (words .entry)) w)) v) ⌝ }
+// Those of quadrant q in list l are 0 unless the list is used. A block has four words, and a row of blocks sixteen.
+fn unused_zero(words: &[i32], q: usize, l: usize) -> bool
+    requires { ⌜ (length (now words) ≡ recordWords) × (q < 4) × (l < 2) ⌝ }
+    ensures { λ t. ⌜ t ≡ (used (referenceOf (now (words .entry)) q l) || allBelow 4 (λ k. allWithin (now (words .entry)) (13 + 4 * rasterOf q k + 2 * l) 2 (pos 0) (pos 0))) ⌝ }
 {
-    if words[w] == UNUSED {
-        return ONLY_ZERO;
+    let first = layout::VECTORS + 32 * (q / 2) + 8 * (q % 2) + 2 * l;
+    let zero = all_within(words, first, 2, ONLY_ZERO)
+        & all_within(words, first + 4, 2, ONLY_ZERO)
+        & all_within(words, first + 16, 2, ONLY_ZERO)
+        & all_within(words, first + 20, 2, ONLY_ZERO);
+    (words[layout::REFERENCES + 2 * q + l] != UNUSED) | zero
+}
+
+fn vectors_right(words: &[i32], limit: u32) -> bool
+    requires { ⌜ (length (now words) ≡ recordWords) × (0 < limit) × (limit ≤ wide) ⌝ }
+    ensures { λ t. ⌜ t ≡ rule5 limit (now (words .entry)) ⌝ }
+{
+    let mut zero = true;
+    let mut q: usize = 0;
+    while q < 4 {
+        zero = zero & (unused_zero(words, q, 0) & unused_zero(words, q, 1));
+        q += 1;
     }
-    vectors_within(limit)
-}
-
-// A block's four vector words, from the first on: those of list 0 are in range0, those of list 1 in range1.
-fn block_within(words: &[i32], first: usize, range0: Range, range1: Range) -> bool
-    requires { ⌜ (length (now words) ≡ recordWords) × (first + 4 ≤ recordWords) ⌝ }
-    ensures { λ t. ⌜ t ≡ blockWithin (between (range0 .low) (range0 .high)) (between (range1 .low) (range1 .high)) (now (words .entry)) first ⌝ }
-{
-    word_within(words, first, range0)
-        & word_within(words, first + 1, range0)
-        & word_within(words, first + 2, range1)
-        & word_within(words, first + 3, range1)
-}
-
-// The blocks of quadrant q, two rows of two: a row of four blocks is sixteen words.
-fn quadrant_vectors(words: &[i32], q: usize, limit: u32) -> bool
-    requires { ⌜ (length (now words) ≡ recordWords) × (q < 4) × (0 < limit) × (limit ≤ wide) ⌝ }
-    ensures { λ t. ⌜ t ≡ vectorsRight limit (now (words .entry)) q ⌝ }
-{
-    let reference = layout::REFERENCES + 2 * q;
-    let range0 = range_by(words, reference, limit);
-    let range1 = range_by(words, reference + 1, limit);
-    let first = layout::VECTORS + 32 * (q / 2) + 8 * (q % 2);
-    block_within(words, first, range0, range1)
-        & block_within(words, first + 4, range0, range1)
-        & block_within(words, first + 16, range0, range1)
-        & block_within(words, first + 20, range0, range1)
+    all_within(words, layout::VECTORS, 64, vectors_within(limit)) & zero
 }
 
 // ---- Rule 6: one motion in each piece
@@ -298,17 +288,12 @@ pub fn check(base: &[i32], from: usize, to: usize, limit: u32) -> Verdict
         if rule != 0 {
             break 'records;
         }
-        // rule 5
-        let mut q: usize = 0;
-        while q < 4 {
-            if !quadrant_vectors(words, q, limit) {
-                rule = 5;
-                break 'records;
-            }
-            q += 1;
+        if !vectors_right(words, limit) {
+            rule = 5;
+            break 'records;
         }
         // rule 6
-        q = 0;
+        let mut q: usize = 0;
         while q < 4 {
             if !quadrant_pieces(words, q) {
                 rule = 6;
