@@ -2,7 +2,8 @@
 use Prim.Native.Nat.{ℕ, zero, suc, _+_, _*_, _/_, _%_, _-_, _≤_, _<_}
 use mathlib.Core.Bool.{Bool, true, false}
 use mathlib.Core.Path.{_≡_, refl, sym, ap, subst, _∙_}
-use native.Mathlib.Nat.{div-eq-of-lt-le, div-mul-le-self, lt-div-mul-add, div-lt-iff-lt-mul, le-div-iff-mul-le, mul-le-mul-left, mul-le-mul-right, mod-add-div, mul-mod-left, le-antisymm}
+use mathlib.Core.Logic.{⊎-elim}
+use native.Mathlib.Nat.{eq-or-lt-of-le, div-eq-of-lt-le, div-mul-le-self, lt-div-mul-add, div-lt-iff-lt-mul, le-div-iff-mul-le, mul-le-mul-left, mul-le-mul-right, mod-add-div, mul-mod-left, le-antisymm}
 use native.Mathlib.Omega.{arith}
 use lib.Dec.{leb→le, le→leb, lt→ltb, ltb→lt, ltb}
 use borrow.Author.Tests.{ltb-true, ltb-false}
@@ -10,7 +11,7 @@ use lib.IntN.{ℤ, pos, negsuc, negℤ, natAbs, _*ℤ_, _+ℤ_, _-ℤ_, negℤ-n
 use lib.Signed.{_≤ℤ_, _<ℤ_, leZ-yes, ltZ-yes, <ℤ-irrefl}
 use Rattle.definitions.specs.Basics.{down, minus}
 use Rattle.definitions.specs.Accepted.{Sized}
-use Rattle.definitions.specs.Record.{narrow}
+use Rattle.definitions.specs.Record.{wide}
 use Rattle.definitions.specs.Inheriting.{scaleOf, scaledBy, scaledWord}
 use Rattle.definitions.specs.Why.{errorOf, NearestUp, firstRule}
 use Rattle.definitions.proofs.Differences.{sub-cases, sub-neg, pos-minus}
@@ -234,26 +235,47 @@ not-above m n f = by (ltb n m) refl
     by true l = absurd (f (ltb-true n m l))
     by false l = ltb-false n m l
 
-module _ (half b s n : ℕ) (z : Sized b s) (h : 32767 ≤ half) (g : half ≤ 32768) (small : n ≤ narrow) where
+module _ (half b s n : ℕ) (z : Sized b s) (h : 32767 ≤ half) (g : half ≤ 32768) where
   rule : ℕ
   rule = (n * s + b / 2) / b
 
-  under-rule : sizeOf half b s n ≤ rule + 1
-  unfolding rule
-  under-rule =
-      let hb : 0 < b = omega arith in
-      not-above _ _ (λ l. omega (arith, mul-le-mul-left b l, lt-div-mul-add {a = n * s + b / 2} hb, scale-below half b s n z, size-below half b s n z g, mul-le-mul-right b small))
+  module _ (small : n < wide) where
+    under-rule : sizeOf half b s n ≤ rule + 1
+    unfolding rule
+    under-rule =
+        let hb : 0 < b = omega arith in
+        not-above _ _ (λ l. omega (arith, mul-le-mul-left b l, lt-div-mul-add {a = n * s + b / 2} hb, scale-below half b s n z, size-below half b s n z g, mul-le-mul-right b small))
 
-  over-rule : rule ≤ sizeOf half b s n + 1
-  unfolding rule
-  over-rule =
-      not-above _ _ (λ l. omega (arith, mul-le-mul-left b l, div-mul-le-self (n * s + b / 2) b, scale-above half b s n z, size-above half b s n z h, mul-le-mul-right b small))
+    over-rule : rule ≤ sizeOf half b s n + 1
+    unfolding rule
+    over-rule =
+        not-above _ _ (λ l. omega (arith, mul-le-mul-left b l, div-mul-le-self (n * s + b / 2) b, scale-above half b s n z, size-above half b s n z h, mul-le-mul-right b small))
 
-  beside-rule : natAbs (pos (sizeOf half b s n) -ℤ pos ((n * s + b / 2) / b)) ≤ 1
-  unfolding rule
-  beside-rule = apart-by (λ d. d ≤ 1) (sizeOf half b s n) ((n * s + b / 2) / b) (λ l. omega (arith, over-rule)) (λ l. omega (arith, under-rule))
+  -- at the wide limit it is twice the scale
+  module _ (most : n ≡ wide) where
+    twice-scale : sizeOf half b s n ≡ 2 * scaleOf b s
+    twice-scale = ap (sizeOf half b s) most ∙ (let e : (131072 * scaleOf b s + half) / 65536 ≡ 2 * scaleOf b s = omega arith in e)
 
-pub first-rule : (b s : ℕ) (v : ℤ) → Sized b s → natAbs v ≤ narrow → natAbs (scaledWord b s v -ℤ firstRule b s v) ≤ 1
+    rule-most : rule ≡ (131072 * s + b / 2) / b
+    unfolding rule
+    rule-most = ap (λ (m : ℕ). (m * s + b / 2) / b) most
+
+    under-most : sizeOf half b s n ≤ rule + 1
+    under-most =
+        let hb : 0 < b = omega arith in
+        rw (twice-scale, rule-most) (not-above _ _ (λ l. omega (arith, mul-le-mul-left b l, lt-div-mul-add {a = 131072 * s + b / 2} hb, scale-under b s z)))
+
+    over-most : rule ≤ sizeOf half b s n + 1
+    over-most = rw (twice-scale, rule-most) (not-above _ _ (λ l. omega (arith, mul-le-mul-left b l, div-mul-le-self (131072 * s + b / 2) b, scale-over b s z)))
+
+  beside-rule : n ≤ wide → natAbs (pos (sizeOf half b s n) -ℤ pos ((n * s + b / 2) / b)) ≤ 1
+  unfolding rule
+  beside-rule l =
+      let under = ⊎-elim under-most under-rule (eq-or-lt-of-le l) in
+      let over = ⊎-elim over-most over-rule (eq-or-lt-of-le l) in
+      apart-by (λ d. d ≤ 1) (sizeOf half b s n) ((n * s + b / 2) / b) (λ k. omega (arith, over)) (λ k. omega (arith, under))
+
+pub first-rule : (b s : ℕ) (v : ℤ) → Sized b s → natAbs v ≤ wide → natAbs (scaledWord b s v -ℤ firstRule b s v) ≤ 1
 first-rule b s (pos n) z h = beside-rule 32768 b s n z (omega arith) (omega arith) h
 first-rule b s (negsuc n) z h =
     rw (below b s n z, difference-neg (pos (sizeOf 32767 b s (suc n))) (pos ((suc n * s + b / 2) / b))) (beside-rule 32767 b s (suc n) z (omega arith) (omega arith) h)

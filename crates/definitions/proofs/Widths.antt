@@ -13,16 +13,17 @@ use Rattle.definitions.specs.declared.Numbers.{Numbers}
 use Rattle.definitions.specs.declared.Verdict.{Verdict}
 use Rattle.definitions.specs.declared.MacroblockReply.the-variants.{Answered, Refused as Declined}
 use Rattle.definitions.specs.declared.PictureReply.the-variants.{Counted, Refused as NotMade}
-use Rattle.definitions.specs.Basics.{pick, minus, eqZ, between, upTo, forEach}
+use Rattle.definitions.specs.Basics.{pick, minus, eqZ, between, allBelow, upTo, forEach}
 use Rattle.definitions.specs.Blocks.{quadrantOf}
 use Rattle.definitions.specs.Geometry.{axesOf}
 use Rattle.definitions.specs.Answer.{madeOf}
 use Rattle.definitions.specs.Raster.{fullCount}
-use Rattle.definitions.specs.Record.{narrow, wide, fits, used, recordAt, referenceOf, vectorXOf, vectorYOf, vectorWord, rule1, rule2, rule3, rule4, rule5, rule6, rule7, firstBroken}
+use Rattle.definitions.specs.Record.{fits, used, recordAt, referenceOf, vectorXOf, vectorYOf, vectorWord, rule1, rule2, rule3, rule4, rule5, rule6, rule7, firstBroken}
 use Rattle.definitions.specs.Refusals.{Test, test, verdictOf, geometryTests, baseTest, outputTest, positionTest, recordTests, addressesRead, allAddresses}
 use Rattle.definitions.specs.Calls.{macroblockTests, macroblockCall, pictureTests, pictureCall, byVerdict, madeAt, countsOf}
 use Rattle.definitions.specs.Widths.{VectorsFit, WidthsSame}
-use Rattle.definitions.proofs.Choices.{both-true, below-same}
+use Rattle.definitions.specs.Written.{vectorsInRange}
+use Rattle.definitions.proofs.Choices.{both-true, below-same, below-true}
 
 -- ---- a wider range
 wider : (a b c d : ℕ) (z : ℤ) → a ≤ c → b ≤ d → between (minus a) (pos b) z ≡ true → between (minus c) (pos d) z ≡ true
@@ -50,11 +51,18 @@ module _ (small large : ℕ) (over : small ≤ large) where
   word-same u v e = let f : fits large v ≡ true = wider small (small - 1) large (large - 1) v over (omega arith) e in λ i. (f ∙ sym e) i && (u || eqZ v (pos 0))
 
   module _ (base : List ℤ) (fit : VectorsFit small base) where
+    word-fits : (a b l : ℕ) → b < 16 → l < 2 → (fits small (vectorXOf (recordAt base a) b l) ≡ true) × (fits small (vectorYOf (recordAt base a) b l) ≡ true)
+    unfolding vectorsInRange
+    word-fits a b l p q =
+        let r = recordAt base a in
+        both-true _ _ (below-true 2 (λ l. fits small (vectorXOf r b l) && fits small (vectorYOf r b l))
+        (below-true 16 (λ b. allBelow 2 (λ l. fits small (vectorXOf r b l) && fits small (vectorYOf r b l))) (fit a) b p) l q)
+
     rule-same : (a : ℕ) → rule5 large (recordAt base a) ≡ rule5 small (recordAt base a)
     unfolding rule5
     rule-same a =
         below-same 16 _ _ (λ b p. below-same 2 _ _ (λ l q.
-        let f = fit a b l p q in
+        let f = word-fits a b l p q in
         let u = used (referenceOf (recordAt base a) (quadrantOf b) l) in
         λ i. word-same u (vectorXOf (recordAt base a) b l) (f .0) i && word-same u (vectorYOf (recordAt base a) b l) (f .1) i))
 
@@ -86,8 +94,8 @@ module _ (small large : ℕ) (over : small ≤ large) where
         ap (λ (ts : List Test). byVerdict (verdictOf (geometryTests n ++ (baseTest g base ∷ outputTest (fullCount g) words ∷ ts))) NotMade words (record { reply = Counted (countsOf made); words = forEach made (λ m. m .written) }))
         (tests-same (allAddresses g))
 
-pub widths-same : WidthsSame
-widths-same = record {
-  singly = λ n base column row words fit. same-singly narrow wide (omega arith) base fit n column row words;
-  picture = λ n base words fit. same-picture narrow wide (omega arith) base fit n words;
+pub widths-same : (small large : ℕ) → small ≤ large → WidthsSame small large
+widths-same small large over = record {
+  singly = λ n base column row words fit. same-singly small large over base fit n column row words;
+  picture = λ n base words fit. same-picture small large over base fit n words;
 }

@@ -115,7 +115,8 @@ rule4 r =
     pick (isIntra r) (allBelow 4 (λ q. allBelow 2 (λ l. not (used (referenceOf r q l)))))
     (allBelow 4 (λ q. used (referenceOf r q 0) || used (referenceOf r q 1)))
 
--- (5) vector words −8,192..8,191 (of wide records −131,072..131,071: −L..L − 1), and 0 where the reference is −1
+-- (5) vector words −8,192..8,191 (of wide records −131,072..131,071), and 0 where the reference is −1
+-- a word is in −L..L − 1
 abbrev pub fits : ℕ → ℤ → Bool
 fits limit v = between (minus limit) (pos (limit - 1)) v
 

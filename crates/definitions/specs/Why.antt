@@ -10,7 +10,7 @@ use Rattle.definitions.specs.Basics.{down, minus, signed}
 use Rattle.definitions.specs.Accepted.{Sized, Inside}
 use Rattle.definitions.specs.Geometry.{kOf, d1Of, d2Of, roundedOf}
 use Rattle.definitions.specs.BlockMap.{coordinateOf}
-use Rattle.definitions.specs.Record.{narrow}
+use Rattle.definitions.specs.Record.{wide}
 use Rattle.definitions.specs.Inheriting.{scaledWord}
 
 -- ---- The table
@@ -79,8 +79,8 @@ pub record WhyEntire : Type 0 where
   pub nearest : (b s : ℕ) (v : ℤ) → Sized b s → s * 65536 % b ≡ 0 → NearestUp b s v (scaledWord b s v)
   -- and it is whole at the ratios n/2, which are 1, 3/2 and 2;
   pub whole : (b s n : ℕ) → Sized b s → 2 * s ≡ n * b → s * 65536 % b ≡ 0
-  -- at the narrow limit it differs from the first rule's by at most 1;
-  pub first-rule : (b s : ℕ) (v : ℤ) → Sized b s → natAbs v ≤ narrow → natAbs (scaledWord b s v -ℤ firstRule b s v) ≤ 1
+  -- up to the wide limit it differs from the first rule's by at most 1;
+  pub first-rule : (b s : ℕ) (v : ℤ) → Sized b s → natAbs v ≤ wide → natAbs (scaledWord b s v -ℤ firstRule b s v) ≤ 1
   -- a word of −limit..limit − 1 becomes one of −2·limit..2·(limit − 1), for rule 5's limit and any other.
   pub range : (b s limit : ℕ) (v : ℤ) → Sized b s → minus limit ≤ℤ v → v ≤ℤ pos (limit - 1)
       → (minus (2 * limit) ≤ℤ scaledWord b s v) × (scaledWord b s v ≤ℤ pos (2 * (limit - 1)))

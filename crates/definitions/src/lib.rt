@@ -1,4 +1,4 @@
-// The types that the definitions of specs/ speak of, and the words of a record. No function stands here.
+// The types that the definitions of specs/ speak of, the words of a record, and the limits of vectors. No function stands here.
 
 // ---- Geometry
 // Two scales, in luma samples, and a position on one never serves on the other: base samples (003's base layer reference) and enhancement samples
