@@ -67,6 +67,7 @@ fn reads_intra(base: &[i32], width: usize, x: u16, y: u16) -> bool
     is_intra(base, address_of(width, x, y))
 }
 
+// Of the macroblocks that the corner blocks read, which are intra: these are all (`set-corners`).
 pub fn corners_of(base: &[i32], width: usize, across: [u16; 4], down: [u16; 4]) -> Corners
     requires { ⌜ Readable wide width across down (now base) × (width ≤ 256) ⌝ }
     ensures { λ r. ⌜ r ≡ cornersBy width across down (now (base .entry)) ⌝ }
@@ -84,7 +85,7 @@ pub fn corners_of(base: &[i32], width: usize, across: [u16; 4], down: [u16; 4]) 
 }
 
 // ---- Detail
-// The bits of that macroblock.
+// The bits of the macroblock that a block with coordinates x and y reads.
 fn reads_detail(base: &[i32], width: usize, x: u16, y: u16) -> u32
     requires { ⌜ ReadableAt wide width (now base) x y × (width ≤ 256) ⌝ }
     ensures { λ r. ⌜ (r ≡ natAbs (detailOf (recordRead width (now (base .entry)) x y))) × (r < 16) ⌝ }

@@ -219,7 +219,7 @@ module _ (f : Fixed) (h v : AxisRead) (base : List ℤ) where
       ap splitSaid (w ∙ told (h .inside && v .inside) (mostlyIntra (setInside f (h .reads) (v .reads) base)) _ _ _ (ap inherits (sym e))) ∙ split-said (chosen M) (motionAt M) (pos (detailInside f (h .reads) (v .reads) base))
 
   split-in : (r : List ℤ) → splitIn (saidBy r) ≡ splitSaid r
-  unfolding splitIn splitSaid
+  unfolding splitSaid
   split-in r = refl
 
   -- the answer is the one that the written record says

@@ -16,17 +16,16 @@ use Rattle.definitions.specs.declared.Basis.{Basis}
 use Rattle.definitions.specs.declared.Answer.{Answer}
 use Rattle.definitions.specs.declared.Answer.the-variants.{Outside, Intra, Inherited}
 use Rattle.definitions.specs.declared.Split.{Split}
-use Rattle.definitions.specs.declared.Split.the-variants.{S16x16, S16x8, S8x16, S8x8 as Quarters}
 use Rattle.macroblock.specs.declared.AxisRead.{AxisRead}
 use Rattle.macroblock.specs.declared.Said.{Said}
 use Rattle.macroblock.specs.declared.Fixed.{Fixed}
 use Rattle.common.specs.declared.counts.Sort.{Sort}
 use Rattle.common.specs.declared.counts.Sort.the-variants.{Inherited as SortInherited, Intra as SortIntra, Outside as SortOutside}
-use Rattle.definitions.specs.Basics.{eqZ, pick}
+use Rattle.definitions.specs.Basics.{pick}
 use Rattle.definitions.specs.Geometry.{baseSize, classOf, macroblocks, insideAxis, sampleOf}
 use Rattle.definitions.specs.BlockMap.{columnOf, stepOf}
 use Rattle.details.specs.Bits.{detailBy, halvesOf}
-use Rattle.definitions.specs.Record.{detailOf, laidOut, subSplitOf, subTypeOf, typeOf}
+use Rattle.definitions.specs.Record.{detailOf, laidOut, splitSaid, subTypeOf, typeOf}
 use Rattle.definitions.specs.Inheriting.{mostlyIntra, motionAt, resolved, chosen}
 use Rattle.definitions.specs.Answer.{Made, dividedBy, withoutMotion}
 use Rattle.motion.specs.Scales.{AcceptedScales, allScaled, scalesOf}
@@ -109,16 +108,12 @@ basisWith h v detail = record {
   diagonal = (4 - h .falls) * (4 - v .falls);
 }
 
--- the same from what a written record says: its type, its sub-types and its detail
+-- what a written record says of its answer: its type, its sub-types and its detail; the split, and the answer of a sort
 abbrev pub saidBy : List ℤ → Said
 saidBy r = record { kind = typeOf r; a = subTypeOf r 0; b = subTypeOf r 1; c = subTypeOf r 2; d = subTypeOf r 3; detail = natAbs (detailOf r) }
 
-unfoldable pub splitIn : Said → Split
-splitIn s =
-    pick (eqZ (s .kind) (pos 1)) S16x16
-    (pick (eqZ (s .kind) (pos 2)) S16x8
-    (pick (eqZ (s .kind) (pos 3)) S8x16
-    (Quarters (record { a = subSplitOf (s .a); b = subSplitOf (s .b); c = subSplitOf (s .c); d = subSplitOf (s .d) }))))
+abbrev pub splitIn : Said → Split
+splitIn s = splitSaid (s .kind ∷ s .a ∷ s .b ∷ s .c ∷ s .d ∷ [])
 
 -- a sort of the window's inside
 abbrev pub within : Sort → Bool

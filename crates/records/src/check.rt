@@ -1,5 +1,4 @@
 // The tests of 16-bit words by which the quick scan of records (the crate scan) goes. The rules themselves, for both widths, are the crate rules.
-// Both tests are made: `&` has no branch. So it is wherever words are tested by `&` below, and the compiler takes several at once.
 ghost use mathlib.Core.Path.{_≡_};
 ghost use Prim.Native.Nat.{_+_, _≤_, _<_};
 ghost use lib.IntN.{ℤ};
@@ -40,6 +39,7 @@ pub const ONLY_UNUSED: Range = Range {
 pub const ONLY_ZERO: Range = Range { low: 0, high: 0 };
 
 // ---- Words in a range
+// Both tests are made: `&` has no branch. So it is wherever words are tested by `&` below, and the compiler takes several at once.
 fn word_within(words: &[i16], w: usize, range: Range) -> bool
     requires { ⌜ (length (now words) ≡ recordWords) × (w < recordWords) ⌝ }
     ensures { λ t. ⌜ t ≡ between (range .low) (range .high) (wordOf (now (words .entry)) w) ⌝ }

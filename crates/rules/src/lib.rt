@@ -1,4 +1,4 @@
-// The rules of a well-formed motion record, once for both widths (document 02, E12): on the words of one record in 32 bits, with the limit of vectors as an argument.
+// The rules of a well-formed motion record, once for both widths (document 02, E12): on records of 32-bit words, with the limit of vectors as an argument.
 ghost use mathlib.Core.Bool.{_||_};
 ghost use mathlib.Core.Path.{_≡_};
 ghost use Prim.Native.Nat.{ℕ, _+_, _*_, _-_, _≤_, _<_};
@@ -45,7 +45,7 @@ const ONLY_UNUSED: Range = Range {
 
 const ONLY_ZERO: Range = Range { low: 0, high: 0 };
 
-// ---- Rules 1 to 4: words 0 to 12
+// ---- Words in a range
 // Both tests are made: `&` has no branch. So it is wherever words are tested by `&` below, and the compiler takes several at once.
 fn word_within(words: &[i32], w: usize, range: Range) -> bool
     requires { ⌜ (length (now words) ≡ recordWords) × (w < recordWords) ⌝ }
@@ -69,6 +69,7 @@ fn all_within(words: &[i32], first: usize, count: usize, range: Range) -> bool
     right
 }
 
+// ---- Rules 1 to 4: words 0 to 12
 // Rule 2.
 fn sub_types_right(words: &[i32]) -> bool
     requires { ⌜ length (now words) ≡ recordWords ⌝ }
@@ -149,6 +150,7 @@ fn unused_zero(words: &[i32], q: usize, l: usize) -> bool
     (words[layout::REFERENCES + 2 * q + l] != UNUSED) | zero
 }
 
+// Rule 5: all are in range, and those of unused lists are 0.
 fn vectors_right(words: &[i32], limit: u32) -> bool
     requires { ⌜ (length (now words) ≡ recordWords) × (0 < limit) × (limit ≤ wide) ⌝ }
     ensures { λ t. ⌜ t ≡ rule5 limit (now (words .entry)) ⌝ }

@@ -165,7 +165,8 @@ fn class_number(c: Class) -> u32
     }
 }
 
-fn wide(n: u8) -> u32
+// A number in 32 bits.
+fn in_32(n: u8) -> u32
     ensures { λ r. ⌜ r ≡ n ⌝ }
 {
     n as u32
@@ -219,19 +220,19 @@ fn answer_result(a: Answer) -> MacroblockResult
         refusal: 0,
         place: 0,
         rule: 0,
-        kind: wide(answer_type(a)),
-        sub0: wide(sub[0]),
-        sub1: wide(sub[1]),
-        sub2: wide(sub[2]),
-        sub3: wide(sub[3]),
+        kind: in_32(answer_type(a)),
+        sub0: in_32(sub[0]),
+        sub1: in_32(sub[1]),
+        sub2: in_32(sub[2]),
+        sub3: in_32(sub[3]),
         class: class_number(class),
         column: origin.column,
         row: origin.row,
-        detail: wide(basis.detail),
-        first: wide(basis.first),
-        right: wide(basis.right),
-        below: wide(basis.below),
-        diagonal: wide(basis.diagonal),
+        detail: in_32(basis.detail),
+        first: in_32(basis.first),
+        right: in_32(basis.right),
+        below: in_32(basis.below),
+        diagonal: in_32(basis.diagonal),
     }
 }
 

@@ -14,6 +14,7 @@ ghost use lib.ListN.{length};
 ghost use mathlib.Core.Bool.{true};
 ghost use mathlib.Core.List.{_++_};
 ghost use mathlib.Core.Path.{_≡_};
+use definitions::WIDE;
 use motion::BlockMotion;
 use motion::Scale;
 use motion::Scales;
@@ -40,7 +41,7 @@ fn scale_word(n: u32, v: i32) -> i32
     requires { ⌜ (n ≤ 131072) × (fits wide v ≡ true) ⌝ }
     ensures { λ r. ⌜ r ≡ scaledBy n v ⌝ }
 {
-    let up = (v + 131072) as u32;
+    let up = (v + WIDE as i32) as u32;
     ((up as u64 * n as u64 + 32768) / 65536) as i32 - (2 * n) as i32
 }
 
