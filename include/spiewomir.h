@@ -220,7 +220,8 @@ SpiewomirPicture spiewomir_picture(SpiewomirGeometry geometry, const int16_t *ba
                                    int16_t *out, size_t out_len);
 
 /* The same two calls on wide records, for longer vectors: all is as above, lengths in
- * words, refusals and answers included, but the words of `base` and `out` are int32_t, and
+ * words, refusals and answers included (a picture's words are those that
+ * spiewomir_macroblock_wide writes), but the words of `base` and `out` are int32_t, and
  * vector words are -131072..131071 by rule 5. Every word is judged as the number that it
  * is (type 65537 breaks rule 1). On a base whose vector words are all in -8192..8191 they
  * write the same numbers as the calls above, and give the same answers, counts and
