@@ -35,13 +35,16 @@ fn number_of(s: Scale) -> u32
     (s.whole as i32 * 65536 + s.part as i32) as u32
 }
 
-// A vector word: (v · n + 32,768) / 65,536, rounded down. With 131,072 more it is not below 0, so that the product is unsigned, and what that adds, twice the scale, is
+// The limit of vectors, with its sign.
+const LIMIT: i32 = WIDE as i32;
+
+// A vector word: (v · n + 32,768) / 65,536, rounded down. With the limit more it is not below 0, so that the product is unsigned, and what that adds, twice the scale, is
 // taken away again (`by-raised` of writing's proofs/Rounded).
 fn scale_word(n: u32, v: i32) -> i32
     requires { ⌜ (n ≤ 131072) × (fits wide v ≡ true) ⌝ }
     ensures { λ r. ⌜ r ≡ scaledBy n v ⌝ }
 {
-    let up = (v + WIDE as i32) as u32;
+    let up = (v + LIMIT) as u32;
     ((up as u64 * n as u64 + 32768) / 65536) as i32 - (2 * n) as i32
 }
 
