@@ -165,8 +165,8 @@ fn class_number(c: Class) -> u32
     }
 }
 
-// A number in 32 bits.
-fn in_32(n: u8) -> u32
+// A small number, as C is handed it.
+fn as_number(n: u8) -> u32
     ensures { λ r. ⌜ r ≡ n ⌝ }
 {
     n as u32
@@ -220,19 +220,19 @@ fn answer_result(a: Answer) -> MacroblockResult
         refusal: 0,
         place: 0,
         rule: 0,
-        kind: in_32(answer_type(a)),
-        sub0: in_32(sub[0]),
-        sub1: in_32(sub[1]),
-        sub2: in_32(sub[2]),
-        sub3: in_32(sub[3]),
+        kind: as_number(answer_type(a)),
+        sub0: as_number(sub[0]),
+        sub1: as_number(sub[1]),
+        sub2: as_number(sub[2]),
+        sub3: as_number(sub[3]),
         class: class_number(class),
         column: origin.column,
         row: origin.row,
-        detail: in_32(basis.detail),
-        first: in_32(basis.first),
-        right: in_32(basis.right),
-        below: in_32(basis.below),
-        diagonal: in_32(basis.diagonal),
+        detail: as_number(basis.detail),
+        first: as_number(basis.first),
+        right: as_number(basis.right),
+        below: as_number(basis.below),
+        diagonal: as_number(basis.diagonal),
     }
 }
 
