@@ -1,11 +1,12 @@
 -- Both widths give the same on a base whose vectors fit the narrower limit (specs/Widths), for any two limits. Assumes nothing.
-use Prim.Native.Nat.{ℕ, zero, suc, _-_, _<_, _≤_}
+use Prim.Native.Nat.{ℕ, zero, suc, _*_, _-_, _<_, _≤_}
 use mathlib.Core.Path.{_≡_, refl, sym, ap, _∙_}
 use mathlib.Core.Bool.{Bool, true, false, not, _&&_, _||_, false≢true}
 use mathlib.Core.List.{List, [], _∷_, _++_}
 use native.Mathlib.Omega.{arith}
 use lib.Dec.{leb, eqb}
 use lib.IntN.{ℤ, pos, negsuc, natAbs}
+use lib.ListN.{drop-of-length-le}
 use lib.Signed.{leZ}
 use borrow.Author.Tests.{leb-true, le-leb}
 use Rattle.definitions.specs.declared.Axes.{Axes}
@@ -18,10 +19,10 @@ use Rattle.definitions.specs.Blocks.{quadrantOf}
 use Rattle.definitions.specs.Geometry.{axesOf}
 use Rattle.definitions.specs.Answer.{madeOf}
 use Rattle.definitions.specs.Raster.{fullCount}
-use Rattle.definitions.specs.Record.{fits, used, recordAt, referenceOf, vectorXOf, vectorYOf, vectorWord, rule1, rule2, rule3, rule4, rule5, rule6, rule7, firstBroken}
+use Rattle.definitions.specs.Record.{narrow, wide, recordWords, fits, laidOut, used, recordAt, referenceOf, vectorXOf, vectorYOf, vectorWord, rule1, rule2, rule3, rule4, rule5, rule6, rule7, firstBroken}
 use Rattle.definitions.specs.Refusals.{Test, test, verdictOf, geometryTests, baseTest, outputTest, positionTest, recordTests, addressesRead, allAddresses}
 use Rattle.definitions.specs.Calls.{macroblockTests, macroblockCall, pictureTests, pictureCall, byVerdict, madeAt, countsOf}
-use Rattle.definitions.specs.Widths.{VectorsFit, WidthsSame}
+use Rattle.definitions.specs.Widths.{BothWidths, VectorsFit, WidthsSame, shortBase}
 use Rattle.definitions.specs.Written.{vectorsInRange}
 use Rattle.definitions.proofs.Choices.{both-true, below-same, below-true}
 
@@ -99,3 +100,12 @@ widths-same small large over = record {
   singly = λ n base column row words fit. same-singly small large over base fit n column row words;
   picture = λ n base words fit. same-picture small large over base fit n words;
 }
+
+-- beyond the one record of that base there are no words
+met : VectorsFit narrow shortBase
+unfolding vectorsInRange allBelow recordAt laidOut upTo
+met zero = refl
+met (suc a) = rw (drop-of-length-le shortBase {i = recordWords * suc a} (omega arith)) refl
+
+pub both-widths : BothWidths
+both-widths = record { same = widths-same narrow wide (omega arith); met = met }

@@ -25,11 +25,15 @@ scalesOf g = record {
   vertical = scaleIn (scaleOf (baseSize (g .vertical)) (scaledSize (g .vertical)));
 }
 
+-- the scale of S = 2B
+abbrev pub scaleMost : ℕ
+scaleMost = 131072
+
 -- a scale of an accepted geometry: from that of S = B to that of S = 2B
 pub record AcceptedScale (s : Scale) : Type 0 where
   pub number : ℕ
   pub low : 65536 ≤ number
-  pub high : number ≤ 131072
+  pub high : number ≤ scaleMost
   pub parts : s ≡ scaleIn number
 
 pub record AcceptedScales (s : Scales) : Type 0 where

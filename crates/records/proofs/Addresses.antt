@@ -8,7 +8,6 @@ use lib.IntN.{ℤ}
 use Rattle.definitions.specs.declared.Axes.{Axes}
 use Rattle.definitions.specs.Basics.{upTo}
 use Rattle.definitions.specs.Raster.{baseCount}
-use Rattle.definitions.specs.Record.{narrow}
 use Rattle.definitions.specs.Refusals.{verdictOf, recordTests, allAddresses}
 use Rattle.definitions.proofs.Choices.{upTo-same}
 use Rattle.records.specs.Checking.{addresses}
@@ -37,9 +36,6 @@ pub addresses-all : (n : ℕ) → addresses 0 n ≡ upTo n (λ a. a)
 addresses-all n = ap (λ (k : ℕ). upTo k (λ k. 0 + k)) (sub-zero n) ∙ upTo-same n (λ k. 0 + k) (λ k. k) (λ k l. zero-add k)
 
 -- the check of records 0 .. n−1 is that of all
-pub all-checked-at :
+pub all-checked :
     (limit : ℕ) (g : Axes) (base : List ℤ) (n : ℕ) → n ≡ baseCount g → verdictOf (recordTests limit base (allAddresses g)) ≡ verdictOf (recordTests limit base (addresses 0 n))
-all-checked-at limit g base n e = ap (λ (l : List ℕ). verdictOf (recordTests limit base l)) (sym (addresses-all n ∙ ap (λ (k : ℕ). upTo k (λ a. a)) e))
-
-pub all-checked : (g : Axes) (base : List ℤ) (n : ℕ) → n ≡ baseCount g → verdictOf (recordTests narrow base (allAddresses g)) ≡ verdictOf (recordTests narrow base (addresses 0 n))
-all-checked = all-checked-at narrow
+all-checked limit g base n e = ap (λ (l : List ℕ). verdictOf (recordTests limit base l)) (sym (addresses-all n ∙ ap (λ (k : ℕ). upTo k (λ a. a)) e))

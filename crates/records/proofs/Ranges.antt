@@ -11,6 +11,7 @@ use borrow.Author.Tests.{leb-true, leb-false, le-leb, eq-eqb, ne-eqb}
 use Rattle.definitions.specs.Basics.{minus, eqZ, between, allBelow}
 use Rattle.definitions.specs.Record.{wordOf, typeOf, isIntra, used, fits, vectorWord, rule1, rule2, rule3, rule4, rule5}
 use Rattle.definitions.proofs.Choices.{eqZ-true, yes, no, below-same}
+use Rattle.definitions.proofs.Written.{zero-between}
 use Rattle.records.specs.Checking.{allWithin, quadrantUsed, listRight, blockWithin, vectorsRight}
 use Rattle.records.proofs.Searches.{below-both, by-quadrants}
 
@@ -79,14 +80,9 @@ module _ (r : List ℤ) where
     used-second e = rw (add-zero (5 + 2 * q), e)
 
 -- ---- Rule 5
--- 0 fits every limit
-pub zero-fits : (limit : ℕ) → fits limit (pos 0) ≡ true
-zero-fits zero = refl
-zero-fits (suc n) = le-leb 0 (suc n - 1) (omega arith)
-
 module _ (limit : ℕ) where
   word-zero : (t : Bool) (v : ℤ) → t ≡ false → vectorWord limit t v ≡ between (pos 0) (pos 0) v
-  word-zero t v e = rw e (narrowed (minus limit) (pos (limit - 1)) v (zero-fits limit))
+  word-zero t v e = rw e (narrowed (minus limit) (pos (limit - 1)) v (zero-between limit))
 
   word-any : (t : Bool) (v : ℤ) → t ≡ true → vectorWord limit t v ≡ fits limit v
   word-any t v e = rw e (and-true (fits limit v))

@@ -27,6 +27,7 @@ use Rattle.records.specs.Checking.{allWithin, quadrantUsed, listRight, subFirst
 use Rattle.records.proofs.FirstBlocks.{asFirst, same-all, motion-parts}
 use Rattle.records.proofs.Ranges.{one-number}
 use Rattle.records.proofs.Searches.{and-swap, below-both, by-quadrants}
+use Rattle.rules.specs.Searching.{unusedZero}
 
 -- the first block of a quadrant
 first-at : (q : ℕ) → q < 4 → 8 * (q / 2) + 2 * (q % 2) ≡ getD (0 ∷ 2 ∷ 8 ∷ 10 ∷ []) q 0
@@ -119,24 +120,20 @@ module _ (r : List ℤ) where
   abbrev blockZero : ℕ → ℕ → Bool
   blockZero b l = zeroUnless b l (used (referenceOf r (quadrantOf b) l))
 
-  abbrev pub unusedZero : ℕ → ℕ → Bool
-  unusedZero q l = used (referenceOf r q l) || allBelow 4 (λ k. allWithin r (13 + 4 * rasterOf q k + 2 * l) 2 (pos 0) (pos 0))
-
-  of-list : (q l : ℕ) → q < 4 → allBelow 4 (λ k. blockZero (rasterOf q k) l) ≡ unusedZero q l
+  of-list : (q l : ℕ) → q < 4 → allBelow 4 (λ k. blockZero (rasterOf q k) l) ≡ unusedZero r q l
   of-list q l hq =
       below-same 4 (λ k. blockZero (rasterOf q k) l) (λ k. zeroUnless (rasterOf q k) l (used (referenceOf r q l)))
       (λ k hk. ap (λ (e : ℕ). zeroUnless (rasterOf q k) l (used (referenceOf r e l))) (raster-quadrant q k hq hk))
-      ∙ (unless (used (referenceOf r q l)) (λ k. eqZ (vectorXOf r (rasterOf q k) l) (pos 0)) (λ k. eqZ (vectorYOf r (rasterOf q k) l) (pos 0))
-      ∙ ap (λ (t : Bool). used (referenceOf r q l) || t) (below-same 4 _ _ (λ k hk. sym (zero-pair r (13 + 4 * rasterOf q k + 2 * l)))))
+      ∙ unless (used (referenceOf r q l)) (λ k. eqZ (vectorXOf r (rasterOf q k) l) (pos 0)) (λ k. eqZ (vectorYOf r (rasterOf q k) l) (pos 0))
 
-  of-quadrant : (q : ℕ) → q < 4 → (unusedZero q 0 && unusedZero q 1) ≡ allBelow 4 (λ k. allBelow 2 (blockZero (rasterOf q k)))
+  of-quadrant : (q : ℕ) → q < 4 → (unusedZero r q 0 && unusedZero r q 1) ≡ allBelow 4 (λ k. allBelow 2 (blockZero (rasterOf q k)))
   of-quadrant q hq =
       (λ i. sym (of-list q 0 hq) i && sym (of-list q 1 hq) i)
       ∙ below-both 4 (λ k. blockZero (rasterOf q k) 0) (λ k. blockZero (rasterOf q k) 1) (λ k. allBelow 2 (blockZero (rasterOf q k))) (λ k. both-lists (blockZero (rasterOf q k)))
 
   -- rule 5: all words fit, and those of unused lists are 0
   pub vectors-apart :
-      (limit : ℕ) → (allWithin r 13 64 (minus limit) (pos (limit - 1)) && allBelow 4 (λ q. unusedZero q 0 && unusedZero q 1)) ≡ rule5 limit r
+      (limit : ℕ) → (allWithin r 13 64 (minus limit) (pos (limit - 1)) && allBelow 4 (λ q. unusedZero r q 0 && unusedZero r q 1)) ≡ rule5 limit r
   unfolding rule5 allWithin
   vectors-apart limit =
       let words = by-blocks (λ w. fits limit (wordOf r w)) 13 16 in
@@ -157,14 +154,18 @@ module _ (r : List ℤ) where
     abbrev first : ℕ
     first = 13 + 32 * (q / 2) + 8 * (q % 2) + 2 * l
 
-    pub quadrant-zero : (used (referenceOf r q l) || (((zeroAt first && zeroAt (first + 4)) && zeroAt (first + 16)) && zeroAt (first + 20))) ≡ unusedZero q l
+    pub quadrant-zero : (used (referenceOf r q l) || (((zeroAt first && zeroAt (first + 4)) && zeroAt (first + 16)) && zeroAt (first + 20))) ≡ unusedZero r q l
     unfolding allBelow
     quadrant-zero =
         let p0 : first ≡ 13 + 4 * rasterOf q 0 + 2 * l = omega (arith, first-at q hq) in
         let p1 : first + 4 ≡ 13 + 4 * rasterOf q 1 + 2 * l = omega (arith, first-at q hq) in
         let p2 : first + 16 ≡ 13 + 4 * rasterOf q 2 + 2 * l = omega (arith, first-at q hq) in
         let p3 : first + 20 ≡ 13 + 4 * rasterOf q 3 + 2 * l = omega (arith, first-at q hq) in
-        λ i. used (referenceOf r q l) || (((zeroAt (p0 i) && zeroAt (p1 i)) && zeroAt (p2 i)) && zeroAt (p3 i))
+        let z0 = ap zeroAt p0 ∙ zero-pair r (13 + 4 * rasterOf q 0 + 2 * l) in
+        let z1 = ap zeroAt p1 ∙ zero-pair r (13 + 4 * rasterOf q 1 + 2 * l) in
+        let z2 = ap zeroAt p2 ∙ zero-pair r (13 + 4 * rasterOf q 2 + 2 * l) in
+        let z3 = ap zeroAt p3 ∙ zero-pair r (13 + 4 * rasterOf q 3 + 2 * l) in
+        λ i. used (referenceOf r q l) || (((z0 i && z1 i) && z2 i) && z3 i)
 
 -- ---- Rule 6
 pub motions-same :

@@ -1,17 +1,16 @@
 // The rules of a well-formed motion record, once for both widths (document 02, E12): on records of 32-bit words, with the limit of vectors as an argument.
-ghost use mathlib.Core.Bool.{_||_};
 ghost use mathlib.Core.Path.{_≡_};
 ghost use Prim.Native.Nat.{ℕ, _+_, _*_, _-_, _≤_, _<_};
 ghost use lib.Bits.{bitAnd};
 ghost use lib.IntN.{pos};
 ghost use lib.ListN.{length};
-ghost use Rattle.definitions.specs.Basics.{allBelow, between, eqZ, minus};
-ghost use Rattle.definitions.specs.Blocks.{quadrantOf, rasterOf};
-ghost use Rattle.definitions.specs.Record.{motionOf, recordAt, recordWords, referenceOf, rule2, rule4, rule5, rule7, subSplitOf, subTypeOf, used, wide, wordOf};
+ghost use Rattle.definitions.specs.Basics.{between, eqZ, minus};
+ghost use Rattle.definitions.specs.Blocks.{quadrantOf};
+ghost use Rattle.definitions.specs.Record.{motionOf, recordAt, recordWords, rule2, rule4, rule5, rule7, subSplitOf, subTypeOf, wide, wordOf};
 ghost use Rattle.definitions.specs.Refusals.{recordTests, verdictOf};
 ghost use Rattle.definitions.specs.Splits.{sameMotion};
 ghost use Rattle.records.specs.Checking.{addresses, allWithin, firstBlockOf, foundAt, quadrantUsed, subFirstBlock};
-ghost use Rattle.rules.specs.Searching.{headBroken, piecesRight};
+ghost use Rattle.rules.specs.Searching.{headBroken, piecesRight, unusedZero};
 use common::refusals;
 use definitions::RECORD_WORDS;
 use definitions::Refusal;
@@ -140,7 +139,7 @@ fn vectors_within(limit: u32) -> Range
 // Those of quadrant q in list l are 0 unless the list is used. A block has four words, and a row of blocks sixteen.
 fn unused_zero(words: &[i32], q: usize, l: usize) -> bool
     requires { ⌜ (length (now words) ≡ recordWords) × (q < 4) × (l < 2) ⌝ }
-    ensures { λ t. ⌜ t ≡ (used (referenceOf (now (words .entry)) q l) || allBelow 4 (λ k. allWithin (now (words .entry)) (13 + 4 * rasterOf q k + 2 * l) 2 (pos 0) (pos 0))) ⌝ }
+    ensures { λ t. ⌜ t ≡ unusedZero (now (words .entry)) q l ⌝ }
 {
     let first = layout::VECTORS + 32 * (q / 2) + 8 * (q % 2) + 2 * l;
     let zero = all_within(words, first, 2, ONLY_ZERO)

@@ -10,8 +10,9 @@ use Rattle.definitions.specs.Blocks.{quadrantOf}
 use Rattle.definitions.specs.Record.{wordOf, typeOf, isIntra, referenceOf, vectorXOf, vectorYOf, used, vectorWord, rule1, rule3, rule5, rule6, rule7, wellFormed}
 use Rattle.definitions.proofs.Choices.{both-true, both-ways, and-intro, or-left, or-right, eqZ-true, below-true, below-intro}
 use Rattle.definitions.proofs.Formed.{rules-of, vectors-of}
+use Rattle.definitions.proofs.Written.{zero-between}
 use Rattle.records.specs.Checking.{allWithin}
-use Rattle.records.proofs.Ranges.{one-number, sub-types-zero, use-none, zero-fits, range-zero}
+use Rattle.records.proofs.Ranges.{one-number, sub-types-zero, use-none, range-zero}
 use Rattle.scan.proofs.Kept.{rules-formed}
 
 -- words in a range of one number
@@ -21,7 +22,7 @@ within-only r first count z e k h =
     eqZ-true _ z (sym (one-number z (wordOf r (first + k))) ∙ below-true count (λ k. between z z (wordOf r (first + k))) e k h)
 
 zero-right : (limit : ℕ) (t : Bool) → vectorWord limit t (pos 0) ≡ true
-zero-right limit t = and-intro (zero-fits limit) (or-right t refl)
+zero-right limit t = and-intro (zero-between limit) (or-right t refl)
 
 module _ (limit : ℕ) (r : List ℤ) (intra : isIntra r ≡ true) (seven : rule7 r ≡ true) where
   type : typeOf r ≡ pos 0

@@ -19,7 +19,7 @@ use Rattle.definitions.proofs.Fewest.{chosen-is}
 use Rattle.definitions.proofs.Shapes.{allWhole, isWhole, joined, quadrantShape, shapesOf, splitOf}
 use Rattle.split.specs.declared.Types.{Types}
 use Rattle.split.specs.Quadrant.{subChosen}
-use Rattle.split.specs.Said.{typeAmong, typesOf}
+use Rattle.split.specs.Types.{typeAmong, typesOf}
 use Rattle.split.proofs.Chosen.{sub-chosen-is}
 
 -- ---- a sub-type is 0 where the quadrant is whole

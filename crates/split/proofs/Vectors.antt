@@ -17,7 +17,7 @@ use Rattle.definitions.proofs.Shapes.{cut, quadrantShape, samePairs, shapeOf}
 use Rattle.motion.specs.declared.BlockMotion.{BlockMotion}
 use Rattle.motion.specs.ByValue.{OneReference, motionIn, motionsIn, sameVectorsIn, zeroBlock}
 use Rattle.split.specs.Quadrant.{subChosen}
-use Rattle.split.specs.Said.{typeAmong}
+use Rattle.split.specs.Types.{typeAmong}
 use Rattle.split.proofs.Chosen.{sub-chosen-is}
 
 equal : (a b c : ℤ) → a ≡ c → b ≡ c → eqZ a b ≡ true

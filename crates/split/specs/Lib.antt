@@ -1,3 +1,3 @@
 -- Step 5 of "Inheriting": on one quadrant, and on four.
 pub mod Quadrant
-pub mod Said
+pub mod Types

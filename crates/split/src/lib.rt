@@ -5,7 +5,7 @@ ghost use Rattle.definitions.specs.Record.{subTypeNumber};
 ghost use Rattle.definitions.specs.Splits.{count, sameMotion, subCount};
 ghost use Rattle.motion.specs.ByValue.{OneReference, motionIn, motionsIn, quadrantsIn, sameVectorsIn};
 ghost use Rattle.split.specs.Quadrant.{subChosen};
-ghost use Rattle.split.specs.Said.{OneReferenceEach, typeAmong, typesOf};
+ghost use Rattle.split.specs.Types.{OneReferenceEach, typeAmong, typesOf};
 ghost use mathlib.Core.List.{[], _∷_};
 ghost use mathlib.Core.Path.{_≡_};
 use definitions::Split;

@@ -16,7 +16,7 @@ use Rattle.motion.specs.declared.Scale.{Scale}
 use Rattle.motion.specs.declared.Scales.{Scales}
 use Rattle.motion.specs.Scales.{AcceptedScale, AcceptedScales, allScaled, motionScaled, predictionScaled, scaledWith}
 use Rattle.motion.proofs.ByScales.{with-number}
-use Rattle.split.specs.Said.{typeAmong}
+use Rattle.split.specs.Types.{typeAmong}
 use Rattle.split.proofs.Chosen.{sub-chosen-is}
 
 module _ (s : Scales) (accepted : AcceptedScales s) where

@@ -16,7 +16,7 @@ use Rattle.definitions.specs.Record.{laidOut, motionOf, recordWords, references
 use Rattle.motion.specs.declared.Scales.{Scales}
 use Rattle.motion.specs.Scales.{AcceptedScales, allScaled}
 use Rattle.split.specs.declared.Types.{Types}
-use Rattle.split.specs.Said.{contentsBy, typeWords, typesOf}
+use Rattle.split.specs.Types.{contentsBy, typeWords, typesOf}
 use Rattle.writing.specs.Words.{firstsIn, quadrantPut}
 use Rattle.writing.proofs.Apart.{chosen-with}
 

@@ -12,7 +12,7 @@ use mir.Val.{SFits, hbits, ofZ, toZ}
 use mir.Facts.{sfits-widen, toZ-ofZ}
 use Rattle.definitions.specs.Basics.{down, minus}
 use Rattle.definitions.specs.Inheriting.{scaledBy}
-use Rattle.definitions.specs.Record.{fits, narrow}
+use Rattle.definitions.specs.Record.{fits, narrow, wide}
 use Rattle.definitions.proofs.Choices.{both-true}
 use Rattle.definitions.proofs.Differences.{sub-cases, sub-neg, sub-pos, sub-shift}
 use Rattle.motion.specs.declared.Scale.{Scale}
@@ -194,23 +194,24 @@ module _ (n : ℕ) (high : n ≤ 131072) (v : ℤ) (small : natAbs v ≤ narrow)
 pub fitting : (s : Scale) (v : ℤ) → AcceptedScale s → fits narrow v ≡ true → Fitting s v
 fitting s v a e = subst (λ (t : Scale). Fitting t v) (sym (a .parts)) (in-parts (a .number) (a .high) v (size-word narrow v e))
 
--- ---- handed to scale_word and handed back
-module _ (v : ℤ) (e : fits narrow v ≡ true) where
-  word-back : toZ w32 (ofZ w32 v) ≡ v
-  word-back = toZ-ofZ (by-size w32 v (omega (arith, size-word narrow v e)))
+-- ---- handed to scale_word, of either width,
+module _ (limit : ℕ) (within : limit ≤ wide) (v : ℤ) (e : fits limit v ≡ true) where
+  pub word-back : toZ w32 (ofZ w32 v) ≡ v
+  word-back = toZ-ofZ (by-size w32 v (omega (arith, within, size-word limit v e)))
 
-  pub handed : fits narrow (toZ w32 (ofZ w32 v)) ≡ true
+  pub handed : fits limit (toZ w32 (ofZ w32 v)) ≡ true
   handed = rw word-back e
 
-  module _ (s : Scale) (a : AcceptedScale s) (r : ℤ) (is : r ≡ scaledWith s (toZ w32 (ofZ w32 v))) where
-    scaled-fits : SFits w16 (scaledWith s v)
-    scaled-fits = let f = fitting s v a e in subst (SFits w16) (f .is) (f .fits)
+-- and handed back
+module _ (v : ℤ) (e : fits narrow v ≡ true) (s : Scale) (a : AcceptedScale s) (r : ℤ) (is : r ≡ scaledWith s (toZ w32 (ofZ w32 v))) where
+  scaled-fits : SFits w16 (scaledWith s v)
+  scaled-fits = let f = fitting s v a e in subst (SFits w16) (f .is) (f .fits)
 
-    pub back : toZ w16 (ofZ w16 r) ≡ scaledWith s v
-    back = ap (λ (z : ℤ). toZ w16 (ofZ w16 z)) (is ∙ ap (scaledWith s) word-back) ∙ toZ-ofZ scaled-fits
+  pub back : toZ w16 (ofZ w16 r) ≡ scaledWith s v
+  back = ap (λ (z : ℤ). toZ w16 (ofZ w16 z)) (is ∙ ap (scaledWith s) (word-back narrow (omega arith) v e)) ∙ toZ-ofZ scaled-fits
 
-    pub back-wide : toZ w32 (ofZ w32 (toZ w16 (ofZ w16 r))) ≡ scaledWith s v
-    back-wide = rw back (toZ-ofZ (sfits-widen tt scaled-fits))
+  pub back-wide : toZ w32 (ofZ w32 (toZ w16 (ofZ w16 r))) ≡ scaledWith s v
+  back-wide = rw back (toZ-ofZ (sfits-widen tt scaled-fits))
 
 -- ---- a reference
 pub reference-fits : (r : ℤ) → Reference r → SFits w16 r

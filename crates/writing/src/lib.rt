@@ -8,7 +8,7 @@ ghost use Rattle.definitions.specs.Splits.{sameMotion};
 ghost use Rattle.motion.specs.ByValue.{AllWritable, QuadrantWritable, Referring, Writable, motionIn, motionsIn, quadrantsIn};
 ghost use Rattle.motion.specs.Scales.{AcceptedScale, AcceptedScales, allScaled, motionScaled, scaledWith};
 ghost use Rattle.split.specs.Quadrant.{subChosen};
-ghost use Rattle.split.specs.Said.{typeAmong};
+ghost use Rattle.split.specs.Types.{typeAmong};
 ghost use Rattle.writing.specs.Words.{firstsIn, quadrantPut, quadrantScaled};
 ghost use lib.IntN.{pos};
 ghost use lib.ListN.{length};

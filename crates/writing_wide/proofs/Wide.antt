@@ -22,9 +22,9 @@ use Rattle.motion.specs.ByValue.{AllWritable, QuadrantWritable, Writable, quadr
 use Rattle.motion.specs.Scales.{AcceptedScale, allScaled, scaleIn, scaledWith}
 use Rattle.motion.proofs.ByScales.{with-number}
 use Rattle.motion.proofs.Parts.{number-is, part-fits}
-use Rattle.split.specs.Said.{contentsBy}
+use Rattle.split.specs.Types.{contentsBy}
 use Rattle.writing_wide.specs.Numbers.{scalesIn}
-use Rattle.writing.proofs.Rounded.{by-raised, by-size, raised, size-word}
+use Rattle.writing.proofs.Rounded.{by-raised, raised, word-back}
 
 -- ---- the number
 pub record Numbered (s : Scale) (n : ℕ) : Type 0 where
@@ -69,18 +69,12 @@ rising n v high e =
       is = by-raised 2 n v r;
     }
 
--- ---- handed to scale_word and handed back
+-- ---- handed back by scale_word
 module _ (v : ℤ) (e : fits wide v ≡ true) where
-  word-back : toZ w32 (ofZ w32 v) ≡ v
-  word-back = toZ-ofZ (by-size w32 v (omega (arith, size-word wide v e)))
-
-  pub handed : fits wide (toZ w32 (ofZ w32 v)) ≡ true
-  handed = rw word-back e
-
   pub back : (n : ℕ) → n ≤ 131072 → (r : ℤ) → r ≡ scaledBy n (toZ w32 (ofZ w32 v)) → toZ w32 (ofZ w32 r) ≡ scaledWith (scaleIn n) v
   back n high r is =
       let p = rising n v high e in
-      ap (λ (z : ℤ). toZ w32 (ofZ w32 z)) (is ∙ ap (scaledBy n) word-back) ∙ (toZ-ofZ (subst (SFits w32) (p .is) (p .fits)) ∙ sym (with-number n v))
+      ap (λ (z : ℤ). toZ w32 (ofZ w32 z)) (is ∙ ap (scaledBy n) (word-back wide (omega arith) v e)) ∙ (toZ-ofZ (subst (SFits w32) (p .is) (p .fits)) ∙ sym (with-number n v))
 
 -- ---- a record without motion
 abbrev noMotion : BlockMotion

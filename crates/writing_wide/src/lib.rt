@@ -5,8 +5,8 @@ ghost use Rattle.definitions.specs.Blocks.{rasterOf};
 ghost use Rattle.definitions.specs.Inheriting.{chosen, motionAt, scaledBy};
 ghost use Rattle.definitions.specs.Record.{fits, laidOut, recordWords, referencesOf, vectorsOf, wide};
 ghost use Rattle.motion.specs.ByValue.{AllWritable, QuadrantWritable, Writable, motionIn, motionsIn, quadrantsIn};
-ghost use Rattle.motion.specs.Scales.{AcceptedScale, AcceptedScales, allScaled, motionScaled, scaleIn};
-ghost use Rattle.split.specs.Said.{contentsBy, typeWords};
+ghost use Rattle.motion.specs.Scales.{AcceptedScale, AcceptedScales, allScaled, motionScaled, scaleIn, scaleMost};
+ghost use Rattle.split.specs.Types.{contentsBy, typeWords};
 ghost use Rattle.writing.specs.Words.{quadrantPut, quadrantScaled};
 ghost use Rattle.writing_wide.specs.Numbers.{Numbers, scalesIn};
 ghost use lib.IntN.{pos};
@@ -30,7 +30,7 @@ use split::types_of;
 // The number of a scale, of which it is two parts: made once a macroblock.
 fn number_of(s: Scale) -> u32
     requires { ⌜ AcceptedScale s ⌝ }
-    ensures { λ r. ⌜ (s ≡ scaleIn r) × (r ≤ 131072) ⌝ }
+    ensures { λ r. ⌜ (s ≡ scaleIn r) × (r ≤ scaleMost) ⌝ }
 {
     (s.whole as i32 * 65536 + s.part as i32) as u32
 }
@@ -41,7 +41,7 @@ const LIMIT: i32 = WIDE as i32;
 // A vector word: (v · n + 32,768) / 65,536, rounded down. With the limit more it is not below 0, so that the product is unsigned, and what that adds, twice the scale, is
 // taken away again (`by-raised` of writing's proofs/Rounded).
 fn scale_word(n: u32, v: i32) -> i32
-    requires { ⌜ (n ≤ 131072) × (fits wide v ≡ true) ⌝ }
+    requires { ⌜ (n ≤ scaleMost) × (fits wide v ≡ true) ⌝ }
     ensures { λ r. ⌜ r ≡ scaledBy n v ⌝ }
 {
     let up = (v + LIMIT) as u32;
@@ -54,10 +54,8 @@ fn put_references(out: &mut [i32], m: BlockMotion)
     requires { ⌜ length (now out) ≡ 2 ⌝ }
     ensures { λ _. ⌜ now (out .exit) ≡ referencesOf (motionIn m) ⌝ }
 {
-    let r0 = m.r0;
-    let r1 = m.r1;
-    out[0] = r0;
-    out[1] = r1;
+    out[0] = m.r0;
+    out[1] = m.r1;
 }
 
 // A row of two blocks: their vectors, scaled.

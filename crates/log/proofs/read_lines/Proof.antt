@@ -40,7 +40,7 @@ right c = let l = words-right c in let s = c .before .before .before .before .be
 -- the verdict on all records
 checked : (c : tie.After-check) → verdictOf (recordTests narrow (c .before .before .before .before .before .before .before .before .before .before .before .args .base .now) (allAddresses (c .before .before .before .before .axes .result))) ≡ c .check .result
 checked c =
-    all-checked (c .before .before .before .before .axes .result) (c .before .before .before .before .before .before .before .before .before .before .before .args .base .now) (c .before .base-count .result) (c .before .base-count .ensures .0) ∙ sym (c .check .ensures)
+    all-checked narrow (c .before .before .before .before .axes .result) (c .before .before .before .before .before .before .before .before .before .before .before .args .base .now) (c .before .base-count .result) (c .before .base-count .ensures .0) ∙ sym (c .check .ensures)
 
 new-requires : tie.Need-new-requires
 new-requires c κs = search needs

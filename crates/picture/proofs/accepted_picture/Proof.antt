@@ -35,7 +35,7 @@ output-passed c = held (output-is (c .before)) (c .if2 .left)
 checked : (c : tie.After-check) → verdictOf (recordTests narrow (c .before .before .before .before .before .before .before .args .base .now) (allAddresses (c .before .before .before .before .before .before .before .args .g))) ≡ c .check .result
 checked c =
     let s = c .before .before .before .before .before .before .before in
-    all-checked (s .args .g) (s .args .base .now) (c .before .base-count .result) (c .before .base-count .ensures .0) ∙ sym (c .check .ensures)
+    all-checked narrow (s .args .g) (s .args .base .now) (c .before .base-count .result) (c .before .base-count .ensures .0) ∙ sym (c .check .ensures)
 
 base-right-requires : tie.Need-base-right-requires
 base-right-requires c κs = search needs

@@ -1,6 +1,6 @@
 -- `picture_wide::accepted_picture` meets its contract. Assumes nothing.
 use Rattle.picture.proofs.Stages.{wrong-base, wrong-output, wrong-record, all-right}
-use Rattle.records.proofs.Addresses.{all-checked-at}
+use Rattle.records.proofs.Addresses.{all-checked}
 use Rattle.definitions.proofs.RecordLists.{all-formed, index-member}
 use Rattle.definitions.specs.Refusals.{verdictOf, recordTests, allAddresses}
 use Rattle.definitions.specs.Record.{recordWords, wide}
@@ -35,7 +35,7 @@ output-passed c = held (output-is (c .before)) (c .if2 .left)
 checked : (c : tie.After-check) → verdictOf (recordTests wide (c .before .before .before .before .before .before .before .args .base .now) (allAddresses (c .before .before .before .before .before .before .before .args .g))) ≡ c .check .result
 checked c =
     let s = c .before .before .before .before .before .before .before in
-    all-checked-at wide (s .args .g) (s .args .base .now) (c .before .base-count .result) (c .before .base-count .ensures .0) ∙ sym (c .check .ensures)
+    all-checked wide (s .args .g) (s .args .base .now) (c .before .base-count .result) (c .before .base-count .ensures .0) ∙ sym (c .check .ensures)
 
 base-right-requires : tie.Need-base-right-requires
 base-right-requires c κs = search needs

@@ -6,7 +6,8 @@ use mathlib.Core.Path.{_≡_, sym, _∙_}
 use Rattle.definitions.specs.Basics.{allBelow}
 use Rattle.records.specs.Checking.{allWithin}
 use Rattle.records.proofs.Searches.{search-none, below-more, search-end}
-use Rattle.rules.proofs.Parts.{unusedZero, vectors-apart}
+use Rattle.rules.specs.Searching.{unusedZero}
+use Rattle.rules.proofs.Parts.{vectors-apart}
 use Rattle.rules.proofs.vectors_right.Statement.{statement}
 use Rattle.rules.proofs.vectors_right.Tie as tie
 

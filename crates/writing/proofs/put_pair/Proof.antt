@@ -6,6 +6,7 @@ use lib.ListN.{length-set}
 use borrow.Author.Needs.{needs}
 use mir.Syntax.{w16}
 use mir.Val.{ofZ, toZ}
+use Rattle.definitions.specs.Record.{narrow}
 use Rattle.definitions.proofs.Parts.{stored-all}
 use Rattle.writing.proofs.Rounded.{back, handed}
 use Rattle.writing.proofs.put_pair.Statement.{statement}
@@ -42,19 +43,19 @@ slice-set-from-out-5 : tie.Need-slice-set-from-out-5
 slice-set-from-out-5 c = simp length-set (omega (arith, c .before .before .before .before .before .before .before .before .before .before .before .before .pre .0))
 
 scale-word-requires-6 : tie.Need-scale-word-requires-6
-scale-word-requires-6 c κs = let s = c .before .before .before .before .before .before .before .before .before .before .before .before .before in (s .pre .1 .vertical, handed (s .args .b .y0) (s .pre .3 .vectors .0 .y))
+scale-word-requires-6 c κs = let s = c .before .before .before .before .before .before .before .before .before .before .before .before .before in (s .pre .1 .vertical, handed narrow (omega arith) (s .args .b .y0) (s .pre .3 .vectors .0 .y))
 
 slice-set-from-out-6 : tie.Need-slice-set-from-out-6
 slice-set-from-out-6 c = simp length-set (omega (arith, c .before .before .before .before .before .before .before .before .before .before .before .before .before .before .pre .0))
 
 scale-word-requires-7 : tie.Need-scale-word-requires-7
-scale-word-requires-7 c κs = let s = c .before .before .before .before .before .before .before .before .before .before .before .before .before .before .before in (s .pre .1 .horizontal, handed (s .args .b .x1) (s .pre .3 .vectors .1 .x))
+scale-word-requires-7 c κs = let s = c .before .before .before .before .before .before .before .before .before .before .before .before .before .before .before in (s .pre .1 .horizontal, handed narrow (omega arith) (s .args .b .x1) (s .pre .3 .vectors .1 .x))
 
 slice-set-from-out-7 : tie.Need-slice-set-from-out-7
 slice-set-from-out-7 c = simp length-set (omega (arith, c .before .before .before .before .before .before .before .before .before .before .before .before .before .before .before .before .pre .0))
 
 scale-word-requires-8 : tie.Need-scale-word-requires-8
-scale-word-requires-8 c κs = let s = c .before .before .before .before .before .before .before .before .before .before .before .before .before .before .before .before .before in (s .pre .1 .vertical, handed (s .args .b .y1) (s .pre .3 .vectors .1 .y))
+scale-word-requires-8 c κs = let s = c .before .before .before .before .before .before .before .before .before .before .before .before .before .before .before .before .before in (s .pre .1 .vertical, handed narrow (omega arith) (s .args .b .y1) (s .pre .3 .vectors .1 .y))
 
 slice-set-from-out-8 : tie.Need-slice-set-from-out-8
 slice-set-from-out-8 c = simp length-set (omega (arith, c .before .before .before .before .before .before .before .before .before .before .before .before .before .before .before .before .before .before .pre .0))

@@ -16,7 +16,7 @@ use Rattle.definitions.specs.Inheriting.{chosen, motionAt}
 use Rattle.motion.specs.ByValue.{quadrantsIn}
 use Rattle.motion.specs.Scales.{allScaled}
 use Rattle.split.specs.declared.Types.{Types}
-use Rattle.split.specs.Said.{typeAmong}
+use Rattle.split.specs.Types.{typeAmong}
 use Rattle.split.proofs.Choosing.{Says, chosen-quarters, chosen-whole}
 use Rattle.writing.proofs.Apart.{type-with}
 use Rattle.writing.proofs.Assembled.{assembled-after, firsts-put, made-of}

@@ -12,7 +12,7 @@ use Rattle.definitions.specs.Record.{laidOut}
 use Rattle.definitions.proofs.Records.{laid-length}
 use Rattle.motion.specs.ByValue.{quadrantsIn}
 use Rattle.motion.specs.Scales.{allScaled}
-use Rattle.split.specs.Said.{contentsBy}
+use Rattle.split.specs.Types.{contentsBy}
 use Rattle.writing.proofs.Assembled.{assembled}
 use Rattle.writing_wide.specs.Numbers.{scalesIn}
 use Rattle.writing_wide.proofs.lay_out.Statement.{statement}

@@ -7,7 +7,9 @@ use borrow.Author.Needs.{needs}
 use mir.Syntax.{w32}
 use mir.Val.{ofZ, toZ}
 use Rattle.definitions.proofs.Parts.{stored-all}
-use Rattle.writing_wide.proofs.Wide.{back, handed}
+use Rattle.definitions.specs.Record.{wide}
+use Rattle.writing.proofs.Rounded.{handed}
+use Rattle.writing_wide.proofs.Wide.{back}
 use Rattle.writing_wide.proofs.put_pair.Statement.{statement}
 use Rattle.writing_wide.proofs.put_pair.Tie as tie
 
@@ -42,19 +44,19 @@ slice-set-from-out-5 : tie.Need-slice-set-from-out-5
 slice-set-from-out-5 c = simp length-set (omega (arith, c .before .before .before .before .before .before .before .before .before .before .pre .0))
 
 scale-word-requires-6 : tie.Need-scale-word-requires-6
-scale-word-requires-6 c κs = let s = c .before .before .before .before .before .before .before .before .before .before .before in (s .pre .1 .1, handed (s .args .b .y0) (s .pre .3 .vectors .0 .y))
+scale-word-requires-6 c κs = let s = c .before .before .before .before .before .before .before .before .before .before .before in (s .pre .1 .1, handed wide (omega arith) (s .args .b .y0) (s .pre .3 .vectors .0 .y))
 
 slice-set-from-out-6 : tie.Need-slice-set-from-out-6
 slice-set-from-out-6 c = simp length-set (omega (arith, c .before .before .before .before .before .before .before .before .before .before .before .before .pre .0))
 
 scale-word-requires-7 : tie.Need-scale-word-requires-7
-scale-word-requires-7 c κs = let s = c .before .before .before .before .before .before .before .before .before .before .before .before .before in (s .pre .1 .0, handed (s .args .b .x1) (s .pre .3 .vectors .1 .x))
+scale-word-requires-7 c κs = let s = c .before .before .before .before .before .before .before .before .before .before .before .before .before in (s .pre .1 .0, handed wide (omega arith) (s .args .b .x1) (s .pre .3 .vectors .1 .x))
 
 slice-set-from-out-7 : tie.Need-slice-set-from-out-7
 slice-set-from-out-7 c = simp length-set (omega (arith, c .before .before .before .before .before .before .before .before .before .before .before .before .before .before .pre .0))
 
 scale-word-requires-8 : tie.Need-scale-word-requires-8
-scale-word-requires-8 c κs = let s = c .before .before .before .before .before .before .before .before .before .before .before .before .before .before .before in (s .pre .1 .1, handed (s .args .b .y1) (s .pre .3 .vectors .1 .y))
+scale-word-requires-8 c κs = let s = c .before .before .before .before .before .before .before .before .before .before .before .before .before .before .before in (s .pre .1 .1, handed wide (omega arith) (s .args .b .y1) (s .pre .3 .vectors .1 .y))
 
 slice-set-from-out-8 : tie.Need-slice-set-from-out-8
 slice-set-from-out-8 c = simp length-set (omega (arith, c .before .before .before .before .before .before .before .before .before .before .before .before .before .before .before .before .pre .0))

@@ -7,7 +7,7 @@ use Rattle.definitions.specs.Record.{laidOut}
 use Rattle.motion.specs.declared.Scales.{Scales}
 use Rattle.motion.specs.ByValue.{quadrantsIn}
 use Rattle.motion.specs.Scales.{allScaled}
-use Rattle.split.specs.Said.{contentsBy}
+use Rattle.split.specs.Types.{contentsBy}
 use Rattle.writing.proofs.Assembled.{made-of}
 use Rattle.writing_wide.specs.Numbers.{scalesIn}
 use Rattle.writing_wide.proofs.write_made.Statement.{statement}
