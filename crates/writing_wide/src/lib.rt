@@ -49,13 +49,15 @@ fn scale_word(n: u32, v: i32) -> i32
 }
 
 // ---- A quadrant
-// Its references, which are those of its first block.
+// Its references, which are those of its first block (each by a local of its own: a part of a struct can't be stored as it is).
 fn put_references(out: &mut [i32], m: BlockMotion)
     requires { ⌜ length (now out) ≡ 2 ⌝ }
     ensures { λ _. ⌜ now (out .exit) ≡ referencesOf (motionIn m) ⌝ }
 {
-    out[0] = m.r0;
-    out[1] = m.r1;
+    let r0 = m.r0;
+    let r1 = m.r1;
+    out[0] = r0;
+    out[1] = r1;
 }
 
 // A row of two blocks: their vectors, scaled.
