@@ -38,33 +38,33 @@ use Rattle.definitions.proofs.Demand.{call-accepted, gives-made, counte
 use Rattle.definitions.proofs.Singly.{picture-by-singly}
 
 -- a concrete case by equations that compute
-concrete : (n : Numbers) (column row : ℕ) (base : List ℤ) (answer : Answer) (written : List ℤ) (counts : Counts)
+pub concrete : (limit : ℕ) (n : Numbers) (column row : ℕ) (base : List ℤ) (answer : Answer) (written : List ℤ) (counts : Counts)
     → geometryVerdict n ≡ Accepted
     → length base ≡ recordWords * baseCount (axesOf n)
-    → allBelow (baseCount (axesOf n)) (λ a. wellFormed narrow (recordAt base a)) ≡ true
+    → allBelow (baseCount (axesOf n)) (λ a. wellFormed limit (recordAt base a)) ≡ true
     → ltb column (macroblocks (fullSize (axesOf n .horizontal))) ≡ true
     → ltb row (macroblocks (fullSize (axesOf n .vertical))) ≡ true
-    → SinglyGives narrow n column row (blank 1) base answer written
-    → pictureCall narrow n base (blank (fullCount (axesOf n))) .reply ≡ Counted counts
-    → Concrete n column row base answer written counts
-concrete n column row base answer written counts accepted size formed x y singly counted =
+    → SinglyGives limit n column row (blank 1) base answer written
+    → pictureCall limit n base (blank (fullCount (axesOf n))) .reply ≡ Counted counts
+    → Concrete limit n column row base answer written counts
+concrete limit n column row base answer written counts accepted size formed x y singly counted =
     let words = blank (fullCount (axesOf n)) in
     let within-x = ltb-true column _ x in
     let within-y = ltb-true row _ y in
     let replied = ap (λ (o : Outcome MacroblockReply). o .reply) singly in
-    let given = gives-made narrow n column row (blank 1) base (call-accepted narrow n base (pos column) (pos row) (blank 1) answer replied) in
-    let there = record-made narrow n words base column row within-x within-y (counted-accepted narrow n words base counts counted) in
-    let case : Case narrow n column row base = record {
+    let given = gives-made limit n column row (blank 1) base (call-accepted limit n base (pos column) (pos row) (blank 1) answer replied) in
+    let there = record-made limit n words base column row within-x within-y (counted-accepted limit n words base counts counted) in
+    let case : Case limit n column row base = record {
       geometry = accepted;
       base-length = size;
-      formed = below-true (baseCount (axesOf n)) (λ a. wellFormed narrow (recordAt base a)) formed;
+      formed = below-true (baseCount (axesOf n)) (λ a. wellFormed limit (recordAt base a)) formed;
       column-within = within-x;
       row-within = within-y;
     } in
     record {
       case = case;
-      singly-case = demand3 narrow .case-singly n column row base (blank 1) case (length-replicate _ (pos 0));
-      picture-case = demand3 narrow .case-picture n column row base words case (length-replicate _ (pos 0));
+      singly-case = demand3 limit .case-singly n column row base (blank 1) case (length-replicate _ (pos 0));
+      picture-case = demand3 limit .case-picture n column row base words case (length-replicate _ (pos 0));
       singly = singly;
       picture = record { counts = counts; accepted = counted; answered = replied; at-address = there ∙ ap (λ (o : Outcome MacroblockReply). o .words) (sym given ∙ singly) };
       picture-counts = refl;
@@ -101,8 +101,8 @@ computed = record {
 pub cases : Cases
 unfolding pick upTo insideAxis laidOut geometryTests addressesRead
 cases = record {
-  inherited = concrete wholeCase 0 0 wholeRecord _ _ _ refl refl (computed .whole-formed) refl refl (computed .whole-first) (computed .whole-counted);
-  outside = concrete wholeCase 2 0 wholeRecord _ _ _ refl refl (computed .whole-formed) refl refl (computed .whole-outside) (computed .whole-counted);
+  inherited = concrete narrow wholeCase 0 0 wholeRecord _ _ _ refl refl (computed .whole-formed) refl refl (computed .whole-first) (computed .whole-counted);
+  outside = concrete narrow wholeCase 2 0 wholeRecord _ _ _ refl refl (computed .whole-formed) refl refl (computed .whole-outside) (computed .whole-counted);
   others-case = λ base l. record {
     geometry = refl;
     base-length = l;
@@ -115,6 +115,6 @@ cases = record {
   };
   others = λ base l. demand3 narrow .singly wholeCase 2 0 (blank 1) wholeRecord Outside outsideRecord (computed .whole-outside) .others base l (λ a m. absurd (List·Memᴰ·not-nil m));
   by-calls = picture-by-singly narrow wholeCase wholeRecord (blank 6) (threeCounts 4 0 2) (λ a. blank 1) (computed .whole-counted) (λ a h. refl);
-  filled-there = concrete centred 1 1 onlyLast _ _ _ refl refl (computed .filled-formed) refl refl (computed .filled-center) (computed .filled-counted);
-  intra = concrete centred 1 1 allButLast _ _ _ refl refl (computed .intra-formed) refl refl (computed .intra-center) (computed .intra-counted);
+  filled-there = concrete narrow centred 1 1 onlyLast _ _ _ refl refl (computed .filled-formed) refl refl (computed .filled-center) (computed .filled-counted);
+  intra = concrete narrow centred 1 1 allButLast _ _ _ refl refl (computed .intra-formed) refl refl (computed .intra-center) (computed .intra-counted);
 }

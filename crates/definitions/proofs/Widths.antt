@@ -1,4 +1,4 @@
--- Both widths give the same on a base whose vectors fit the narrower limit (specs/Widths), for any two limits. Assumes nothing.
+-- Both widths give the same on a base whose vectors fit the narrower limit (specs/Widths), for a limit and any larger one. Assumes nothing.
 use Prim.Native.Nat.{ℕ, zero, suc, _*_, _-_, _<_, _≤_}
 use mathlib.Core.Path.{_≡_, refl, sym, ap, _∙_}
 use mathlib.Core.Bool.{Bool, true, false, not, _&&_, _||_, false≢true}
@@ -22,7 +22,7 @@ use Rattle.definitions.specs.Raster.{fullCount}
 use Rattle.definitions.specs.Record.{narrow, wide, recordWords, fits, laidOut, used, recordAt, referenceOf, vectorXOf, vectorYOf, vectorWord, rule1, rule2, rule3, rule4, rule5, rule6, rule7, firstBroken}
 use Rattle.definitions.specs.Refusals.{Test, test, verdictOf, geometryTests, baseTest, outputTest, positionTest, recordTests, addressesRead, allAddresses}
 use Rattle.definitions.specs.Calls.{macroblockTests, macroblockCall, pictureTests, pictureCall, byVerdict, madeAt, countsOf}
-use Rattle.definitions.specs.Widths.{BothWidths, VectorsFit, WidthsSame, shortBase}
+use Rattle.definitions.specs.Widths.{BothWidths, VectorsFit, WidthsSame, vectorRecord}
 use Rattle.definitions.specs.Written.{vectorsInRange}
 use Rattle.definitions.proofs.Choices.{both-true, below-same, below-true}
 
@@ -102,10 +102,10 @@ widths-same small large over = record {
 }
 
 -- beyond the one record of that base there are no words
-met : VectorsFit narrow shortBase
+met : VectorsFit narrow (vectorRecord 1 (pos 8191))
 unfolding vectorsInRange allBelow recordAt laidOut upTo
 met zero = refl
-met (suc a) = rw (drop-of-length-le shortBase {i = recordWords * suc a} (omega arith)) refl
+met (suc a) = rw (drop-of-length-le (vectorRecord 1 (pos 8191)) {i = recordWords * suc a} (omega arith)) refl
 
 pub both-widths : BothWidths
 both-widths = record { same = widths-same narrow wide (omega arith); met = met }

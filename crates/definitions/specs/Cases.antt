@@ -26,13 +26,13 @@ use Rattle.definitions.specs.Raster.{fullCount}
 abbrev pub blank : ℕ → List ℤ
 blank records = replicate (recordWords * records) (pos 0)
 
--- A geometry, a macroblock and a base; the answer, the written record, and the picture's counts
-pub record Concrete (n : Numbers) (column row : ℕ) (base : List ℤ) (answer : Answer) (written : List ℤ) (counts : Counts) : Type 0 where
-  pub case : Case narrow n column row base
-  pub singly-case : SinglyCase narrow n (pos column) (pos row) base (blank 1)
-  pub picture-case : PictureCase narrow n base (blank (fullCount (axesOf n)))
-  pub singly : SinglyGives narrow n column row (blank 1) base answer written
-  pub picture : PictureGives narrow n column row (blank (fullCount (axesOf n))) (blank 1) base answer written
+-- At a limit: a geometry, a macroblock and a base; the answer, the written record, and the picture's counts
+pub record Concrete (limit : ℕ) (n : Numbers) (column row : ℕ) (base : List ℤ) (answer : Answer) (written : List ℤ) (counts : Counts) : Type 0 where
+  pub case : Case limit n column row base
+  pub singly-case : SinglyCase limit n (pos column) (pos row) base (blank 1)
+  pub picture-case : PictureCase limit n base (blank (fullCount (axesOf n)))
+  pub singly : SinglyGives limit n column row (blank 1) base answer written
+  pub picture : PictureGives limit n column row (blank (fullCount (axesOf n))) (blank 1) base answer written
   pub picture-counts : picture .counts ≡ counts
 
 -- a class, from column and row 0 on, without detail, fed so (document 02, E5)
@@ -52,15 +52,15 @@ threeCounts inherited intra outside = record { inherited = inherited; intra = in
 
 pub record Cases : Type 0 where
   -- document 01's whole case,
-  pub inherited : Concrete wholeCase 0 0 wholeRecord (Inherited (fromZero Corner 16 0 0 0) S16x16) doubledRecord (threeCounts 4 0 2)
+  pub inherited : Concrete narrow wholeCase 0 0 wholeRecord (Inherited (fromZero Corner 16 0 0 0) S16x16) doubledRecord (threeCounts 4 0 2)
   -- and to the right of the window,
-  pub outside : Concrete wholeCase 2 0 wholeRecord Outside outsideRecord (threeCounts 4 0 2)
+  pub outside : Concrete narrow wholeCase 2 0 wholeRecord Outside outsideRecord (threeCounts 4 0 2)
   -- where every base record is another one, and may be malformed;
   pub others-case : (base : List ℤ) → length base ≡ recordWords → SinglyCase narrow wholeCase (pos 2) (pos 0) base (blank 1)
   pub others : (base : List ℤ) → length base ≡ recordWords → SinglyGives narrow wholeCase 2 0 (blank 1) base Outside outsideRecord
   -- the picture by one-macroblock calls;
   pub by-calls : AsSingly narrow wholeCase wholeRecord (threeCounts 4 0 2) (pictureCall narrow wholeCase wholeRecord (blank 6) .words) (λ a. blank 1)
   -- the starred macroblock at 16,16, with base 0, 1 and 2 intra, which is filled from base 3,
-  pub filled-there : Concrete centred 1 1 onlyLast (Inherited (fromZero Center 1 3 3 9) S16x16) wholeRecord (threeCounts 1 0 15)
+  pub filled-there : Concrete narrow centred 1 1 onlyLast (Inherited (fromZero Center 1 3 3 9) S16x16) wholeRecord (threeCounts 1 0 15)
   -- and with only base 3 intra.
-  pub intra : Concrete centred 1 1 allButLast (Intra (fromZero Center 1 3 3 9)) intraRecord (threeCounts 0 1 15)
+  pub intra : Concrete narrow centred 1 1 allButLast (Intra (fromZero Center 1 3 3 9)) intraRecord (threeCounts 0 1 15)

@@ -204,14 +204,14 @@ differing =
     ++ words (pos 4) (listOf4 (pos 3) (pos 3) (pos 3) (pos 3)) (both (pos 0) (pos 2)) (rising 101)
 
 -- ratio 2 in one direction, 3/2 in the other: two columns of one row, and two rows of one column. By ratio 2 blocks read base blocks 3, 3, 3 and 4; by 3/2 0, 0, 1 and 2.
-abbrev wide : Numbers
-wide = by (axisWith (pos 32) (pos 64) (pos 10) (pos 64)) (axisWith (pos 16) (pos 24) (pos 0) (pos 16))
+abbrev broad : Numbers
+broad = by (axisWith (pos 32) (pos 64) (pos 10) (pos 64)) (axisWith (pos 16) (pos 24) (pos 0) (pos 16))
 
 abbrev tall : Numbers
 tall = by (axisWith (pos 16) (pos 24) (pos 0) (pos 16)) (axisWith (pos 32) (pos 64) (pos 10) (pos 64))
 
-abbrev inWide : List ℤ
-inWide =
+abbrev inBroad : List ℤ
+inBroad =
     let a = block 26 21 30 24 in
     let b = block 202 153 206 156 in
     let c = block 58 45 62 48 in
@@ -312,7 +312,7 @@ unstarred =
     -- What a macroblock inherits. At ratio 1 a record is written as it was read;
     call (by plain plain) various (pos 0) (pos 0) 78 (inherits Corner (fed 16 0 0 0) (quarters S8x8 S8x4 S4x8 S4x4) various)
     -- each axis has its own ratio, its own blocks and its own word of a vector; all four sub-types;
-    ∷ call wide differing (pos 2) (pos 0) 78 (inherits Vert (fed 12 4 0 0) (quarters S8x8 S4x8 S8x4 S4x4) inWide)
+    ∷ call broad differing (pos 2) (pos 0) 78 (inherits Vert (fed 12 4 0 0) (quarters S8x8 S4x8 S8x4 S4x4) inBroad)
     ∷ call tall differing (pos 0) (pos 2) 78 (inherits Hori (fed 12 0 4 0) (quarters S8x8 S4x8 S8x4 S4x4) inTall)
     -- base 0 intra, and base 0 with another reference in list 1: the horizontal neighbour's motion, though the vertical one serves too and differs;
     ∷ call centre (noMotion ++ (firstList 0 1 2 ++ (firstList 0 3 4 ++ firstList 0 5 6))) (pos 1) (pos 1) 78

@@ -23,7 +23,7 @@ use Rattle.motion.specs.Scales.{AcceptedScale, allScaled, scaleIn, scaledWith}
 use Rattle.motion.proofs.ByScales.{with-number}
 use Rattle.motion.proofs.Parts.{number-is, part-fits}
 use Rattle.split.specs.Types.{contentsBy}
-use Rattle.writing_wide.specs.Numbers.{scalesIn}
+use Rattle.writing_wide.specs.ScaleNumbers.{scalesIn}
 use Rattle.writing.proofs.Rounded.{by-raised, raised, word-back}
 
 -- ---- the number

@@ -1,2 +1,2 @@
 -- The scales as the functions of this crate hand them down.
-pub mod Numbers
+pub mod ScaleNumbers

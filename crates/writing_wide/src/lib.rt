@@ -8,7 +8,7 @@ ghost use Rattle.motion.specs.ByValue.{AllWritable, QuadrantWritable, Writable,
 ghost use Rattle.motion.specs.Scales.{AcceptedScale, AcceptedScales, allScaled, motionScaled, scaleIn, scaleMost};
 ghost use Rattle.split.specs.Types.{contentsBy, typeWords};
 ghost use Rattle.writing.specs.Words.{quadrantPut, quadrantScaled};
-ghost use Rattle.writing_wide.specs.Numbers.{Numbers, scalesIn};
+ghost use Rattle.writing_wide.specs.ScaleNumbers.{ScaleNumbers, scalesIn};
 ghost use lib.IntN.{pos};
 ghost use lib.ListN.{length};
 ghost use mathlib.Core.Bool.{true};
@@ -62,7 +62,7 @@ fn put_references(out: &mut [i32], m: BlockMotion)
 
 // A row of two blocks: their vectors, scaled.
 fn put_pair(out: &mut [i32], h: u32, v: u32, a: BlockMotion, b: BlockMotion)
-    requires { ⌜ (length (now out) ≡ 8) × Numbers h v × Writable wide a × Writable wide b ⌝ }
+    requires { ⌜ (length (now out) ≡ 8) × ScaleNumbers h v × Writable wide a × Writable wide b ⌝ }
     ensures { λ _. ⌜ now (out .exit) ≡ vectorsOf (motionScaled (scalesIn h v) (motionIn a)) ++ vectorsOf (motionScaled (scalesIn h v) (motionIn b)) ⌝ }
 {
     out[0] = scale_word(h, a.x0);
@@ -77,7 +77,7 @@ fn put_pair(out: &mut [i32], h: u32, v: u32, a: BlockMotion, b: BlockMotion)
 
 // Quadrant q, whose first block is i: its references, and its two rows of blocks.
 fn put_quadrant(out: &mut [i32], h: u32, v: u32, q: usize, i: usize, m: [BlockMotion; 4])
-    requires { ⌜ (length (now out) ≡ recordWords) × (q < 4) × (i ≡ rasterOf q 0) × Numbers h v × QuadrantWritable wide m ⌝ }
+    requires { ⌜ (length (now out) ≡ recordWords) × (q < 4) × (i ≡ rasterOf q 0) × ScaleNumbers h v × QuadrantWritable wide m ⌝ }
     ensures { λ _. ⌜ now (out .exit) ≡ quadrantPut q (quadrantScaled (scalesIn h v) (motionsIn m)) (now (out .entry)) ⌝ }
 {
     let r = REFERENCES + 2 * q;
@@ -103,7 +103,7 @@ fn put_types(out: &mut [i32], t: Types)
 
 // A record of these types, and of these motions, scaled.
 fn lay_out(out: &mut [i32], h: u32, v: u32, t: Types, m: [[BlockMotion; 4]; 4], detail: u8)
-    requires { ⌜ (length (now out) ≡ recordWords) × Numbers h v × AllWritable wide m ⌝ }
+    requires { ⌜ (length (now out) ≡ recordWords) × ScaleNumbers h v × AllWritable wide m ⌝ }
     ensures { λ _. ⌜ now (out .exit) ≡ laidOut (contentsBy t (motionAt (allScaled (scalesIn h v) (quadrantsIn m))) (pos detail)) ⌝ }
 {
     put_types(&mut out[TYPE..REFERENCES], t);

@@ -14,7 +14,7 @@ use Rattle.motion.specs.ByValue.{quadrantsIn}
 use Rattle.motion.specs.Scales.{allScaled}
 use Rattle.split.specs.Types.{contentsBy}
 use Rattle.writing.proofs.Assembled.{assembled}
-use Rattle.writing_wide.specs.Numbers.{scalesIn}
+use Rattle.writing_wide.specs.ScaleNumbers.{scalesIn}
 use Rattle.writing_wide.proofs.lay_out.Statement.{statement}
 use Rattle.writing_wide.proofs.lay_out.Tie as tie
 

@@ -6,7 +6,7 @@ use borrow.Author.Needs.{needs}
 use Rattle.motion.specs.ByValue.{motionsIn}
 use Rattle.writing.specs.Words.{quadrantScaled}
 use Rattle.writing.proofs.Placed.{first-low, part-long, quadrant-put}
-use Rattle.writing_wide.specs.Numbers.{scalesIn}
+use Rattle.writing_wide.specs.ScaleNumbers.{scalesIn}
 use Rattle.writing_wide.proofs.put_quadrant.Statement.{statement}
 use Rattle.writing_wide.proofs.put_quadrant.Tie as tie
 

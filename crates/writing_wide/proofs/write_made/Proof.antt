@@ -9,7 +9,7 @@ use Rattle.motion.specs.ByValue.{quadrantsIn}
 use Rattle.motion.specs.Scales.{allScaled}
 use Rattle.split.specs.Types.{contentsBy}
 use Rattle.writing.proofs.Assembled.{made-of}
-use Rattle.writing_wide.specs.Numbers.{scalesIn}
+use Rattle.writing_wide.specs.ScaleNumbers.{scalesIn}
 use Rattle.writing_wide.proofs.write_made.Statement.{statement}
 use Rattle.writing_wide.proofs.write_made.Tie as tie
 

@@ -6,5 +6,5 @@ use Rattle.motion.specs.Scales.{scaleIn, scaleMost}
 abbrev pub scalesIn : ℕ → ℕ → Scales
 scalesIn h v = record { horizontal = scaleIn h; vertical = scaleIn v }
 
-abbrev pub Numbers : ℕ → ℕ → Type 0
-Numbers h v = (h ≤ scaleMost) × (v ≤ scaleMost)
+abbrev pub ScaleNumbers : ℕ → ℕ → Type 0
+ScaleNumbers h v = (h ≤ scaleMost) × (v ≤ scaleMost)
