@@ -26,7 +26,7 @@ use Rattle.macroblock.proofs.Paper.{origin-same}
 use Rattle.macroblock.proofs.Reading.{read-says, step-rises, step-small}
 use Rattle.motion.proofs.ByScales.{accepted}
 use Rattle.common.specs.Bases.{BaseRight}
-use Rattle.upsample.specs.Staged.{InBase}
+use Rattle.upsample.proofs.Naming.{InBase}
 use Rattle.common.proofs.Sizes.{base-small}
 
 module _ (g : Axes) (base : List ℤ) (right : BaseRight g base) (column row : ℕ) where
@@ -50,11 +50,6 @@ module _ (g : Axes) (base : List ℤ) (right : BaseRight g base) (column row : �
     named-in : InBase base (addressesOf g (originAt g column row))
     named-in a m = in-base a (address-below g column row across-in down-in m)
 
-    first-low : columnOf (getD (ver .reads) 0 0) < 65536
-    first-low =
-        let within = both-true (insideAxis (g .horizontal) (sampleOf column)) (insideAxis (g .vertical) (sampleOf row)) e in
-        omega (arith, step-small (g .vertical) row (right .axes .vertical) (within .1) refl .reads 0 (omega arith))
-
     ready : {limit : ℕ} → ((a : ℕ) → List·Memᴰ a (addressesOf g (originAt g column row)) → wellFormed limit (recordAt base a) ≡ true) → Ready limit (fixedOf g) (hor .reads) (ver .reads) base
     unfolding addressRead
     ready formed =
@@ -71,7 +66,6 @@ module _ (g : Axes) (base : List ℤ) (right : BaseRight g base) (column row : �
   -- what is known of the axes' readings at a macroblock
   pub record Known (h v : AxisRead) : Type 0 where
     pub within : (h .inside && v .inside) ≡ true → inside g column row ≡ true
-    pub first-row : (h .inside && v .inside) ≡ true → columnOf (getD (v .reads) 0 0) < 65536
     pub named-below : (h .inside && v .inside) ≡ true → InBase base (addressesOf g (originBy h v))
     pub named : (h .inside && v .inside) ≡ true → addressesRead g column row ≡ addressesOf g (originBy h v)
     pub unnamed : (h .inside && v .inside) ≡ false → addressesRead g column row ≡ []
@@ -90,7 +84,6 @@ module _ (g : Axes) (base : List ℤ) (right : BaseRight g base) (column row : �
       λ P e p. subst (λ (s : AxisRead). P s down) (sym (x e)) (subst (P hor) (sym (y e)) p) in
       record {
         within = λ t. sym says ∙ t;
-        first-row = λ t. to (λ h v. columnOf (getD (v .reads) 0 0) < 65536) (sym says ∙ t) (first-low (sym says ∙ t));
         named-below = λ t.
             let e = sym says ∙ t in
             to (λ h v. InBase base (addressesOf g (originBy h v))) e (subst (λ (o : Origin). InBase base (addressesOf g o)) (origin-same g (right .axes) column row base e) (named-in e));

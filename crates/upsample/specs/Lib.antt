@@ -1,2 +1,2 @@
-pub mod Staged
+pub mod Sited
 pub mod Promised

@@ -1,31 +1,46 @@
 -- `upsample_wide::upsample_macroblock_wide` meets its contract. Assumes nothing.
-use Rattle.definitions.specs.Record.{wide}
-use Rattle.upsample.proofs.Promises.{singly-kept}
-use Rattle.upsample.proofs.Staging.{wrong-geometry, right-geometry}
-use Rattle.upsample.specs.Staged.{axesCall}
-use Rattle.definitions.specs.Accepted.{AcceptedAxes}
-use Rattle.geometry.proofs.Verdicts.{checked-accepted, checked-refused, checked-valid}
-use Rattle.definitions.specs.Calls.{Outcome}
-use Rattle.definitions.specs.declared.MacroblockReply.{MacroblockReply}
+use mathlib.Core.Path.{_≡_, refl, sym, ap, subst, _∙_}
 use mir.Facts.{toZ-ofZ}
-use mathlib.Core.Path.{sym, ap, subst, _∙_}
+use Rattle.definitions.specs.Calls.{Outcome}
+use Rattle.definitions.specs.Record.{wide}
+use Rattle.definitions.specs.declared.MacroblockReply.{MacroblockReply}
+use Rattle.upsample.specs.declared.site.Site.{Site}
+use Rattle.upsample.specs.Sited.{Callable, placingOf, siteCall}
+use Rattle.upsample.proofs.Promises.{singly-kept}
+use Rattle.upsample.proofs.Staging.{place-low, right-place, wrong-place}
 use borrow.Author.Needs.{needs}
 use Rattle.upsample_wide.proofs.upsample_macroblock_wide.Statement.{statement}
 use Rattle.upsample_wide.proofs.upsample_macroblock_wide.Tie as tie
 
-new-requires : tie.Need-new-requires
-new-requires c κs = search needs
+-- what the stage before gave, of the base and the words that are lent
+placing : (c : tie.After-place-of) → c .place-of .result ≡ placingOf (c .before .args .n) (c .before .args .base .now) (c .before .args .column) (c .before .args .row) (c .before .args .out .now)
+placing c =
+    let s = c .before in
+    let p = toZ-ofZ (s .fits .column) in
+    let q = toZ-ofZ (s .fits .row) in
+    c .place-of .ensures (s .args .base .now) (s .args .out .now) refl refl ∙ (λ i. placingOf (s .args .n) (s .args .base .now) (p i) (q i) (s .args .out .now))
 
-enum-known-g : tie.Need-enum-known-g
-enum-known-g c = search needs
+place-of-requires : tie.Need-place-of-requires
+place-of-requires c κs = search needs
 
-axes-requires : tie.Need-axes-requires
-axes-requires c κs = search needs
+enum-known-p : tie.Need-enum-known-p
+enum-known-p c = search needs
 
-accepted-macroblock-requires : tie.Need-accepted-macroblock-requires
-accepted-macroblock-requires c κs =
-    let k = checked-valid (c .before .before .before .before .before .before .args .n) (c .before .before .before .g .given .0 .0) (sym (c .before .before .before .before .before .new .ensures) ∙ c .before .before .before .g .given .1) in
-    subst AcceptedAxes (sym (c .before .axes .ensures)) k
+site-of-requires : tie.Need-site-of-requires
+site-of-requires c κs =
+    let p = c .before in
+    let a = p .before .before in
+    let s = a .before in
+    place-low (s .args .n) (s .args .base .now) (s .args .column) (s .args .row) (s .args .out .now) (p .p .given .0 .0) (sym (placing a) ∙ p .p .given .1)
+
+upsample-site-requires : tie.Need-upsample-site-requires
+upsample-site-requires c κs =
+    let f = c .before in
+    let p = f .before .before in
+    let a = p .before .before in
+    let s = a .before in
+    subst (λ (x : Site). Callable wide x (s .args .base .now) (s .args .out .now)) (sym (f .site-of .ensures))
+    (right-place (s .args .n) (s .args .base .now) (s .args .column) (s .args .row) (s .args .out .now) wide (p .p .given .0 .0) (sym (placing a) ∙ p .p .given .1) .0)
 
 enum-known-r : tie.Need-enum-known-r
 enum-known-r c = search needs
@@ -35,28 +50,31 @@ same-length c = search needs
 
 returns : tie.Need-returns
 returns c =
-    let s = c .before .before .before .before .before .before .before .before in
-    let k = checked-accepted (s .args .n) (c .before .before .before .before .before .g .given .0 .0) (sym (c .before .before .before .before .before .before .before .new .ensures) ∙ c .before .before .before .before .before .g .given .1) in
-    let g = c .before .before .before .axes .ensures ∙ k .1 in
-    let p = toZ-ofZ (s .fits .column) in
-    let q = toZ-ofZ (s .fits .row) in
-    let e = (λ i. axesCall wide (g i) (s .args .base .now) (p i) (q i) (s .args .out .now)) ∙ sym (right-geometry wide (s .args .n) (s .args .base .now) (s .args .column) (s .args .row) (s .args .out .now) (k .0)) in
-    singly-kept wide (s .args .n) (s .args .base .now) (s .args .column) (s .args .row) (s .args .out .now) _ _ (c .before .accepted-macroblock .ensures .0 ∙ ap (λ (o : Outcome MacroblockReply). o .reply) e) (c .before .accepted-macroblock .ensures .1 ∙ ap (λ (o : Outcome MacroblockReply). o .words) e)
+    let u = c .before in
+    let f = u .before .before in
+    let p = f .before .before in
+    let a = p .before .before in
+    let s = a .before in
+    let e = ap (λ (x : Site). siteCall wide x (s .args .base .now) (s .args .out .now)) (f .site-of .ensures)
+    ∙ right-place (s .args .n) (s .args .base .now) (s .args .column) (s .args .row) (s .args .out .now) wide (p .p .given .0 .0) (sym (placing a) ∙ p .p .given .1) .1 in
+    singly-kept wide (s .args .n) (s .args .base .now) (s .args .column) (s .args .row) (s .args .out .now) _ _ (u .upsample-site .ensures .0 ∙ ap (λ (o : Outcome MacroblockReply). o .reply) e) (u .upsample-site .ensures .1 ∙ ap (λ (o : Outcome MacroblockReply). o .words) e)
 
 returns-2 : tie.Need-returns-2
 returns-2 c =
-    let s = c .before .before .before .before in
-    let h = wrong-geometry wide (s .args .n) (s .args .base .now) (s .args .column) (s .args .row) (s .args .out .now) (c .before .r .given .0 .0) (checked-refused (s .args .n) (c .before .r .given .0 .0) (sym (c .before .before .before .new .ensures) ∙ c .before .r .given .1)) in
+    let r = c .before in
+    let a = r .before .before in
+    let s = a .before in
+    let h = wrong-place (s .args .n) (s .args .base .now) (s .args .column) (s .args .row) (s .args .out .now) wide (r .r .given .0 .0) (sym (placing a) ∙ r .r .given .1) in
     singly-kept wide (s .args .n) (s .args .base .now) (s .args .column) (s .args .row) (s .args .out .now) _ _ (h .0) (h .1)
 
 pub upsample-macroblock-wide-spec : {M : Type 1} → statement M
 upsample-macroblock-wide-spec =
     tie.close
     (tie.spec
-    new-requires
-    enum-known-g
-    axes-requires
-    accepted-macroblock-requires
+    place-of-requires
+    enum-known-p
+    site-of-requires
+    upsample-site-requires
     enum-known-r
     same-length
     returns
