@@ -8,10 +8,13 @@ ghost use Rattle.definitions.specs.Geometry.{fullSize, macroblocks};
 ghost use Rattle.definitions.specs.Raster.{fullCount};
 ghost use Rattle.macroblock.specs.Made.{readOf};
 ghost use Rattle.picture.specs.Reads.{AxisReads};
-ghost use Rattle.common.specs.Bases.{BaseFormed};
+ghost use Rattle.common.specs.Bases.{BaseFormed, BaseRight};
 ghost use Rattle.picture.specs.Promised.{PicturePromised, SinglyCounted};
-ghost use Rattle.picture.specs.Staged.{axesPicture};
+ghost use Rattle.picture.specs.Staged.{lengthTests, sizedOf, sizedPicture};
+ghost use Rattle.definitions.specs.Refusals.{verdictOf};
+ghost use lib.IntN.{ℤ};
 ghost use lib.ListN.{length};
+ghost use mathlib.Core.List.{List};
 ghost use mathlib.Core.Path.{_≡_};
 use common::counts::NO_COUNTS;
 use common::counts::count_sort;
@@ -37,6 +40,34 @@ use macroblock::make;
 use macroblock::read_nowhere;
 use scan::check;
 
+// ---- Refusals 1 to 6, for records of both widths
+// The geometry is accepted: refusals 5 and 6, for a base of so many words and so many words to write.
+fn lengths_right(g: Axes, words: usize, lent: usize) -> Verdict
+    requires { ⌜ AcceptedAxes g ⌝ }
+    ensures { λ r. ⌜ ((base out : List ℤ) → length base ≡ words → length out ≡ lent → r ≡ verdictOf (lengthTests g base out)) ⌝ }
+{
+    if !base_right(g, words) {
+        return Verdict::Refused(refused(refusals::BASE_LENGTH));
+    }
+    if !output_right(full_count(g), lent) {
+        return Verdict::Refused(refused(refusals::OUTPUT_LENGTH));
+    }
+    Verdict::Accepted
+}
+
+pub fn sized(n: Numbers, words: usize, lent: usize) -> Checked
+    ensures { λ r. ⌜ ((base out : List ℤ) → length base ≡ words → length out ≡ lent → r ≡ sizedOf n base out) ⌝ }
+{
+    match Geometry::new(n) {
+        Checked::Geometry(g) => match lengths_right(g.axes(), words, lent) {
+            Verdict::Accepted => Checked::Geometry(g),
+            Verdict::Refused(r) => Checked::Refused(r),
+        },
+        Checked::Refused(r) => Checked::Refused(r),
+    }
+}
+
+// ---- The axes
 // The horizontal axis at each column of the picture; 256 is the most.
 pub fn column_reads(a: Axis) -> [AxisRead; 256]
     requires { ⌜ AcceptedAxis a ⌝ }
@@ -86,6 +117,7 @@ pub fn row_read(a: Axis, p: Position, kept: AxisRead) -> AxisRead
     kept
 }
 
+// ---- The picture
 // Every macroblock, in raster order.
 fn fill(g: Axes, base: &[i16], out: &mut [i16]) -> Counts
     requires { ⌜ BaseFormed narrow g (now base) × (length (now out) ≡ recordWords * fullCount g) ⌝ }
@@ -114,18 +146,12 @@ fn fill(g: Axes, base: &[i16], out: &mut [i16]) -> Counts
     counts
 }
 
-// The geometry is accepted: refusals 5, 6 and 8, or the picture.
-fn accepted_picture(g: Axes, base: &[i16], out: &mut [i16]) -> PictureReply
-    requires { ⌜ AcceptedAxes g ⌝ }
-    ensures reply { λ r. ⌜ r ≡ axesPicture narrow g (now (base .entry)) (now (out .entry)) .reply ⌝ }
-    ensures words { λ r. ⌜ now (out .exit) ≡ axesPicture narrow g (now (base .entry)) (now (out .entry)) .words ⌝ }
+// The lengths are right: refusal 8, or the picture.
+fn sized_picture(g: Axes, base: &[i16], out: &mut [i16]) -> PictureReply
+    requires { ⌜ BaseRight g (now base) × (length (now out) ≡ recordWords * fullCount g) ⌝ }
+    ensures reply { λ r. ⌜ r ≡ sizedPicture narrow g (now (base .entry)) (now (out .entry)) .reply ⌝ }
+    ensures words { λ r. ⌜ now (out .exit) ≡ sizedPicture narrow g (now (base .entry)) (now (out .entry)) .words ⌝ }
 {
-    if !base_right(g, base.len()) {
-        return PictureReply::Refused(refused(refusals::BASE_LENGTH));
-    }
-    if !output_right(full_count(g), out.len()) {
-        return PictureReply::Refused(refused(refusals::OUTPUT_LENGTH));
-    }
     match check(base, 0, base_count(g)) {
         Verdict::Accepted => PictureReply::Counted(fill(g, base, out)),
         Verdict::Refused(r) => PictureReply::Refused(r),
@@ -139,8 +165,8 @@ pub fn upsample_picture(n: Numbers, base: &[i16], out: &mut [i16]) -> PictureRep
     ensures demand3 { λ r. ⌜ PicturePromised narrow n (now (base .entry)) (now (out .entry)) r (now (out .exit)) ⌝ }
     ensures singly { λ r. ⌜ SinglyCounted narrow n (now (base .entry)) r (now (out .exit)) ⌝ }
 {
-    match Geometry::new(n) {
-        Checked::Geometry(g) => accepted_picture(g.axes(), base, out),
+    match sized(n, base.len(), out.len()) {
+        Checked::Geometry(g) => sized_picture(g.axes(), base, out),
         Checked::Refused(r) => PictureReply::Refused(r),
     }
 }

@@ -1,23 +1,18 @@
 // The picture call of document 01 on records of wide words (document 02, E12): all base records are checked, then every macroblock is made in raster order.
 ghost use Prim.Native.Nat.{_*_};
-ghost use Rattle.definitions.specs.Accepted.{AcceptedAxes};
 ghost use Rattle.definitions.specs.Calls.{countsOf, madeAt, pictureCall};
 ghost use Rattle.definitions.specs.Record.{recordWords, wide};
 ghost use Rattle.definitions.specs.Basics.{forEach, upTo};
 ghost use Rattle.definitions.specs.Raster.{fullCount};
-ghost use Rattle.common.specs.Bases.{BaseFormed};
+ghost use Rattle.common.specs.Bases.{BaseFormed, BaseRight};
 ghost use Rattle.picture.specs.Promised.{PicturePromised, SinglyCounted};
-ghost use Rattle.picture.specs.Staged.{axesPicture};
+ghost use Rattle.picture.specs.Staged.{sizedPicture};
 ghost use lib.ListN.{length};
 ghost use mathlib.Core.Path.{_≡_};
 use common::counts::NO_COUNTS;
 use common::counts::count_sort;
 use common::raster::base_count;
 use common::raster::full_count;
-use common::refusals;
-use common::refusals::refused;
-use common::tests::base_right;
-use common::tests::output_right;
 use definitions::Axes;
 use definitions::Counts;
 use definitions::Numbers;
@@ -25,7 +20,6 @@ use definitions::PictureReply;
 use definitions::RECORD_WORDS;
 use definitions::Verdict;
 use geometry::Checked;
-use geometry::Geometry;
 use macroblock::fixed_of;
 use macroblock::read_nowhere;
 use macroblock_wide::make;
@@ -33,6 +27,7 @@ use picture::Position;
 use picture::column_reads;
 use picture::next;
 use picture::row_read;
+use picture::sized;
 use records_wide::check;
 
 // Every macroblock, in raster order.
@@ -63,18 +58,12 @@ fn fill(g: Axes, base: &[i32], out: &mut [i32]) -> Counts
     counts
 }
 
-// The geometry is accepted: refusals 5, 6 and 8, or the picture.
-fn accepted_picture(g: Axes, base: &[i32], out: &mut [i32]) -> PictureReply
-    requires { ⌜ AcceptedAxes g ⌝ }
-    ensures reply { λ r. ⌜ r ≡ axesPicture wide g (now (base .entry)) (now (out .entry)) .reply ⌝ }
-    ensures words { λ r. ⌜ now (out .exit) ≡ axesPicture wide g (now (base .entry)) (now (out .entry)) .words ⌝ }
+// The lengths are right: refusal 8, or the picture.
+fn sized_picture(g: Axes, base: &[i32], out: &mut [i32]) -> PictureReply
+    requires { ⌜ BaseRight g (now base) × (length (now out) ≡ recordWords * fullCount g) ⌝ }
+    ensures reply { λ r. ⌜ r ≡ sizedPicture wide g (now (base .entry)) (now (out .entry)) .reply ⌝ }
+    ensures words { λ r. ⌜ now (out .exit) ≡ sizedPicture wide g (now (base .entry)) (now (out .entry)) .words ⌝ }
 {
-    if !base_right(g, base.len()) {
-        return PictureReply::Refused(refused(refusals::BASE_LENGTH));
-    }
-    if !output_right(full_count(g), out.len()) {
-        return PictureReply::Refused(refused(refusals::OUTPUT_LENGTH));
-    }
     match check(base, 0, base_count(g)) {
         Verdict::Accepted => PictureReply::Counted(fill(g, base, out)),
         Verdict::Refused(r) => PictureReply::Refused(r),
@@ -88,8 +77,8 @@ pub fn upsample_picture_wide(n: Numbers, base: &[i32], out: &mut [i32]) -> Pictu
     ensures demand3 { λ r. ⌜ PicturePromised wide n (now (base .entry)) (now (out .entry)) r (now (out .exit)) ⌝ }
     ensures singly { λ r. ⌜ SinglyCounted wide n (now (base .entry)) r (now (out .exit)) ⌝ }
 {
-    match Geometry::new(n) {
-        Checked::Geometry(g) => accepted_picture(g.axes(), base, out),
+    match sized(n, base.len(), out.len()) {
+        Checked::Geometry(g) => sized_picture(g.axes(), base, out),
         Checked::Refused(r) => PictureReply::Refused(r),
     }
 }

@@ -180,8 +180,8 @@ module _ (g : Axes) (h v : AxisRead) where
     unfolding siteBy
     lower-in =
         run-in g h (firstOf v + 1) base ((h .inside && v .inside) && twoRead v) (λ t a m.
-          let b = both-true (h .inside && v .inside) (twoRead v) t in
-          n (b .0) a (subst (List·Memᴰ a) (sym (named-two (b .1))) (Memᴰ·append-right (rowOf g h (firstOf v)) m)))
+        let b = both-true (h .inside && v .inside) (twoRead v) t in
+        n (b .0) a (subst (List·Memᴰ a) (sym (named-two (b .1))) (Memᴰ·append-right (rowOf g h (firstOf v)) m)))
 
 -- a site as it is made
 pub site-made : (p : Place) {fixed : Fixed} {h v : AxisRead} {two : Bool} {upper lower : Run}

@@ -1,5 +1,6 @@
 // The one-macroblock call of document 01.
 pub mod site; // site.rt: refusals 1 to 7, and the records that are read
+
 ghost use Rattle.definitions.specs.Calls.{macroblockCall};
 ghost use Rattle.definitions.specs.Record.{narrow};
 ghost use Rattle.definitions.specs.Refusals.{recordTests, verdictOf};
