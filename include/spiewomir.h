@@ -21,9 +21,9 @@
  *     in the two wide calls int32_t, aligned as such and in the machine's byte order.
  *   - With length 0 the pointer may be null.
  * A refused call leaves every word and byte lent to it as it was. `base` and `text`
- * are never written. Calls keep nothing between them (a session is handed over and
- * back by value), take no memory but some 40 KB of stack, and may be made from any
- * threads at once.
+ * are never written, and a base is read where it stands. Calls keep nothing between
+ * them (a session is handed over and back by value), take no memory but stack (some
+ * 5 KB; 20 KB for a text, 40 KB for a log), and may be made from any threads at once.
  */
 #ifndef SPIEWOMIR_H
 #define SPIEWOMIR_H

@@ -8,7 +8,7 @@ use mir.Syntax.{w16, w32}
 use mir.Val.{SFits, ofZ, toZ}
 use Rattle.definitions.proofs.Differences.{pos-minus, sub-cases, sub-pos}
 use Rattle.motion.specs.declared.Scale.{Scale}
-use Rattle.motion.specs.Scales.{numberOf, scaleIn}
+use Rattle.motion.specs.Scales.{numberOf, scaleIn, scaleMost}
 
 pub number-is : (n : ℕ) → numberOf (scaleIn n) ≡ pos n
 number-is n =
@@ -21,7 +21,7 @@ pub part-fits : (n : ℕ) → SFits w16 (subℕ n (65536 * ((n + 32768) / 65536)
 part-fits n = sub-cases (SFits w16) n (65536 * ((n + 32768) / 65536)) (λ l. record { sfits = omega arith }) (λ l. record { sfits = omega arith })
 
 -- the parts of n, as they are computed: each step fits
-module _ (n : ℕ) (high : n ≤ 131072) where
+module _ (n : ℕ) (high : n ≤ scaleMost) where
   whole : ℕ
   whole = (n + 32768) / 65536
 

@@ -1,4 +1,5 @@
--- Step 4 of "Inheriting", as document 02's E3 has it, by the scales of both axes, which are made once and handed down in two parts.
+-- Step 4 of "Inheriting", as document 02's E3 has it, by the scales of both axes, which are made once and handed down in two parts. (The
+-- narrow writer multiplies by each; the wide one joins them again.)
 use Prim.Native.Nat.{ℕ, _+_, _*_, _/_, _≤_}
 use mathlib.Core.Path.{_≡_}
 use mathlib.Core.List.{List}

@@ -17,7 +17,7 @@ use Rattle.definitions.proofs.Choices.{both-true}
 use Rattle.definitions.proofs.Differences.{sub-cases, sub-neg, sub-pos, sub-shift}
 use Rattle.motion.specs.declared.Scale.{Scale}
 use Rattle.motion.specs.ByValue.{Reference}
-use Rattle.motion.specs.Scales.{AcceptedScale, scaleIn, scaledWith}
+use Rattle.motion.specs.Scales.{AcceptedScale, scaleIn, scaleMost, scaledWith}
 use Rattle.motion.proofs.ByScales.{with-number}
 use Rattle.motion.proofs.Parts.{part-fits}
 
@@ -155,7 +155,7 @@ pub record Fitting (s : Scale) (v : ℤ) : Type 0 where
   pub fits : SFits w16 (s .whole *ℤ v +ℤ down (v *ℤ s .part +ℤ pos 32768) 65536)
   pub is : s .whole *ℤ v +ℤ down (v *ℤ s .part +ℤ pos 32768) 65536 ≡ scaledWith s v
 
-module _ (n : ℕ) (high : n ≤ 131072) (v : ℤ) (small : natAbs v ≤ narrow) where
+module _ (n : ℕ) (high : n ≤ scaleMost) (v : ℤ) (small : natAbs v ≤ narrow) where
   whole : ℕ
   whole = (n + 32768) / 65536
 

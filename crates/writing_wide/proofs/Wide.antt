@@ -19,7 +19,7 @@ use Rattle.definitions.proofs.Differences.{sub-cases}
 use Rattle.motion.specs.declared.BlockMotion.{BlockMotion}
 use Rattle.motion.specs.declared.Scale.{Scale}
 use Rattle.motion.specs.ByValue.{AllWritable, QuadrantWritable, Writable, quadrantsIn, zeroBlock}
-use Rattle.motion.specs.Scales.{AcceptedScale, allScaled, scaleIn, scaledWith}
+use Rattle.motion.specs.Scales.{AcceptedScale, allScaled, scaleIn, scaleMost, scaledWith}
 use Rattle.motion.proofs.ByScales.{with-number}
 use Rattle.motion.proofs.Parts.{number-is, part-fits}
 use Rattle.split.specs.Types.{contentsBy}
@@ -48,18 +48,18 @@ numbered s a =
 -- ---- a word, by the number
 pub record Rising (n : ℕ) (v : ℤ) : Type 0 where
   pub up : ℕ
-  pub sum : v +ℤ pos 131072 ≡ pos up
-  pub low : up ≤ 262144
+  pub sum : v +ℤ pos wide ≡ pos up
+  pub low : up ≤ 2 * wide
   pub product : up * n ≤ 2 ^ 35
   pub fits : SFits w32 (subℕ ((up * n + 32768) / 65536) (2 * n))
   pub is : subℕ ((up * n + 32768) / 65536) (2 * n) ≡ scaledBy n v
 
-pub rising : (n : ℕ) (v : ℤ) → n ≤ 131072 → fits wide v ≡ true → Rising n v
+pub rising : (n : ℕ) (v : ℤ) → n ≤ scaleMost → fits wide v ≡ true → Rising n v
 rising n v high e =
     let r = raised wide v e in
     let u = r .up in
-    let low : u ≤ 262144 = omega (arith, r .most) in
-    let most : u * n ≤ 262144 * 131072 = mul-le-mul low high in
+    let low : u ≤ 2 * wide = omega (arith, r .most) in
+    let most : u * n ≤ 2 * wide * scaleMost = mul-le-mul low high in
     record {
       up = u;
       sum = r .sum;
@@ -71,7 +71,7 @@ rising n v high e =
 
 -- ---- handed back by scale_word
 module _ (v : ℤ) (e : fits wide v ≡ true) where
-  pub back : (n : ℕ) → n ≤ 131072 → (r : ℤ) → r ≡ scaledBy n (toZ w32 (ofZ w32 v)) → toZ w32 (ofZ w32 r) ≡ scaledWith (scaleIn n) v
+  pub back : (n : ℕ) → n ≤ scaleMost → (r : ℤ) → r ≡ scaledBy n (toZ w32 (ofZ w32 v)) → toZ w32 (ofZ w32 r) ≡ scaledWith (scaleIn n) v
   back n high r is =
       let p = rising n v high e in
       ap (λ (z : ℤ). toZ w32 (ofZ w32 z)) (is ∙ ap (scaledBy n) (word-back wide (omega arith) v e)) ∙ (toZ-ofZ (subst (SFits w32) (p .is) (p .fits)) ∙ sym (with-number n v))

@@ -6,16 +6,17 @@ use borrow.Author.Needs.{needs}
 use Rattle.definitions.specs.Geometry.{baseSize, scaledSize}
 use Rattle.definitions.specs.Inheriting.{scaleOf}
 use Rattle.definitions.proofs.Rounding.{scale-high}
+use Rattle.motion.specs.Scales.{scaleMost}
 use Rattle.motion.proofs.Parts.{difference-fits, made, part-back, product-fits}
 use Rattle.motion.proofs.scale_of.Statement.{statement}
 use Rattle.motion.proofs.scale_of.Tie as tie
 
--- the scale, and that it is at most 131,072
+-- the scale, and that it is at most that of S = 2B
 module _ (c : tie.Start) where
   scale : ℕ
   scale = scaleOf (baseSize (c .args .a)) (scaledSize (c .args .a))
 
-  high : scale ≤ 131072
+  high : scale ≤ scaleMost
   unfolding scale
   high = scale-high _ _ (c .pre .sized)
 

@@ -7,6 +7,7 @@ use borrow.Author.Needs.{needs}
 use mir.Facts.{toZ-ofZ, toZ-pos}
 use mir.Syntax.{w32}
 use mir.Val.{ofZ, toZ}
+use Rattle.definitions.specs.Record.{wide}
 use Rattle.definitions.proofs.Differences.{pos-minus}
 use Rattle.writing_wide.proofs.Wide.{Rising, rising}
 use Rattle.writing_wide.proofs.scale_word.Statement.{statement}
@@ -19,8 +20,8 @@ module _ (c : tie.Start) where
   up-small : f .up < 2 ^ 31
   up-small = omega (arith, f .low)
 
-  word : toZ w32 (ofZ w32 (c .args .v)) +ℤ pos 131072 ≡ pos (f .up)
-  word = ap (λ (z : ℤ). z +ℤ pos 131072) (toZ-ofZ (c .fits .v)) ∙ f .sum
+  word : toZ w32 (ofZ w32 (c .args .v)) +ℤ pos wide ≡ pos (f .up)
+  word = ap (λ (z : ℤ). z +ℤ pos wide) (toZ-ofZ (c .fits .v)) ∙ f .sum
 
   quotient : toZ w32 ((f .up * c .args .n + 32768) / 65536) ≡ pos ((f .up * c .args .n + 32768) / 65536)
   quotient = toZ-pos w32 (omega (arith, f .product))
