@@ -93,9 +93,12 @@ module _ (f : Fixed) (h v : AxisRead) (base : List ℤ) where
   unfoldable pub sortBy : Sort
   sortBy = pick (h .inside && v .inside) (sortInside f (h .reads) (v .reads) base) SortOutside
 
--- the answer of a sort: what it names (the first column is that of the first coordinate), its detail, what fed it, and the split that is chosen
+-- the answer of a sort: what it names (the first column (row) of an axis is that of its first coordinate), its detail, what fed it, and the split that is chosen
+abbrev pub firstOf : AxisRead → ℕ
+firstOf r = columnOf (getD (r .reads) 0 0)
+
 abbrev pub originBy : AxisRead → AxisRead → Origin
-originBy h v = record { class = classOf (twoRead h) (twoRead v); column = columnOf (getD (h .reads) 0 0); row = columnOf (getD (v .reads) 0 0) }
+originBy h v = record { class = classOf (twoRead h) (twoRead v); column = firstOf h; row = firstOf v }
 
 -- (each count is the product of what falls in its column and in its row)
 abbrev pub basisWith : AxisRead → AxisRead → ℕ → Basis

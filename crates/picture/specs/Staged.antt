@@ -18,11 +18,11 @@ use Rattle.geometry.specs.Checked.{checkedBy}
 unfoldable pub lengthTests : Axes → List ℤ → List ℤ → List Test
 lengthTests g base words = baseTest g base ∷ outputTest (fullCount g) words ∷ []
 
--- and 1 to 4 before them: a geometry, or its refusal
+-- and 1 to 4 before them: the geometry, or the first refusal of 1 to 6
 unfoldable pub sizedOf : Numbers → List ℤ → List ℤ → Checked
 sizedOf n base words = checkedBy (verdictOf (geometryTests n ++ lengthTests (axesOf n) base words)) n
 
--- the picture, once these are passed: refusal 8
+-- once these are passed: refusal 8, or the picture (this is `pictureCall` then: `right-sizes` of proofs/Stages)
 unfoldable pub sizedPicture : ℕ → Axes → List ℤ → List ℤ → Outcome PictureReply
 sizedPicture limit g base words =
     let made = upTo (fullCount g) (madeAt g base) in

@@ -55,6 +55,7 @@ fn lengths_right(g: Axes, words: usize, lent: usize) -> Verdict
     Verdict::Accepted
 }
 
+// Refusals 1 to 6: the geometry, or the first of them.
 pub fn sized(n: Numbers, words: usize, lent: usize) -> Checked
     ensures { λ r. ⌜ ((base out : List ℤ) → length base ≡ words → length out ≡ lent → r ≡ sizedOf n base out) ⌝ }
 {
@@ -67,7 +68,7 @@ pub fn sized(n: Numbers, words: usize, lent: usize) -> Checked
     }
 }
 
-// ---- The axes
+// ---- The axes, for records of both widths
 // The horizontal axis at each column of the picture; 256 is the most.
 pub fn column_reads(a: Axis) -> [AxisRead; 256]
     requires { ⌜ AcceptedAxis a ⌝ }

@@ -23,11 +23,11 @@ use Rattle.definitions.proofs.Verdicts.{then-verdict, refused-first}
 use Rattle.records.specs.Checking.{addresses}
 use Rattle.records.proofs.Addresses.{addresses-more, addresses-end, addresses-one}
 use Rattle.macroblock.specs.declared.Fixed.{Fixed}
-use Rattle.macroblock.specs.Made.{fixedOf, originBy, readOf, twoRead}
+use Rattle.macroblock.specs.Made.{firstOf, fixedOf, originBy, readOf, twoRead}
 use Rattle.upsample.specs.declared.site.Place.{Place}
 use Rattle.upsample.specs.declared.site.Run.{Run}
 use Rattle.upsample.specs.declared.site.Site.{Site}
-use Rattle.upsample.specs.Sited.{RunIn, firstOf, runOf, runsOf, siteBy, siteOf}
+use Rattle.upsample.specs.Sited.{RunIn, runOf, runsOf, siteBy, siteOf}
 
 -- the base macroblocks of one row that are read
 abbrev pub rowAddresses : Axes → ℕ → Bool → ℕ → List ℕ
@@ -195,12 +195,19 @@ site-made p f h w two u l =
     λ i. record { fixed = f i; h = h i; v = w i; upper = upper i; lower = lower i }
 
 -- ---- the verdict on two runs
-module _ (limit : ℕ) (base : List ℤ) (xs ys : List ℕ) where
+module _ (limit : ℕ) (base : List ℤ) (upper lower : Run) where
   abbrev verdictOn : List ℕ → Verdict
   verdictOn l = verdictOf (recordTests limit base l)
 
-  pub second-run : verdictOn xs ≡ Accepted → verdictOn ys ≡ verdictOn (xs ++ ys)
-  second-run e = sym (ap verdictOf (tests-join limit base xs ys) ∙ then-verdict (recordTests limit base xs) _ e)
+  -- the lower one has no address
+  pub only-upper : lower .to ≡ 0 → verdictOn (listed upper) ≡ verdictOn (runsOf upper lower)
+  only-upper e = ap verdictOn (sym (ap (λ (l : List ℕ). listed upper ++ l) (addresses-end (lower .from) (lower .to) (omega (arith, e))) ∙ append-nil (listed upper)))
 
-  pub first-run : (r : Refusal) → verdictOn xs ≡ Refused r → Refused r ≡ verdictOn (xs ++ ys)
-  first-run r e = sym (ap verdictOf (tests-join limit base xs ys) ∙ refused-first (recordTests limit base xs) _ r e)
+  joined : verdictOn (runsOf upper lower) ≡ verdictOf (recordTests limit base (listed upper) ++ recordTests limit base (listed lower))
+  joined = ap verdictOf (tests-join limit base (listed upper) (listed lower))
+
+  pub then-lower : verdictOn (listed upper) ≡ Accepted → verdictOn (listed lower) ≡ verdictOn (runsOf upper lower)
+  then-lower e = sym (joined ∙ then-verdict (recordTests limit base (listed upper)) _ e)
+
+  pub upper-refused : (r : Refusal) → verdictOn (listed upper) ≡ Refused r → Refused r ≡ verdictOn (runsOf upper lower)
+  upper-refused r e = sym (joined ∙ refused-first (recordTests limit base (listed upper)) _ r e)

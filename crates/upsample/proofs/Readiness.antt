@@ -6,12 +6,12 @@ use mathlib.Core.List.{List, [], List·Memᴰ}
 use native.Mathlib.Nat.{mul-le-mul-right}
 use native.Mathlib.Omega.{arith}
 use lib.IntN.{ℤ}
-use lib.ListN.{length, getD}
+use lib.ListN.{length}
 use Rattle.definitions.specs.declared.Axes.{Axes}
 use Rattle.definitions.specs.declared.Origin.{Origin}
 use Rattle.definitions.specs.Accepted.{Inside}
 use Rattle.definitions.specs.Geometry.{baseSize, scaledSize, cOf, insideAxis, inside, sampleOf}
-use Rattle.definitions.specs.BlockMap.{columnOf, stepOf, addressRead}
+use Rattle.definitions.specs.BlockMap.{stepOf, addressRead}
 use Rattle.definitions.specs.Record.{recordWords, recordAt, wellFormed}
 use Rattle.definitions.specs.Answer.{originAt, addressesOf}
 use Rattle.definitions.specs.Refusals.{addressesRead}
@@ -23,7 +23,7 @@ use Rattle.definitions.proofs.Addresses.{address-named, address-below}
 use Rattle.macroblock.specs.declared.AxisRead.{AxisRead}
 use Rattle.macroblock.specs.Made.{fixedOf, originBy, readIn, readOf, MakeableInside, Ready}
 use Rattle.macroblock.proofs.Paper.{origin-same}
-use Rattle.macroblock.proofs.Reading.{read-says, step-rises, step-small}
+use Rattle.macroblock.proofs.Reading.{read-says, step-rises}
 use Rattle.motion.proofs.ByScales.{accepted}
 use Rattle.common.specs.Bases.{BaseRight}
 use Rattle.upsample.proofs.Naming.{InBase}
@@ -65,7 +65,6 @@ module _ (g : Axes) (base : List ℤ) (right : BaseRight g base) (column row : �
 
   -- what is known of the axes' readings at a macroblock
   pub record Known (h v : AxisRead) : Type 0 where
-    pub within : (h .inside && v .inside) ≡ true → inside g column row ≡ true
     pub named-below : (h .inside && v .inside) ≡ true → InBase base (addressesOf g (originBy h v))
     pub named : (h .inside && v .inside) ≡ true → addressesRead g column row ≡ addressesOf g (originBy h v)
     pub unnamed : (h .inside && v .inside) ≡ false → addressesRead g column row ≡ []
@@ -83,7 +82,6 @@ module _ (g : Axes) (base : List ℤ) (right : BaseRight g base) (column row : �
       let to : (P : AxisRead → AxisRead → Type 0) → inside g column row ≡ true → P hor ver → P across down =
       λ P e p. subst (λ (s : AxisRead). P s down) (sym (x e)) (subst (P hor) (sym (y e)) p) in
       record {
-        within = λ t. sym says ∙ t;
         named-below = λ t.
             let e = sym says ∙ t in
             to (λ h v. InBase base (addressesOf g (originBy h v))) e (subst (λ (o : Origin). InBase base (addressesOf g o)) (origin-same g (right .axes) column row base e) (named-in e));

@@ -29,7 +29,7 @@ use Rattle.definitions.proofs.RecordLists.{all-formed}
 use Rattle.definitions.proofs.Verdicts.{then-verdict, refused-first, both-passed, first-passed}
 use Rattle.common.specs.Bases.{BaseRight}
 use Rattle.macroblock.specs.declared.AxisRead.{AxisRead}
-use Rattle.macroblock.specs.Made.{Makeable, answerBy, fixedOf, madeBy, readOf, writtenBy}
+use Rattle.macroblock.specs.Made.{answerBy, fixedOf, madeBy, readOf, writtenBy}
 use Rattle.macroblock.proofs.Paper.{placed-by}
 use Rattle.upsample.specs.declared.site.Site.{Site}
 use Rattle.upsample.specs.declared.site.Place.{Place}

@@ -24,13 +24,14 @@ use macroblock::fixed_of;
 use macroblock::is_two;
 
 // ---- Refusals 1 to 7
-// A macroblock of the picture.
+// A macroblock of the picture, with its geometry.
 pub struct Place {
     pub axes: Axes,
     pub column: u32,
     pub row: u32,
 }
 
+// Such a macroblock, or the first refusal of 1 to 7.
 pub enum Placing {
     Place(Place),
     Refused(Refusal),
@@ -57,6 +58,7 @@ fn place_in(g: Axes, words: usize, column: i32, row: i32, lent: usize) -> Placin
     Placing::Refused(refused(refusals::POSITION))
 }
 
+// Refusals 1 to 7.
 pub fn place_of(n: Numbers, words: usize, column: i32, row: i32, lent: usize) -> Placing
     ensures { λ r. ⌜ ((base out : List ℤ) → length base ≡ words → length out ≡ lent → r ≡ placingOf n base column row out) ⌝ }
 {
@@ -98,6 +100,7 @@ fn run_of(width: usize, h: AxisRead, row: u32, read: bool) -> Run
     Run { from, to: from + 1 }
 }
 
+// The site of a macroblock of the picture.
 pub fn site_of(p: Place) -> Site
     requires { ⌜ AcceptedAxes (p .axes) × (p .column < 256) × (p .row < 256) ⌝ }
     ensures { λ r. ⌜ r ≡ siteOf p ⌝ }

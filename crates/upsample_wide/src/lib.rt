@@ -16,11 +16,14 @@ use upsample::site::Site;
 use upsample::site::place_of;
 use upsample::site::site_of;
 
-// The records that a macroblock reads.
+// Refusal 8 on the records that a macroblock reads, those of the upper row first.
 fn check_runs(base: &[i32], upper: Run, lower: Run) -> Verdict
     requires { ⌜ RunIn (now base) upper × RunIn (now base) lower ⌝ }
     ensures { λ r. ⌜ r ≡ verdictOf (recordTests wide (now (base .entry)) (runsOf upper lower)) ⌝ }
 {
+    if lower.to == 0 {
+        return check(base, upper.from, upper.to);
+    }
     match check(base, upper.from, upper.to) {
         Verdict::Accepted => check(base, lower.from, lower.to),
         Verdict::Refused(r) => Verdict::Refused(r),

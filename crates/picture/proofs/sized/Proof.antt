@@ -1,5 +1,5 @@
 -- `picture::sized` meets its contract. Assumes nothing.
-use mathlib.Core.Path.{_≡_, sym, ap, subst, _∙_}
+use mathlib.Core.Path.{sym, ap, subst, _∙_}
 use Rattle.definitions.specs.Accepted.{AcceptedAxes}
 use Rattle.definitions.specs.Refusals.{verdictOf}
 use Rattle.definitions.specs.declared.Axes.{Axes}

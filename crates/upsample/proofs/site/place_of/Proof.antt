@@ -1,5 +1,5 @@
 -- `upsample::site::place_of` meets its contract. Assumes nothing.
-use mathlib.Core.Path.{sym, ap, subst, _∙_}
+use mathlib.Core.Path.{sym, subst, _∙_}
 use mir.Facts.{toZ-ofZ}
 use Rattle.definitions.specs.Accepted.{AcceptedAxes}
 use Rattle.geometry.proofs.Verdicts.{checked-accepted, checked-refused, checked-valid}
