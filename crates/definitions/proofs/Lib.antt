@@ -21,7 +21,6 @@ pub mod Sets
 pub mod Answers
 pub mod Apart
 pub mod Widths
-pub mod WideCases
 pub mod Sameness
 pub mod Blocks
 pub mod Addresses
