@@ -13,7 +13,7 @@ pub const NO_COUNTS: Counts = Counts {
 };
 
 // Which answer it is.
-#[derive(Drop)]
+#[derive(Clone, Copy)]
 pub enum Sort {
     Inherited,
     Intra,

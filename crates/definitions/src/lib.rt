@@ -1,19 +1,20 @@
 // The types that the definitions of specs/ speak of, the words of a record, and the limits of vectors. No function stands here.
+#![tactic(auto)]
 
 // ---- Geometry
 // Two scales, in luma samples, and a position on one never serves on the other: base samples (003's base layer reference) and enhancement samples
 // (its high layer reference). A displacement on the enhancement scale has a sign.
-#[derive(Drop)]
+#[derive(Clone, Copy)]
 pub struct BaseSample(pub u32);
 
-#[derive(Drop)]
+#[derive(Clone, Copy)]
 pub struct EnhancementSample(pub u32);
 
-#[derive(Drop)]
+#[derive(Clone, Copy)]
 pub struct EnhancementOffset(pub i32);
 
 // An axis as it is lent: any numbers.
-#[derive(Drop)]
+#[derive(Clone, Copy)]
 pub struct AxisNumbers {
     pub base: i32,
     pub scaled: i32,
@@ -21,14 +22,14 @@ pub struct AxisNumbers {
     pub full: i32,
 }
 
-#[derive(Drop)]
+#[derive(Clone, Copy)]
 pub struct Numbers {
     pub horizontal: AxisNumbers,
     pub vertical: AxisNumbers,
 }
 
 // An axis: B, S, o and E of document 01.
-#[derive(Drop)]
+#[derive(Clone, Copy)]
 pub struct Axis {
     pub base: BaseSample,
     pub scaled: EnhancementSample,
@@ -36,7 +37,7 @@ pub struct Axis {
     pub full: EnhancementSample,
 }
 
-#[derive(Drop)]
+#[derive(Clone, Copy)]
 pub struct Axes {
     pub horizontal: Axis,
     pub vertical: Axis,
@@ -44,7 +45,7 @@ pub struct Axes {
 
 // What an axis gives for one macroblock: k, M (003's MbBorder), N (its B8x8Border), F, whether two columns (rows) are read, the base 4 by 4
 // coordinates that the four blocks along the axis read, and how many of these fall in the first column (row; document 02, E5).
-#[derive(Drop)]
+#[derive(Clone, Copy)]
 pub struct AxisStep {
     pub k: u32,
     pub border: EnhancementOffset,
@@ -55,7 +56,7 @@ pub struct AxisStep {
     pub falls: u32,
 }
 
-#[derive(Drop)]
+#[derive(Clone, Copy)]
 pub enum Class {
     Corner,
     Vert,
@@ -73,21 +74,21 @@ pub const NARROW: u32 = 8192;
 pub const WIDE: u32 = 131072;
 
 // A list's part of a block's motion: its reference, -1 unused, and its vector in quarter samples. (In 32 bits, for records of both widths: document 02, E12.)
-#[derive(Drop)]
+#[derive(Clone, Copy)]
 pub struct Prediction {
     pub reference: i32,
     pub x: i32,
     pub y: i32,
 }
 
-#[derive(Drop)]
+#[derive(Clone, Copy)]
 pub struct Motion {
     pub list0: Prediction,
     pub list1: Prediction,
 }
 
 // ---- Splits
-#[derive(Drop)]
+#[derive(Clone, Copy)]
 pub enum SubSplit {
     S8x8,
     S8x4,
@@ -96,7 +97,7 @@ pub enum SubSplit {
 }
 
 // The sub-splits of quadrants 0 to 3.
-#[derive(Drop)]
+#[derive(Clone, Copy)]
 pub struct SubSplits {
     pub a: SubSplit,
     pub b: SubSplit,
@@ -104,7 +105,7 @@ pub struct SubSplits {
     pub d: SubSplit,
 }
 
-#[derive(Drop)]
+#[derive(Clone, Copy)]
 pub enum Split {
     S16x16,
     S16x8,
@@ -114,7 +115,7 @@ pub enum Split {
 
 // ---- The answer
 // What an answer names: the class, and the first base column and row.
-#[derive(Drop)]
+#[derive(Clone, Copy)]
 pub struct Origin {
     pub class: Class,
     pub column: u32,
@@ -123,7 +124,7 @@ pub struct Origin {
 
 // What an answer says of a macroblock inside the window, besides its split: what it names; which of its quadrants carry detail (document 02, E7): bit q of 0..15 is quadrant
 // q's; and how many of its sixteen blocks read the base macroblocks at first, right, below and diagonal (E5).
-#[derive(Drop)]
+#[derive(Clone, Copy)]
 pub struct Basis {
     pub origin: Origin,
     pub detail: u8,
@@ -133,7 +134,7 @@ pub struct Basis {
     pub diagonal: u8,
 }
 
-#[derive(Drop)]
+#[derive(Clone, Copy)]
 pub enum Answer {
     Outside,
     Intra(Basis),
@@ -142,48 +143,48 @@ pub enum Answer {
 
 // ---- Refusals
 // Document 01's number, the place (0 unless given), and of refusal 8 the broken rule (else 0).
-#[derive(Drop)]
+#[derive(Clone, Copy)]
 pub struct Refusal {
     pub number: u32,
     pub place: u32,
     pub rule: u32,
 }
 
-#[derive(Drop)]
+#[derive(Clone, Copy)]
 pub enum Verdict {
     Accepted,
     Refused(Refusal),
 }
 
 // ---- Calls
-#[derive(Drop)]
+#[derive(Clone, Copy)]
 pub enum MacroblockReply {
     Answered(Answer),
     Refused(Refusal),
 }
 
-#[derive(Drop)]
+#[derive(Clone, Copy)]
 pub struct Counts {
     pub inherited: u32,
     pub intra: u32,
     pub outside: u32,
 }
 
-#[derive(Drop)]
+#[derive(Clone, Copy)]
 pub enum PictureReply {
     Counted(Counts),
     Refused(Refusal),
 }
 
 // What a text gives: the geometry's numbers and the count of record lines.
-#[derive(Drop)]
+#[derive(Clone, Copy)]
 pub struct TextRead {
     pub numbers: Numbers,
     pub lines: u32,
 }
 
 // `NoPicture`: the text has no bytes (document 02, E2).
-#[derive(Drop)]
+#[derive(Clone, Copy)]
 pub enum TextReply {
     NoPicture,
     Read(TextRead),
@@ -191,14 +192,14 @@ pub enum TextReply {
 }
 
 // What the log call gives: the length of the log, the verdict on the text that its lines say, and whether the text is empty and so means no picture; or why none is written.
-#[derive(Drop)]
+#[derive(Clone, Copy)]
 pub struct Logged {
     pub bytes: usize,
     pub verdict: Verdict,
     pub empty: bool,
 }
 
-#[derive(Drop)]
+#[derive(Clone, Copy)]
 pub enum LogReply {
     Written(Logged),
     Refused(Refusal),

@@ -1,4 +1,6 @@
 // The detail of a macroblock (document 02, E7): which of its quadrants read base quadrants that have detail. By the block map alone, before any filling.
+#![tactic(auto)]
+
 ghost use Rattle.std.specs.Prelude.{◌*◌, ◌+◌, ◌/◌, ◌<◌, ◌≤◌, nat_abs, get_or, ◌≡◌};
 ghost use Rattle.definitions.specs.Record.{detail_of, narrow};
 ghost use Rattle.details.specs.Bits.{InOne, detail_by, details_by, four_masked, halves_of, is_own, masked, masked_by};

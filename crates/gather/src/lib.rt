@@ -1,4 +1,6 @@
 // Reading by the block map: the motions that the blocks of a macroblock read, and which of the macroblocks that are read are intra.
+#![tactic(auto)]
+
 ghost use Rattle.std.specs.Prelude.{ℕ, ◌<◌, ◌≤◌, pos, get_or, length, ◌≡◌};
 ghost use Rattle.definitions.specs.Basics.{eq_z, pick, set_of};
 ghost use Rattle.definitions.specs.Blocks.{quadrant_of};
@@ -22,7 +24,7 @@ pub fn address_of(width: usize, x: u16, y: u16) -> usize
 
 // ---- Motions
 // What a coordinate adds to the places of a block's vectors and references in the base.
-#[derive(Drop)]
+#[derive(Clone, Copy)]
 pub struct Spot {
     pub vectors: usize,
     pub references: usize,
@@ -129,7 +131,7 @@ pub fn reads_single(base: &[i16], width: usize, x: u16, y: u16) -> bool
 
 // ---- The intra set
 // Which of the macroblocks that are read are intra. What is read lies in the columns of the first and the last block, and in their rows, since coordinates rise: these are all (`set-corners`).
-#[derive(Drop)]
+#[derive(Clone, Copy)]
 pub struct Corners {
     pub first: bool,
     pub right: bool,

@@ -1,4 +1,6 @@
 // Reading by the block map from a base of wide words (document 02, E12): the motions that the blocks of a macroblock read, which of the macroblocks that are read are intra, and its detail.
+#![tactic(auto)]
+
 ghost use Rattle.std.specs.Prelude.{◌<◌, ◌≤◌, nat_abs, pos, get_or, length, ◌≡◌};
 ghost use Rattle.definitions.specs.Record.{detail_of, is_intra, wide};
 ghost use Rattle.details.specs.Bits.{detail_by, details_by, halves_of};

@@ -1,4 +1,6 @@
 // The geometry of the two layers: numbers that refusals 1 to 4 accept, and what an axis gives for one macroblock.
+#![tactic(auto)]
+
 pub mod map; // map.rt: the block map
 pub mod sign; // sign.rt: the size and the sign of a displacement
 pub mod step; // step.rt: an axis, for one macroblock, and the class of both
@@ -18,12 +20,12 @@ use definitions::{
 pub use step::{axis_step, class_of, is_inside};
 
 // A geometry that refusals 1 to 4 accept. Only `new` makes one.
-#[derive(Drop)]
+#[derive(Clone, Copy)]
 pub struct Geometry {
     axes: Axes,
 }
 
-#[derive(Drop)]
+#[derive(Clone, Copy)]
 pub enum Checked {
     Geometry(Geometry),
     Refused(Refusal),

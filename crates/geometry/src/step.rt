@@ -60,7 +60,7 @@ pub fn axis_step(a: Axis, p: EnhancementSample) -> AxisStep
 // ---- 1. The centre (3.1.2)
 // The macroblock's centre: c, which is XP0 + 8, on the high layer's scale, counted from the window's edge; Z, which is XC, in the base layer; k, which is XC >> 3.
 // 003 has the formula of XC first and then that of XP0, which stands in it.
-#[derive(Drop)]
+#[derive(Clone, Copy)]
 struct Centred {
     c: EnhancementSample,
     z: BaseSample,
@@ -87,7 +87,7 @@ fn high_layer_centre(a: Axis, p: EnhancementSample) -> EnhancementSample
     EnhancementSample((p.0 as i32 - a.offset.0) as u32 + 8)
 }
 
-// XC = ((XP0 + 8) * BasePicWidth + BasePicWidth / 2) / ScaledBaseWidth: Z = (typeof.c.B + B/2) / S.
+// XC = ((XP0 + 8) * BasePicWidth + BasePicWidth / 2) / ScaledBaseWidth: Z = (c·B + B/2) / S.
 fn base_layer_centre(b: BaseSample, s: EnhancementSample, c: EnhancementSample) -> BaseSample
     requires { Inside b.0 s.0 c.0 }
     ensures { result.0 ≡ z_of b.0 s.0 c.0 }
@@ -97,7 +97,7 @@ fn base_layer_centre(b: BaseSample, s: EnhancementSample, c: EnhancementSample) 
 
 // ---- 2. Both distances (3.1.2)
 // From the centre to where the base's 8 by 8 block k starts, and to where it ends: dX1 and dX2, unrounded d1 and d2, rounded D1 and D2.
-#[derive(Drop)]
+#[derive(Clone, Copy)]
 struct FromCentre {
     d1: EnhancementOffset,
     d2: EnhancementOffset,
@@ -155,7 +155,7 @@ fn to_fours(d: EnhancementOffset) -> EnhancementOffset
 
 // ---- 4. The choice of border (3.1.2)
 // 3.1.1: MbBorderX is to the nearest base macroblock border, B8x8BorderX to the nearest base 8 by 8 block border, the one in a macroblock's middle: M and N.
-#[derive(Drop)]
+#[derive(Clone, Copy)]
 struct Borders {
     border: EnhancementOffset,
     border8: EnhancementOffset,
@@ -183,7 +183,7 @@ fn by_parity(k: u32, one: EnhancementOffset, other: EnhancementOffset) -> Enhanc
 
 // ---- 5. The columns (rows) read, and the class (3.2.1, 3.2.2)
 // F, and whether two are read, F and F + 1.
-#[derive(Drop)]
+#[derive(Clone, Copy)]
 struct Columns {
     first: u32,
     two: bool,

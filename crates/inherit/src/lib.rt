@@ -1,4 +1,6 @@
 // The intra set: its count, which of its blocks lie in a quadrant, and step 3 of "Inheriting", on four quadrants of four motions.
+#![tactic(auto)]
+
 ghost use Rattle.std.specs.Prelude.{◌<◌, ◌≡◌};
 ghost use Rattle.definitions.specs.Basics.{some_of};
 ghost use Rattle.definitions.specs.Inheriting.{clear_of, copied, copied_from, live_of, marked, mostly_intra};

@@ -1,4 +1,6 @@
 // The lines of a log, written into lent bytes from an offset on. Each function gives the offset after what it wrote.
+#![tactic(auto)]
+
 ghost use Rattle.definitions.specs.Log.{decimal, line_of};
 ghost use Rattle.log_lines.specs.Put.{Fits, Put, items_of};
 ghost use Rattle.std.specs.Prelude.{[], ◌∷◌, ◌≡◌, ◌+◌, ◌<◌};

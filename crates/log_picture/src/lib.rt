@@ -1,4 +1,6 @@
 // The lines of a picture's log, on a geometry and records that were checked.
+#![tactic(auto)]
+
 ghost use Rattle.std.specs.Prelude.{◌+◌, ◌≤◌, ◌<◌, length, [], ◌∷◌, ◌≡◌};
 ghost use Rattle.definitions.specs.Answer.{answer_type, made_of};
 ghost use Rattle.definitions.specs.Log.{answer_pieces, line_of, log_bytes, mb_word, picture_lines, sync_word};

@@ -2,6 +2,8 @@
 // As document 01 has it: in or out of the window; inside, the detail (document 02's E7; `detail_within`, `detail_of_more`), the intra set and its count of nine
 // (`corners_of`, `set_of`, `mostly_intra`), then steps 1 to 3 of "Inheriting" on motions by value (`fill`, `merge`, `copy`), and steps 4 and 5 as the record is written (`write_made`).
 // Where something goes round a step, its comment names the law that allows it.
+#![tactic(auto)]
+
 ghost use Rattle.std.specs.Prelude.{◌<◌, ◌≤◌, length, ◌&&◌, true, ◌≡◌};
 ghost use Rattle.definitions.specs.Accepted.{AcceptedAxes, AcceptedAxis};
 ghost use Rattle.definitions.specs.Inheriting.{filled, merged, resolved};
@@ -31,7 +33,7 @@ use writing::{scaled, write_made};
 
 // ---- What is fixed for a picture
 // The base's width in macroblocks, and the scales of both axes.
-#[derive(Drop)]
+#[derive(Clone, Copy)]
 pub struct Fixed {
     pub width: usize,
     pub scales: Scales,
@@ -51,7 +53,7 @@ pub fn fixed_of(g: Axes) -> Fixed
 // ---- An axis at a macroblock
 // Whether it is inside there, and then what of its step the making asks for.
 // Twelve bytes, since a picture keeps one for each column.
-#[derive(Drop)]
+#[derive(Clone, Copy)]
 pub struct AxisRead {
     pub reads: [u16; 4],
     pub halves: [u8; 2],
@@ -366,7 +368,7 @@ fn sub_split_of(word: i32) -> SubSplit
 }
 
 // What a written record says of its answer: the type, the sub-types and the detail, by value, for records of both widths.
-#[derive(Drop)]
+#[derive(Clone, Copy)]
 pub struct Said {
     pub kind: i32,
     pub a: i32,

@@ -1,5 +1,7 @@
 // What is made of one macroblock from a base of wide words (document 02, E12), on a geometry and records that were checked: as the crate macroblock has it for narrow ones, without its
 // short ways but those of a quadrant. Steps 1 to 3 are on motions by value, and the answer is made by `macroblock::answer_of`.
+#![tactic(auto)]
+
 ghost use Rattle.std.specs.Prelude.{◌≤◌, length, true, ◌≡◌};
 ghost use Rattle.definitions.specs.Inheriting.{filled, merged, resolved};
 ghost use Rattle.definitions.specs.Record.{record_words, rule7, wide};

@@ -1,4 +1,6 @@
 // A block's motion by value, and the scales of step 4 of "Inheriting" as document 02's E3 has it.
+#![tactic(auto)]
+
 ghost use Rattle.definitions.specs.Accepted.{AcceptedAxes, AcceptedAxis};
 ghost use Rattle.definitions.specs.Geometry.{base_size, scaled_size};
 ghost use Rattle.definitions.specs.Inheriting.{scale_of};
@@ -8,7 +10,7 @@ ghost use Rattle.std.specs.Prelude.{◌≡◌};
 use definitions::{Axes, Axis};
 
 // The references of both lists, -1 unused, and the vectors side by side, so that they are compared and scaled at once. In 32 bits, so that records of any width share it.
-#[derive(Drop)]
+#[derive(Clone, Copy)]
 pub struct BlockMotion {
     pub r0: i32,
     pub r1: i32,
@@ -19,14 +21,14 @@ pub struct BlockMotion {
 }
 
 // The scale of an axis in two parts of sixteen bits, 65,536 · whole + part, so that several words are multiplied at once.
-#[derive(Drop)]
+#[derive(Clone, Copy)]
 pub struct Scale {
     pub whole: i16,
     pub part: i16,
 }
 
 // Both axes': made once a picture, or once a call, and handed down.
-#[derive(Drop)]
+#[derive(Clone, Copy)]
 pub struct Scales {
     pub horizontal: Scale,
     pub vertical: Scale,

@@ -1,4 +1,6 @@
 // The picture call of document 01: all base records are checked, then every macroblock is made in raster order.
+#![tactic(auto)]
+
 ghost use Rattle.std.specs.Prelude.{◌*◌, ◌+◌, ◌<◌, ℤ, length, List, ◌≡◌};
 ghost use Rattle.definitions.specs.Accepted.{AcceptedAxes, AcceptedAxis};
 ghost use Rattle.definitions.specs.Calls.{counts_of, made_at, picture_call};
@@ -68,7 +70,7 @@ pub fn column_reads(a: Axis) -> [AxisRead; 256]
 }
 
 // A macroblock's column and row.
-#[derive(Drop)]
+#[derive(Clone, Copy)]
 pub struct Position {
     pub column: u32,
     pub row: u32,

@@ -1,4 +1,6 @@
 // The picture call of document 01 on records of wide words (document 02, E12): all base records are checked, then every macroblock is made in raster order.
+#![tactic(auto)]
+
 ghost use Rattle.std.specs.Prelude.{◌*◌, length, ◌≡◌};
 ghost use Rattle.definitions.specs.Calls.{counts_of, made_at, picture_call};
 ghost use Rattle.definitions.specs.Record.{record_words, wide};

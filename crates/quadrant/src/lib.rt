@@ -1,4 +1,6 @@
 // Steps 1 and 2 of "Inheriting", on one quadrant of four blocks in raster order, 0 1 above 2 3.
+#![tactic(auto)]
+
 ghost use Rattle.std.specs.Prelude.{◌≡◌, ◌<◌, nat_lt};
 ghost use Rattle.definitions.specs.Basics.{pick};
 ghost use Rattle.definitions.specs.Inheriting.{filled, merged, source};
@@ -75,7 +77,7 @@ fn lowest_of(p: i32, q: i32, s: i32, t: i32) -> i32
 }
 
 // Of one list: the lowest used reference, and the block whose vector each block takes with it.
-#[derive(Drop)]
+#[derive(Clone, Copy)]
 struct Sources {
     reference: i32,
     a: usize,

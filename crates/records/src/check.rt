@@ -9,7 +9,7 @@ use crate::layout::UNUSED;
 use definitions::NARROW;
 
 // low..high, both included
-#[derive(Drop)]
+#[derive(Clone, Copy)]
 pub struct Range {
     low: i16,
     high: i16,

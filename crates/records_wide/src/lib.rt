@@ -1,4 +1,6 @@
 // Motion records of 32-bit words (document 02, E12): reading, and the check.
+#![tactic(auto)]
+
 ghost use Rattle.std.specs.Prelude.{◌≡◌, true, ◌+◌, ◌*◌, ◌≤◌, ◌<◌, nat_abs, length};
 ghost use Rattle.definitions.specs.Record.{detail_of, is_intra, record_at, record_words, rule7, wide};
 ghost use Rattle.definitions.specs.Refusals.{record_tests, verdict_of};

@@ -1,4 +1,6 @@
 // The rules of a well-formed motion record, once for both widths (document 02, E12): on records of 32-bit words, with the limit of vectors as an argument.
+#![tactic(auto)]
+
 ghost use Rattle.std.specs.Prelude.{◌≡◌, ℕ, ◌+◌, ◌*◌, ◌-◌, ◌≤◌, ◌<◌, pos, length};
 ghost use Rattle.std.specs.Int.Bits.{bit_and};
 ghost use Rattle.definitions.specs.Basics.{between, eq_z, minus};
@@ -17,7 +19,7 @@ use records::layout;
 const UNUSED: i32 = layout::UNUSED as i32;
 
 // low..high, both included
-#[derive(Drop)]
+#[derive(Clone, Copy)]
 struct Range {
     low: i32,
     high: i32,

@@ -1,5 +1,7 @@
 // A quick scan of motion records of 16-bit words, which passes those that are well formed and no other. Of the first that it does not pass the crate rules tells what it breaks.
 // Tests joined by `&` and `|` have no branch between them, and the compiler takes several words at once.
+#![tactic(auto)]
+
 ghost use Rattle.std.specs.Prelude.{◌≡◌, true, false, ◌&&◌, ℕ, ◌*◌, ◌≤◌, ◌<◌, pos, length};
 ghost use Rattle.definitions.specs.Basics.{all_below, eq_z};
 ghost use Rattle.definitions.specs.Record.{is_intra, narrow, record_at, record_words, rule2, rule3, rule4, rule7, type_of, well_formed};

@@ -1,4 +1,6 @@
 // The session of document 01: one picture made macroblock by macroblock, with a state that is handed over and back by value.
+#![tactic(auto)]
+
 ghost use Rattle.std.specs.Prelude.{◌<◌, false, ◌≡◌};
 ghost use Rattle.definitions.specs.Accepted.{AcceptedAxes};
 ghost use Rattle.definitions.specs.Calls.{sum_of};
@@ -17,7 +19,7 @@ use upsample::upsample_macroblock;
 
 // Nothing begun; or the geometry's numbers, and the counts of the accepted next calls. Any value can be handed over: one that no list of calls
 // makes is answered as a fresh one.
-#[derive(Drop)]
+#[derive(Clone, Copy)]
 pub struct Session {
     pub begun: bool,
     pub numbers: Numbers,
@@ -25,28 +27,28 @@ pub struct Session {
 }
 
 // What begin and abandon hand back.
-#[derive(Drop)]
+#[derive(Clone, Copy)]
 pub struct Judged {
     pub session: Session,
     pub verdict: Verdict,
 }
 
 // What next hands back.
-#[derive(Drop)]
+#[derive(Clone, Copy)]
 pub struct Advanced {
     pub session: Session,
     pub reply: MacroblockReply,
 }
 
 // What totals hands back.
-#[derive(Drop)]
+#[derive(Clone, Copy)]
 pub struct Totalled {
     pub session: Session,
     pub counts: Counts,
 }
 
 // Where a session stands: nothing begun, or the next macroblock's column and row, or after the last macroblock.
-#[derive(Drop)]
+#[derive(Clone, Copy)]
 pub enum Stage {
     Nothing,
     Unfinished(u32, u32),

@@ -9,7 +9,7 @@ use Rattle.definitions.specs.declared.LogReply.TheVariants.{Written, Refused as 
 use Rattle.definitions.specs.Text.{TextAnswer}
 use Rattle.definitions.specs.Log.{LogAnswer}
 use Rattle.sync_text.specs.Promised.{TextPromised}
-use Rattle.log.specs.Promised.{LogPromised}
+use Rattle.log_text.specs.Promised.{LogPromised}
 use Rattle.spiewomir.specs.declared.GeometryNumbers.{GeometryNumbers}
 use Rattle.spiewomir.specs.declared.TextResult.{TextResult}
 use Rattle.spiewomir.specs.declared.LogResult.{LogResult}

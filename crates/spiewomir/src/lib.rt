@@ -1,4 +1,6 @@
 // The C interface: the calls on numbers and slices, with results by value. include/spiewomir.h declares it.
+#![tactic(auto)]
+
 ghost use Rattle.definitions.specs.Record.{narrow, wide};
 ghost use Rattle.definitions.specs.Answer.{answer_basis};
 ghost use Rattle.definitions.specs.Calls.{macroblock_call, picture_call};
@@ -25,7 +27,7 @@ use upsample_wide::upsample_macroblock_wide;
 
 // Width and height of the base, the scaled base, the window's offset, and the full picture: any numbers.
 #[repr(C)]
-#[derive(Drop)]
+#[derive(Clone, Copy)]
 pub struct GeometryNumbers {
     pub bw: i32,
     pub bh: i32,
@@ -39,7 +41,7 @@ pub struct GeometryNumbers {
 
 // A refusal's number, place and rule, or 0, 0, 0 and the answer: its type, sub-types, class (Corner, Vert, Hori, Center), first base column and row.
 #[repr(C)]
-#[derive(Drop)]
+#[derive(Clone, Copy)]
 pub struct MacroblockResult {
     pub refusal: u32,
     pub place: u32,
@@ -60,7 +62,7 @@ pub struct MacroblockResult {
 }
 
 #[repr(C)]
-#[derive(Drop)]
+#[derive(Clone, Copy)]
 pub struct PictureResult {
     pub refusal: u32,
     pub place: u32,
@@ -72,7 +74,7 @@ pub struct PictureResult {
 
 // A session: begun (1, any other number is nothing begun), its geometry, and the counts of its accepted next calls.
 #[repr(C)]
-#[derive(Drop)]
+#[derive(Clone, Copy)]
 pub struct SessionNumbers {
     pub begun: u32,
     pub geometry: GeometryNumbers,
@@ -82,7 +84,7 @@ pub struct SessionNumbers {
 }
 
 #[repr(C)]
-#[derive(Drop)]
+#[derive(Clone, Copy)]
 pub struct JudgedResult {
     pub session: SessionNumbers,
     pub refusal: u32,
@@ -91,14 +93,14 @@ pub struct JudgedResult {
 }
 
 #[repr(C)]
-#[derive(Drop)]
+#[derive(Clone, Copy)]
 pub struct AdvancedResult {
     pub session: SessionNumbers,
     pub macroblock: MacroblockResult,
 }
 
 #[repr(C)]
-#[derive(Drop)]
+#[derive(Clone, Copy)]
 pub struct TotalsResult {
     pub session: SessionNumbers,
     pub inherited: u32,
@@ -108,7 +110,7 @@ pub struct TotalsResult {
 
 // A refusal's number, place and rule, or 0, 0, 0, the geometry's numbers and the count of record lines; `empty` is 1 where the text means no picture, and then all else is 0.
 #[repr(C)]
-#[derive(Drop)]
+#[derive(Clone, Copy)]
 pub struct TextResult {
     pub refusal: u32,
     pub place: u32,
@@ -121,7 +123,7 @@ pub struct TextResult {
 // The call's own refusal, 6 or 0; and, with 0, the log's count of bytes and the text's refusal that it says, with its place and rule, or 0, 0, 0;
 // `empty` is 1 where the text means no picture. (The header's `text_refusal` is `text` here.)
 #[repr(C)]
-#[derive(Drop)]
+#[derive(Clone, Copy)]
 pub struct LogResult {
     pub refusal: u32,
     pub text: u32,
@@ -573,7 +575,7 @@ fn written_result(l: Logged) -> LogResult
 pub extern "C" fn spiewomir_log(text: &[u8], out: &mut [u8]) -> LogResult
     ensures { LogGiven text.now out.old result out.new }
 {
-    match log::log(text, out) {
+    match log_text::log(text, out) {
         LogReply::Written(l) => written_result(l),
         LogReply::Refused(r) => LogResult {
             refusal: r.number,

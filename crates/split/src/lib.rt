@@ -1,4 +1,6 @@
 // Step 5 of "Inheriting" on motions by value; and the number of a split's pieces.
+#![tactic(auto)]
+
 ghost use Rattle.std.specs.Prelude.{◌≤◌, [], ◌∷◌, ◌≡◌};
 ghost use Rattle.definitions.specs.Inheriting.{chosen};
 ghost use Rattle.definitions.specs.Record.{sub_type_number};
@@ -46,7 +48,7 @@ fn type_of(a: BlockMotion, b: BlockMotion, c: BlockMotion, d: BlockMotion) -> u8
 }
 
 // The type of a split, and the sub-types of quadrants 0 to 3.
-#[derive(Drop)]
+#[derive(Clone, Copy)]
 pub struct Types {
     pub kind: u8,
     pub a: u8,

@@ -1,16 +1,18 @@
 // The log program: a sync text from standard input, its log to standard output.
+#![tactic(auto)]
+
 ghost use Rattle.std.specs.Prelude.{◌≤◌, length, replicate, ◌≡◌};
 ghost use Rattle.definitions.specs.Log.{LogAnswer, log_bytes};
 ghost use Rattle.sync_log.specs.Input.{InputRead};
 
 use definitions::{LogReply, Logged, Verdict};
-use log::LOG_BYTES;
+use log_text::LOG_BYTES;
 
 // One byte more than the longest text, which tells a longer one: of a longer input these bytes have the log of all (`first-bytes` of crate grammar).
 const TEXT_ROOM: usize = 65537;
 
 // The bytes that were read, up to the end of the input or of the room for them; or a read failed.
-#[derive(Drop)]
+#[derive(Clone, Copy)]
 enum Input {
     Text(usize),
     Failed,
@@ -47,7 +49,7 @@ fn log_of(text: &[u8], out: &mut [u8]) -> Logged
     requires { log_bytes ≤ length out.old }
     ensures { LogAnswer text.now out.old (LogReply.Written result) out.new }
 {
-    match log::log(text, out) {
+    match log_text::log(text, out) {
         LogReply::Written(l) => l,
         // Never: there is room.
         LogReply::Refused(_) => Logged {

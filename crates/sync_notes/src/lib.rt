@@ -1,4 +1,6 @@
 // Reading the notes of a text, and the fixed bytes of its lines.
+#![tactic(auto)]
+
 ghost use Rattle.std.specs.Prelude.{◌≤◌, length};
 ghost use Rattle.definitions.specs.Text.{All, Letter, Item, Rest};
 ghost use Rattle.grammar.specs.Readers.{Exactly, Items, NoteTail, ReadAt, Stands};

@@ -1,4 +1,6 @@
 // Reading the numbers of a text. A number is read as long as it goes: what comes after it is the caller's.
+#![tactic(auto)]
+
 ghost use Rattle.std.specs.Prelude.{◌≡◌, ◌≤◌, length};
 ghost use Rattle.definitions.specs.Text.{Number};
 ghost use Rattle.grammar.specs.Readers.{byte_class_of, AfterMinus, DigitsAt, FieldOf, NumAt};
@@ -6,7 +8,7 @@ ghost use Rattle.grammar.specs.Readers.{byte_class_of, AfterMinus, DigitsAt, Fie
 use grammar::{ByteClass, Num};
 
 // What digits are worth, and where they end.
-#[derive(Drop)]
+#[derive(Clone, Copy)]
 struct Digits {
     worth: u32,
     end: usize,

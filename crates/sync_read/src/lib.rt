@@ -1,4 +1,6 @@
 // Reading a text whole: its head lines, and its notes and record lines up to the end. Lent words are written only once all of the text is read.
+#![tactic(auto)]
+
 ghost use Rattle.std.specs.Prelude.{◌+◌, ◌*◌, ◌≤◌, ◌<◌, length, ◌≡◌};
 ghost use Rattle.definitions.specs.Record.{record_words};
 ghost use Rattle.definitions.specs.Text.{head_numbers, text_records};

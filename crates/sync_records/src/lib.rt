@@ -1,5 +1,7 @@
 // Reading the record lines of a text: each reader stores the words in the buffer that it is lent once it has read them all, so that bad bytes leave
 // every lent word.
+#![tactic(auto)]
+
 ghost use Rattle.std.specs.Prelude.{◌+◌, ◌<◌, ◌≤◌, length, [], ◌∷◌, ◌≡◌};
 ghost use Rattle.std.proofs.lemmas.List.Edits.{sets};
 ghost use Rattle.std.specs.Int.{w16};

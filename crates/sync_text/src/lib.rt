@@ -1,4 +1,6 @@
 // The text call: a text of no bytes means no picture (document 02, E2). It tests the lengths, reads the whole text, and tests the count of record lines.
+#![tactic(auto)]
+
 ghost use Rattle.definitions.specs.Text.{TextAnswer};
 ghost use Rattle.sync_text.specs.Promised.{TextPromised};
 

@@ -1,4 +1,6 @@
 // The one-macroblock call of document 01.
+#![tactic(auto)]
+
 pub mod site; // site.rt: refusals 1 to 7, and the records that are read
 
 ghost use Rattle.definitions.specs.Calls.{macroblock_call};

@@ -13,7 +13,7 @@ use macroblock::{AxisRead, Fixed, axis_read, fixed_of, is_two};
 
 // ---- Refusals 1 to 7
 // A macroblock of the picture, with its geometry.
-#[derive(Drop)]
+#[derive(Clone, Copy)]
 pub struct Place {
     pub axes: Axes,
     pub column: u32,
@@ -21,7 +21,7 @@ pub struct Place {
 }
 
 // Such a macroblock, or the first refusal of 1 to 7.
-#[derive(Drop)]
+#[derive(Clone, Copy)]
 pub enum Placing {
     Place(Place),
     Refused(Refusal),
@@ -60,14 +60,14 @@ pub fn place_of(n: Numbers, words: usize, column: i32, row: i32, lent: usize) ->
 
 // ---- The records that a macroblock reads
 // Records next to each other in the base: from .. to - 1.
-#[derive(Drop)]
+#[derive(Clone, Copy)]
 pub struct Run {
     pub from: usize,
     pub to: usize,
 }
 
 // What is fixed for the picture, the two axes at the macroblock, and the records that it reads: those of an upper row and of a lower one.
-#[derive(Drop)]
+#[derive(Clone, Copy)]
 pub struct Site {
     pub fixed: Fixed,
     pub h: AxisRead,

@@ -1,4 +1,6 @@
 // The one-macroblock call of document 01 on records of wide words (document 02, E12).
+#![tactic(auto)]
+
 ghost use Rattle.definitions.specs.Calls.{macroblock_call};
 ghost use Rattle.definitions.specs.Record.{wide};
 ghost use Rattle.definitions.specs.Refusals.{record_tests, verdict_of};

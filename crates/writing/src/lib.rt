@@ -1,4 +1,6 @@
 // Writing what was made of a macroblock into a record of narrow words: step 4 of "Inheriting", as document 02's E3 has it, while the vectors are written, and step 5, the split.
+#![tactic(auto)]
+
 ghost use Rattle.std.specs.Prelude.{◌<◌, ◌≤◌, pos, length, true, [], ◌∷◌, ◌++◌, ◌≡◌};
 ghost use Rattle.definitions.specs.Answer.{divided_by};
 ghost use Rattle.definitions.specs.Blocks.{raster_of};

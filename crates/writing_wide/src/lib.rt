@@ -1,4 +1,6 @@
 // Writing what was made of a macroblock into a record of wide words (document 02, E12): step 4 of "Inheriting" while the vectors are written, and step 5, the split.
+#![tactic(auto)]
+
 ghost use Rattle.std.specs.Prelude.{◌<◌, ◌≤◌, pos, length, true, ◌++◌, ◌≡◌};
 ghost use Rattle.definitions.specs.Answer.{divided_by, without_motion};
 ghost use Rattle.definitions.specs.Blocks.{raster_of};

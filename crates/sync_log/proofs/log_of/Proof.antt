@@ -1,5 +1,5 @@
 -- `sync_log::log_of` meets its contract. Assumes nothing.
-use Rattle.log.proofs.Stages.{never-refused}
+use Rattle.log_text.proofs.Stages.{never-refused}
 use borrow.Author.Rules.{rules}
 use Rattle.sync_log.proofs.log_of.Statement.{statement}
 use Rattle.sync_log.proofs.log_of.Tie as tie

@@ -1,7 +1,7 @@
 -- `sync_log::main` meets its contract. Assumes nothing.
 use mathlib.Core.Path.{sym}
 use lib.Seq.{length-take-le}
-use Rattle.log.proofs.Stages.{log-within}
+use Rattle.log_text.proofs.Stages.{log-within}
 use borrow.Author.Rules.{rules}
 use Rattle.sync_log.proofs.main.Statement.{statement}
 use Rattle.sync_log.proofs.main.Tie as tie

@@ -3,8 +3,8 @@ use Rattle.std.specs.Prelude.{ℕ, List, ◌++◌, length, drop}
 use Rattle.definitions.specs.declared.Refusal.{Refusal}
 use Rattle.definitions.specs.Text.{Reading, Reads}
 use Rattle.definitions.specs.Log.{Finding, finds_none, refuses, makes, finding_of}
-use Rattle.log.specs.declared.Found.{Found}
-use Rattle.log.specs.declared.Found.TheVariants.{NoPicture, Made, Refused}
+use Rattle.log_text.specs.declared.Found.{Found}
+use Rattle.log_text.specs.declared.Found.TheVariants.{NoPicture, Made, Refused}
 
 pub data Given (out : List ℕ) : Finding → Found → List ℕ → Type 0 where
   nothing_found : Given out finds_none NoPicture out

@@ -1,4 +1,4 @@
--- `log::read_lines` meets its contract. Assumes nothing.
+-- `log_text::read_lines` meets its contract. Assumes nothing.
 use Prim.Native.Nat.{ℕ, ◌*◌}
 use mathlib.Core.Path.{◌≡◌, sym, ap, subst, ◌∙◌}
 use Rattle.definitions.specs.declared.Verdict.TheVariants.{Accepted}
@@ -14,10 +14,10 @@ use Rattle.common.proofs.Judging.{failed, held}
 use borrow.Author.Tests.{eqb-true, eqb-false}
 use lib.ListN.{length}
 use native.Mathlib.Omega.{arith}
-use Rattle.log.proofs.Stages.{wrong-numbers, wrong-count, wrong-record, right-records}
+use Rattle.log_text.proofs.Stages.{wrong-numbers, wrong-count, wrong-record, right-records}
 use borrow.Author.Rules.{rules}
-use Rattle.log.proofs.read_lines.Statement.{statement}
-use Rattle.log.proofs.read_lines.Tie as tie
+use Rattle.log_text.proofs.read_lines.Statement.{statement}
+use Rattle.log_text.proofs.read_lines.Tie as tie
 
 -- the geometry is accepted
 geometry : (c : tie.After-axes) → (geometry_verdict c.before.before.before.before.before.before.before.args.t.numbers ≡ Accepted) × (c.axes.result ≡ axes_of c.before.before.before.before.before.before.before.args.t.numbers)

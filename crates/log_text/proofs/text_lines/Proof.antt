@@ -1,12 +1,12 @@
--- `log::text_lines` meets its contract. Assumes nothing.
+-- `log_text::text_lines` meets its contract. Assumes nothing.
 use mathlib.Core.Path.{sym}
 use lib.IntN.{pos}
 use lib.ListN.{length-replicate}
-use Rattle.log.specs.Given.{nothing_found, kept}
-use Rattle.log.proofs.Stages.{ReadWords, words-read, refused-read, empty-read}
+use Rattle.log_text.specs.Given.{nothing_found, kept}
+use Rattle.log_text.proofs.Stages.{ReadWords, words-read, refused-read, empty-read}
 use borrow.Author.Rules.{rules}
-use Rattle.log.proofs.text_lines.Statement.{statement}
-use Rattle.log.proofs.text_lines.Tie as tie
+use Rattle.log_text.proofs.text_lines.Statement.{statement}
+use Rattle.log_text.proofs.text_lines.Tie as tie
 
 -- the words of the record lines
 words_of : (c : tie.After-t) → ReadWords c.before.before.before.before.before.before.before.args.text.now c.t.given.0.0.numbers c.t.given.0.0.lines c.before.before.before.read-text.new.1.0

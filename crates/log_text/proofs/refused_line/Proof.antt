@@ -1,9 +1,9 @@
--- `log::no_picture_line` meets its contract. Assumes nothing.
-use Rattle.definitions.specs.Log.{no_picture_line}
-use Rattle.log.proofs.Stages.{no-picture-room}
+-- `log_text::refused_line` meets its contract. Assumes nothing.
+use Rattle.definitions.specs.Log.{refused_line}
+use Rattle.log_text.proofs.Stages.{refused-room}
 use borrow.Author.Rules.{rules}
-use Rattle.log.proofs.no_picture_line.Statement.{statement}
-use Rattle.log.proofs.no_picture_line.Tie as tie
+use Rattle.log_text.proofs.refused_line.Statement.{statement}
+use Rattle.log_text.proofs.refused_line.Tie as tie
 
 slice-aggregate-put-line : tie.Need-slice-aggregate-put-line
 slice-aggregate-put-line c = search rules
@@ -14,17 +14,17 @@ slice-aggregate-put-line-2 c = search rules
 put-line-requires : tie.Need-put-line-requires
 put-line-requires c κs =
     let s = c.before.before.before.before in
-    no-picture-room s.args.out.now s.requires
+    refused-room s.args.out.now _ _ s.requires.2 (search rules) (search rules)
 
 same_length : tie.Need-same-length
 same_length c = search rules
 
 returns : tie.Need-returns
-unfolding no_picture_line
+unfolding refused_line
 returns c = c.before.before.put-line.ensures
 
-pub no-picture-line-spec : {M : Type 1} → statement M
-no-picture-line-spec =
+pub refused-line-spec : {M : Type 1} → statement M
+refused-line-spec =
     tie.close
     (tie.spec
     slice-aggregate-put-line

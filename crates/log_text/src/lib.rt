@@ -1,10 +1,12 @@
 // The log of a sync text, from bytes to bytes.
+#![tactic(auto)]
+
 ghost use Rattle.std.specs.Prelude.{◌*◌, ◌≤◌, ◌<◌, length, ◌≡◌};
 ghost use Rattle.definitions.specs.Log.{LogAnswer, no_picture_line, judged, log_bytes, refused_line};
 ghost use Rattle.definitions.specs.Record.{record_words};
 ghost use Rattle.log_lines.specs.Put.{Put};
-ghost use Rattle.log.specs.Given.{Given, LinesGiven};
-ghost use Rattle.log.specs.Promised.{LogPromised};
+ghost use Rattle.log_text.specs.Given.{Given, LinesGiven};
+ghost use Rattle.log_text.specs.Promised.{LogPromised};
 
 use common::raster::base_count;
 use common::refusals;
@@ -21,7 +23,7 @@ use sync_text::{TEXT_WORDS, read_text};
 pub const LOG_BYTES: usize = 1179679;
 
 // What is found of a text: that it means no picture; its picture, whose lines have so many bytes; or its refusal.
-#[derive(Drop)]
+#[derive(Clone, Copy)]
 enum Found {
     NoPicture,
     Made(usize),

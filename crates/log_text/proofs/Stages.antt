@@ -38,10 +38,10 @@ use Rattle.definitions.specs.Accepted.{AcceptedAxes}
 use Rattle.definitions.specs.Raster.{base_count}
 use Rattle.log_lines.specs.Put.{Fits, Put}
 use Rattle.log_picture.proofs.Growing.{picture-short}
-use Rattle.log.specs.declared.Found.{Found}
-use Rattle.log.specs.declared.Found.TheVariants.{NoPicture as NoneFound, Made, Refused as Declined}
-use Rattle.log.specs.Given.{Given, nothing_found, kept, lines}
-use Rattle.log.specs.Promised.{AsJudged, LogPromised}
+use Rattle.log_text.specs.declared.Found.{Found}
+use Rattle.log_text.specs.declared.Found.TheVariants.{NoPicture as NoneFound, Made, Refused as Declined}
+use Rattle.log_text.specs.Given.{Given, nothing_found, kept, lines}
+use Rattle.log_text.specs.Promised.{AsJudged, LogPromised}
 
 -- ---- bytes put from the buffer's start on
 pub put_first : (out log new : List ℕ) (n : ℕ) → length log ≤ length out → Put out 0 log new n → (n ≡ length log) × (new ≡ log ++ drop (length log) out)

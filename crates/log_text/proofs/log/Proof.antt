@@ -1,12 +1,12 @@
--- `log::log` meets its contract. Assumes nothing.
+-- `log_text::log` meets its contract. Assumes nothing.
 use native.Mathlib.Omega.{arith}
 use mathlib.Core.Path.{refl, ap}
 use lib.ListN.{length}
 use Rattle.definitions.specs.Log.{too_few}
-use Rattle.log.proofs.Stages.{answered, empty-kept, empty-logged, lines-logged, refusal-kept, refusal-logged}
+use Rattle.log_text.proofs.Stages.{answered, empty-kept, empty-logged, lines-logged, refusal-kept, refusal-logged}
 use borrow.Author.Rules.{rules}
-use Rattle.log.proofs.log.Statement.{statement}
-use Rattle.log.proofs.log.Tie as tie
+use Rattle.log_text.proofs.log.Statement.{statement}
+use Rattle.log_text.proofs.log.Tie as tie
 
 refused-requires : tie.Need-refused-requires
 refused-requires c κs = search rules
