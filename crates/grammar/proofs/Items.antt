@@ -1,14 +1,13 @@
 -- The readers of notes: words, items, lists, the rest of a list, and a note.
 use Prim.Native.Nat.{ℕ, zero, suc, ◌≤◌, ◌<◌, ◌+◌, ◌-◌}
 use mathlib.Core.Path.{◌≡◌, refl, sym, ◌∙◌, ap, subst}
-use mathlib.Core.Logic.{inl, inr}
+use mathlib.Core.Logic.{◌⊎◌, ⊎_elim, inl, inr}
 use mathlib.Core.List.{List, [], ◌∷◌, ◌++◌, append_assoc, head-eq_of_cons-eq as heads, tail-eq_of_cons-eq as tails}
 use native.Mathlib.Omega.{arith}
 use native.Mathlib.Numerals.{add-one}
 use lib.IntN.{ℤ}
 use lib.ListN.{length, get_or, drop}
 use lib.Seq.{drop-cons}
-use types.Run.{OneOf, miss}
 use Rattle.definitions.specs.Text.{Letter, All, none, Word, word, Number, Rest, close, item, Listed, listed, Simple, is_word, is_number, Item, Note, note}
 use Rattle.grammar.specs.declared.ByteClass.{ByteClass}
 use Rattle.grammar.specs.declared.ByteClass.TheVariants.{Alpha, Zero, Nonzero, Dash, Open, Close, Space, Other}
@@ -27,15 +26,14 @@ use Rattle.grammar.proofs.Live.{a_word}
 use Rattle.grammar.proofs.Pieces.{part_none, part-first, part-next}
 use Rattle.grammar.proofs.Reading.{bad-here, stops-after, read-after, read_as, breaks-as, Separate, breaks-first, then-read, stands-as-here, breaks-as-here}
 use Rattle.grammar.proofs.Alone.{End, alone, rest-alone, listed-cat, cat-listed, simple-tall, all-at, item-separate}
-use Rattle.grammar.proofs.Numerals.{tag, all_more, number-cons, exactly-separate, exactly-more, exactly-bad}
+use Rattle.grammar.proofs.Numerals.{all_more, number-cons, exactly-separate, exactly-more, exactly-bad}
 
 -- ---- letters
 pub letter-of : (b : ℕ) (c : ByteClass) → c ≡ byte_class_of b → c ≡ Alpha → Letter b
 letter-of b c e n = class-in b (sym e ∙ n)
 
-pub no-letter : (b : ℕ) (c : ByteClass) → c ≡ byte_class_of b → OneOf (1 ∷ 2 ∷ 3 ∷ 4 ∷ 5 ∷ 6 ∷ 7 ∷ []) (tag c) → Letter b → ⊥
-no-letter b c e h l =
-    miss (1 ∷ 2 ∷ 3 ∷ 4 ∷ 5 ∷ 6 ∷ 7 ∷ []) 0 tt (subst (λ (c : ByteClass). OneOf (1 ∷ 2 ∷ 3 ∷ 4 ∷ 5 ∷ 6 ∷ 7 ∷ []) (tag c)) (e ∙ class-alpha b l) h)
+pub no-letter : (b : ℕ) (c : ByteClass) → c ≡ byte_class_of b → (c ≡ Alpha → ⊥) → Letter b → ⊥
+no-letter b c e n l = n (e ∙ class-alpha b l)
 
 module _ (s : List ℕ) (i : ℕ) where
   pub letters-none : All Letter (part s i i)
@@ -103,9 +101,9 @@ module _ (s : List ℕ) (i d : ℕ) (l : i ≤ length s) where
   item-ends e = item-breaks (λ u m h. omega arith)
 
   module _ (c : ByteClass) (e : c ≡ byte_class_of (get_or s i 0)) where
-    pub item-bad : OneOf (5 ∷ 6 ∷ 7 ∷ []) (tag c) → Breaks (Item d) s i i
-    item-bad k =
-        item-breaks (λ u m h. item-class d (get_or s i 0) u h (λ (c : ByteClass). OneOf (5 ∷ 6 ∷ 7 ∷ []) (tag c) → ⊥) (miss (5 ∷ 6 ∷ 7 ∷ []) 0 tt) (miss (5 ∷ 6 ∷ 7 ∷ []) 1 tt) (miss (5 ∷ 6 ∷ 7 ∷ []) 2 tt) (miss (5 ∷ 6 ∷ 7 ∷ []) 3 tt) (miss (5 ∷ 6 ∷ 7 ∷ []) 4 tt) (subst (λ (c : ByteClass). OneOf (5 ∷ 6 ∷ 7 ∷ []) (tag c)) e k))
+    pub item-bad : (c ≡ Alpha → ⊥) → (c ≡ Zero → ⊥) → (c ≡ Nonzero → ⊥) → (c ≡ Dash → ⊥) → (c ≡ Open → ⊥) → Breaks (Item d) s i i
+    item-bad a z n m o =
+        item-breaks (λ u h x. item-class d (get_or s i 0) u x (λ (k : ByteClass). c ≡ k → ⊥) a z n m o e)
 
     pub item-shallow : c ≡ Open → d ≡ 0 → Breaks (Item d) s i i
     item-shallow n z =
@@ -131,20 +129,16 @@ module _ (s : List ℕ) (i d : ℕ) (l : i < length s) where
       }
 
   module _ (c : ByteClass) (e : c ≡ byte_class_of (get_or s i 0)) where
-    numeric : OneOf (1 ∷ 2 ∷ 3 ∷ []) (tag c) → (45 ≤ get_or s i 0) × (get_or s i 0 ≤ 57)
-    numeric k = by-class c e k
-      where
-        by-class : (c : ByteClass) → c ≡ byte_class_of (get_or s i 0) → OneOf (1 ∷ 2 ∷ 3 ∷ []) (tag c) → (45 ≤ get_or s i 0) × (get_or s i 0 ≤ 57)
-        by-class Alpha e k = absurd (miss (1 ∷ 2 ∷ 3 ∷ []) 0 tt k)
-        by-class Zero e k = let b : get_or s i 0 ≡ 48 = class-in (get_or s i 0) (sym e) in omega arith
-        by-class Nonzero e k = let b = class-in (get_or s i 0) (sym e) in omega arith
-        by-class Dash e k = let b : get_or s i 0 ≡ 45 = class-in (get_or s i 0) (sym e) in omega arith
-        by-class Open e k = absurd (miss (1 ∷ 2 ∷ 3 ∷ []) 4 tt k)
-        by-class Close e k = absurd (miss (1 ∷ 2 ∷ 3 ∷ []) 5 tt k)
-        by-class Space e k = absurd (miss (1 ∷ 2 ∷ 3 ∷ []) 6 tt k)
-        by-class Other e k = absurd (miss (1 ∷ 2 ∷ 3 ∷ []) 7 tt k)
+    numeric : (c ≡ Zero) ⊎ ((c ≡ Nonzero) ⊎ (c ≡ Dash)) → (45 ≤ get_or s i 0) × (get_or s i 0 ≤ 57)
+    numeric k =
+        ⊎_elim (λ (z : c ≡ Zero). let b : get_or s i 0 ≡ 48 = class-in (get_or s i 0) (sym e ∙ z) in omega arith)
+        (λ (k : (c ≡ Nonzero) ⊎ (c ≡ Dash)).
+            ⊎_elim (λ (n : c ≡ Nonzero). let b = class-in (get_or s i 0) (sym e ∙ n) in omega arith)
+            (λ (m : c ≡ Dash). let b : get_or s i 0 ≡ 45 = class-in (get_or s i 0) (sym e ∙ m) in omega arith)
+            k)
+        k
 
-    module _ (k : OneOf (1 ∷ 2 ∷ 3 ∷ []) (tag c)) where
+    module _ (k : (c ≡ Zero) ⊎ ((c ≡ Nonzero) ⊎ (c ≡ Dash))) where
       of_number : (u : List ℕ) → Any Number (get_or s i 0 ∷ u) → Item d (get_or s i 0 ∷ u)
       of_number u h = simple-item d (is_number h.1)
 
@@ -183,9 +177,8 @@ module _ (s : List ℕ) (i d : ℕ) (l : i ≤ length s) where
   pub rest-ends : length s ≤ i → Breaks (Rest (Item d)) s i i
   rest-ends e = rest-breaks (λ u m h. omega arith)
 
-  pub rest-bad : (c : ByteClass) → c ≡ byte_class_of (get_or s i 0) → OneOf (0 ∷ 1 ∷ 2 ∷ 3 ∷ 4 ∷ 7 ∷ []) (tag c) → Breaks (Rest (Item d)) s i i
-  rest-bad c e k =
-      rest-breaks (λ u m h. rest-first h (λ (c : ByteClass). OneOf (0 ∷ 1 ∷ 2 ∷ 3 ∷ 4 ∷ 7 ∷ []) (tag c) → ⊥) (miss (0 ∷ 1 ∷ 2 ∷ 3 ∷ 4 ∷ 7 ∷ []) 5 tt) (miss (0 ∷ 1 ∷ 2 ∷ 3 ∷ 4 ∷ 7 ∷ []) 6 tt) (subst (λ (c : ByteClass). OneOf (0 ∷ 1 ∷ 2 ∷ 3 ∷ 4 ∷ 7 ∷ []) (tag c)) e k))
+  pub rest-bad : (c : ByteClass) → c ≡ byte_class_of (get_or s i 0) → (c ≡ Close → ⊥) → (c ≡ Space → ⊥) → Breaks (Rest (Item d)) s i i
+  rest-bad c e x y = rest-breaks (λ u m h. rest-first h (λ (k : ByteClass). c ≡ k → ⊥) x y e)
 
 module _ (s : List ℕ) (i d : ℕ) (l : i < length s) (c : ByteClass) (e : c ≡ byte_class_of (get_or s i 0)) where
   pub rest-close : c ≡ Close → Stands (Rest (Item d)) s i (i + 1)

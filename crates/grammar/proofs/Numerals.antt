@@ -2,13 +2,11 @@
 use Prim.Native.Nat.{ℕ, zero, suc, ◌≤◌, ◌<◌, ◌+◌, ◌*◌, ◌-◌}
 use mathlib.Core.Path.{◌≡◌, refl, sym, ◌∙◌, ap, subst}
 use mathlib.Core.Bool.{Bool, true, false}
-use mathlib.Core.Logic.{⊎_elim}
+use mathlib.Core.Logic.{◌⊎◌, ⊎_elim}
 use mathlib.Core.List.{List, [], ◌∷◌, ◌++◌, append_assoc, head-eq_of_cons-eq as heads, tail-eq_of_cons-eq as tails}
 use native.Mathlib.Omega.{arith}
 use lib.IntN.{ℤ, pos}
 use lib.ListN.{length, get_or, length-append}
-use types.Run.{OneOf, miss}
-use denote.Enum.Declared
 use Rattle.definitions.specs.Basics.{minus}
 use Rattle.definitions.specs.Text.{Digit, All, none, each, valued, Plain, digits, Number, unsigned, negative, nothing, is_spaced, is_ended}
 use Rattle.grammar.specs.declared.ByteClass.{ByteClass}
@@ -18,7 +16,6 @@ use Rattle.grammar.specs.declared.Num.TheVariants.{Value}
 use Rattle.grammar.specs.declared.Num.TheVariants as num
 use Rattle.grammar.specs.declared.Got.{Got}
 use Rattle.grammar.specs.declared.Got.TheVariants.{At}
-use Rattle.grammar.specs.contracts.ByteClass as class
 use Rattle.grammar.specs.Readers.{byte_class_of, part, Stops, Stands, Breaks, ReadAt, Any, DigitsAt, NumAt, AfterMinus, FieldOf, Exactly}
 use Rattle.grammar.proofs.Cats.{Cat, no-cons}
 use Rattle.grammar.proofs.Bytes.{class-in, class-zero, class-nonzero, class-dash}
@@ -29,31 +26,7 @@ use Rattle.grammar.proofs.Pieces.{lt-or-le, part_none, part-first, part-next}
 use Rattle.grammar.proofs.Reading.{bad-here, stops-after, breaks-after, stops_as, breaks-as, read_as, read-after, Separate, breaks-first, then-stands, then-breaks}
 use Rattle.grammar.proofs.Alone.{number-tall, all-at}
 
-abbrev pub tag : ByteClass → ℕ
-tag c = Declared.tag_of class.the_type c
-
 -- the bytes of an arm
-pub digit-of : (b : ℕ) (c : ByteClass) → c ≡ byte_class_of b → OneOf (1 ∷ 2 ∷ []) (tag c) → Digit b
-digit-of b Alpha e h = absurd (miss (1 ∷ 2 ∷ []) 0 tt h)
-digit-of b Zero e h = let k : b ≡ 48 = class-in b (sym e) in omega arith
-digit-of b Nonzero e h = let k = class-in b (sym e) in omega arith
-digit-of b Dash e h = absurd (miss (1 ∷ 2 ∷ []) 3 tt h)
-digit-of b Open e h = absurd (miss (1 ∷ 2 ∷ []) 4 tt h)
-digit-of b Close e h = absurd (miss (1 ∷ 2 ∷ []) 5 tt h)
-digit-of b Space e h = absurd (miss (1 ∷ 2 ∷ []) 6 tt h)
-digit-of b Other e h = absurd (miss (1 ∷ 2 ∷ []) 7 tt h)
-
-digit-class : (b : ℕ) → Digit b → (C : ByteClass → Type 0) → C Zero → C Nonzero → C (byte_class_of b)
-digit-class b h C z n =
-    ⊎_elim (λ (q : b < 49). subst C (sym (class-zero b (let k : 48 ≤ b = h.0 in omega arith))) z)
-    (λ (q : 49 ≤ b). subst C (sym (class-nonzero b q h.1)) n)
-    (lt-or-le b 49)
-
-pub no_digit : (b : ℕ) (c : ByteClass) → c ≡ byte_class_of b → OneOf (0 ∷ 3 ∷ 4 ∷ 5 ∷ 6 ∷ 7 ∷ []) (tag c) → Digit b → ⊥
-no_digit b c e h d =
-    digit-class b d (λ (c : ByteClass). OneOf (0 ∷ 3 ∷ 4 ∷ 5 ∷ 6 ∷ 7 ∷ []) (tag c) → ⊥) (miss (0 ∷ 3 ∷ 4 ∷ 5 ∷ 6 ∷ 7 ∷ []) 1 tt) (miss (0 ∷ 3 ∷ 4 ∷ 5 ∷ 6 ∷ 7 ∷ []) 2 tt)
-    (subst (λ (c : ByteClass). OneOf (0 ∷ 3 ∷ 4 ∷ 5 ∷ 6 ∷ 7 ∷ []) (tag c)) e h)
-
 pub nonzero-of : (b : ℕ) (c : ByteClass) → c ≡ byte_class_of b → c ≡ Nonzero → (49 ≤ b) × (b ≤ 57)
 nonzero-of b c e n = class-in b (sym e ∙ n)
 
@@ -62,6 +35,21 @@ zero_of b c e n = class-in b (sym e ∙ n)
 
 pub dash-of : (b : ℕ) (c : ByteClass) → c ≡ byte_class_of b → c ≡ Dash → b ≡ 45
 dash-of b c e n = class-in b (sym e ∙ n)
+
+pub digit-of : (b : ℕ) (c : ByteClass) → c ≡ byte_class_of b → (c ≡ Zero) ⊎ (c ≡ Nonzero) → Digit b
+digit-of b c e h =
+    ⊎_elim (λ (z : c ≡ Zero). let k = zero_of b c e z in omega arith)
+    (λ (n : c ≡ Nonzero). let k = nonzero-of b c e n in omega arith)
+    h
+
+digit-class : (b : ℕ) → Digit b → (C : ByteClass → Type 0) → C Zero → C Nonzero → C (byte_class_of b)
+digit-class b h C z n =
+    ⊎_elim (λ (q : b < 49). subst C (sym (class-zero b (let k : 48 ≤ b = h.0 in omega arith))) z)
+    (λ (q : 49 ≤ b). subst C (sym (class-nonzero b q h.1)) n)
+    (lt-or-le b 49)
+
+pub no_digit : (b : ℕ) (c : ByteClass) → c ≡ byte_class_of b → (c ≡ Zero → ⊥) → (c ≡ Nonzero → ⊥) → Digit b → ⊥
+no_digit b c e z n d = digit-class b d (λ (k : ByteClass). c ≡ k → ⊥) z n e
 
 -- ---- digits
 pub all_more : {P : ℕ → Type 0} (t : List ℕ) (c : ℕ) → All P t → P c → All P (t ++ (c ∷ []))
@@ -215,13 +203,11 @@ module _ (s : List ℕ) (i : ℕ) (l : i ≤ length s) where
   minus-ends e = minus-breaks (λ u m h. omega arith)
 
   module _ (c : ByteClass) (e : c ≡ byte_class_of (get_or s i 0)) where
-    pub number-bad : OneOf (0 ∷ 4 ∷ 5 ∷ 6 ∷ 7 ∷ []) (tag c) → Breaks (Any Number) s i i
-    number-bad k =
-        number-breaks (λ u m h. number-class h.1 (λ (c : ByteClass). OneOf (0 ∷ 4 ∷ 5 ∷ 6 ∷ 7 ∷ []) (tag c) → ⊥) (miss (0 ∷ 4 ∷ 5 ∷ 6 ∷ 7 ∷ []) 1 tt) (miss (0 ∷ 4 ∷ 5 ∷ 6 ∷ 7 ∷ []) 2 tt) (miss (0 ∷ 4 ∷ 5 ∷ 6 ∷ 7 ∷ []) 3 tt) (subst (λ (c : ByteClass). OneOf (0 ∷ 4 ∷ 5 ∷ 6 ∷ 7 ∷ []) (tag c)) e k))
+    pub number-bad : (c ≡ Zero → ⊥) → (c ≡ Nonzero → ⊥) → (c ≡ Dash → ⊥) → Breaks (Any Number) s i i
+    number-bad z n d = number-breaks (λ u m h. number-class h.1 (λ (k : ByteClass). c ≡ k → ⊥) z n d e)
 
-    pub minus-bad : OneOf (0 ∷ 1 ∷ 3 ∷ 4 ∷ 5 ∷ 6 ∷ 7 ∷ []) (tag c) → Breaks (Any AfterMinus) s i i
-    minus-bad k =
-        minus-breaks (λ u m h. minus-cons h.1 (λ j q r v w. miss (0 ∷ 1 ∷ 3 ∷ 4 ∷ 5 ∷ 6 ∷ 7 ∷ []) 2 tt (subst (λ (c : ByteClass). OneOf (0 ∷ 1 ∷ 3 ∷ 4 ∷ 5 ∷ 6 ∷ 7 ∷ []) (tag c)) (e ∙ class-nonzero (get_or s i 0) q r) k)))
+    pub minus-bad : (c ≡ Nonzero → ⊥) → Breaks (Any AfterMinus) s i i
+    minus-bad n = minus-breaks (λ u m h. minus-cons h.1 (λ j q r v w. n (e ∙ class-nonzero (get_or s i 0) q r)))
 
 -- ---- these bytes
 exactly-alone : (w l : List ℕ) (c : ℕ) (y : List ℕ) → l ≡ w → l ++ (c ∷ y) ≡ w → ⊥

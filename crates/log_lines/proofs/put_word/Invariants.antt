@@ -1,0 +1,17 @@
+use native.Mathlib.Omega.{arith}
+use mathlib.Core.Path.{sym, subst}
+use Rattle.log_lines.proofs.Putting.{put-none, put-length, each_fits, each-put, each_all, bytes-each}
+use Prim.Native.Nat.{ℕ, ◌-◌, ◌≤◌}
+use mathlib.Core.List.{List, [], ◌∷◌}
+use lib.ListN.{length, take}
+use borrow.Author.Rules.{rules}
+use Rattle.definitions.specs.Basics.{for_each}
+use Rattle.log_lines.specs.Put.{Fits, Put}
+use Rattle.log_lines.proofs.put_word.Given as goal
+
+-- `log_lines::put_word` meets its contract. Assumes nothing.
+abbrev pub invariant-loop-k : goal.invariant-loop-k
+invariant-loop-k l = (l.k ≤ length l.word) × Put l.initial.out l.at (for_each (take l.k l.word) (λ b. b ∷ [])) l.out l.next
+
+abbrev pub decreases-loop-k : goal.decreases-loop-k
+decreases-loop-k l = length l.word - l.k

@@ -1,0 +1,8 @@
+use borrow.Author.Rules.{rules}
+use mathlib.Core.Path.{◌∙◌}
+use mathlib.Core.Bool.{◌&&◌}
+use Rattle.records.proofs.FirstBlocks.{vectors-same}
+use Rattle.records.proofs.check.same_vectors.Goals as goal
+
+pub returns : goal.returns
+returns c = (λ i. ((c.same_word.ensures i && c.same_word-2.ensures i) && c.same_word-3.ensures i) && c.same_word-4.ensures i) ∙ vectors-same c.args.words.now c.args.b c.args.d

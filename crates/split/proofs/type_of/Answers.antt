@@ -1,0 +1,8 @@
+use mathlib.Core.Bool.{◌&&◌}
+use native.Mathlib.Omega.{arith}
+use borrow.Author.Rules.{rules}
+use Rattle.split.proofs.Vectors.{number_fits, type-is}
+use Rattle.split.proofs.type_of.Goals as goal
+
+pub returns : goal.returns
+returns c = type-is _ _ _ _ _ _ _ _ c.same_motion.ensures c.same_motion-2.ensures c.same_motion-3.ensures c.same_motion-4.ensures
