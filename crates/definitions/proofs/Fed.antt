@@ -5,7 +5,6 @@ use mathlib.Core.Path.{◌≡◌, refl, sym, ap, subst, ◌∙◌}
 use mathlib.Core.Bool.{Bool, true, false, not, ◌&&◌, false≢true}
 use mathlib.Core.List.{List, ◌∷◌, [], Memᴰ}
 use mathlib.Core.Logic.{◌⊎◌, inl, inr, ⊎_elim, ◌↔◌}
-use native.Mathlib.Nat.{mul_comm}
 use native.Mathlib.Omega.{arith}
 use lib.Dec.{eqb}
 use lib.IntN.{ℤ}
@@ -15,17 +14,15 @@ use Rattle.definitions.specs.declared.Axis.{Axis}
 use Rattle.definitions.specs.declared.Axes.{Axes}
 use Rattle.definitions.specs.declared.AxisStep.{AxisStep}
 use Rattle.definitions.specs.Accepted.{AcceptedAxis, AcceptedAxes, Inside}
-use Rattle.definitions.specs.Basics.{pick, how_many, four}
+use Rattle.definitions.specs.Basics.{pick, how_many}
 use Rattle.definitions.specs.Geometry.{base_size, scaled_size, inside_axis, inside, c_of, f_of, two_of, columns_read, sample_of}
 use Rattle.definitions.specs.BlockMap.{coordinate_of, column_of, falls_in, across, down, address_read, step_of}
-use Rattle.definitions.specs.Raster.{base_address}
-use Rattle.definitions.specs.Record.{record_at, is_intra}
 use Rattle.definitions.specs.Inheriting.{reads_intra, blocks_reading_intra}
-use Rattle.definitions.specs.Fed.{reads_at, blocks_reading, fed_at, sum_fed, first_column, first_row, FallsRight, intra_at, FedRight, FedEntire}
+use Rattle.definitions.specs.Fed.{reads_at, blocks_reading, fed_at, sum_fed, FallsRight, intra_at, FedEntire}
 use Rattle.definitions.proofs.Choices.{both_true, four-at}
-use Rattle.definitions.proofs.Accepted.{inside-axis, across-inside, down-inside}
+use Rattle.definitions.proofs.Accepted.{inside-axis}
 use Rattle.definitions.proofs.Map.{read-column, read_named, named-read}
-use Rattle.definitions.proofs.StepOne.{Four, on_bools, on_four, on-four}
+use Rattle.definitions.proofs.StepOne.{on_bools, on_four, on-four}
 
 -- ---- How often a test holds
 at_most : (n : ℕ) (f : ℕ → Bool) → how_many n f ≤ n

@@ -11,7 +11,6 @@ use lib.Dec.{eqb}
 use lib.IntN.{ℤ}
 use lib.ListN.{length}
 use borrow.Author.Tests.{eqb-true, eqb-false, eq-eqb, ne_eqb}
-use Rattle.definitions.specs.declared.Axes.{Axes}
 use Rattle.definitions.specs.declared.Numbers.{Numbers}
 use Rattle.definitions.specs.declared.Refusal.{Refusal}
 use Rattle.definitions.specs.declared.Verdict.{Verdict}
@@ -20,7 +19,7 @@ use Rattle.definitions.specs.Geometry.{axes_of}
 use Rattle.definitions.specs.Record.{narrow}
 use Rattle.definitions.specs.Refusals.{refusal, verdict_of, geometry_tests, geometry_verdict, record_tests, all_addresses}
 use Rattle.definitions.specs.Text.{Reading, empty, not_read, read_as, base_of}
-use Rattle.definitions.specs.Log.{program_tests, Finding, finds_none, refuses, finding_by, finding_of, log_for, verdict_for, empty_for, picture_lines, no_picture_line, refused_line, LogOf, SaidByLog}
+use Rattle.definitions.specs.Log.{program_tests, Finding, finds_none, refuses, finding_by, finding_of, log_for, verdict_for, empty_for, picture_lines, refused_line, LogOf, SaidByLog}
 use Rattle.definitions.specs.Raster.{base_count, full_count}
 use Rattle.definitions.proofs.Choices.{yes, no}
 use Rattle.definitions.proofs.Verdicts.{then-verdict, refused-first, given_by, both-passed}

@@ -1,7 +1,7 @@
 -- Both widths give the same on a base whose vectors fit the narrower limit (specs/Widths), for a limit and any larger one. Assumes nothing.
 use Prim.Native.Nat.{ℕ, zero, suc, ◌*◌, ◌-◌, ◌<◌, ◌≤◌}
 use mathlib.Core.Path.{◌≡◌, refl, sym, ap, ◌∙◌}
-use mathlib.Core.Bool.{Bool, true, false, not, ◌&&◌, ◌||◌, false≢true}
+use mathlib.Core.Bool.{Bool, true, not, ◌&&◌, ◌||◌, false≢true}
 use mathlib.Core.List.{List, [], ◌∷◌, ◌++◌}
 use native.Mathlib.Omega.{arith}
 use lib.Dec.{leb, eqb}
@@ -9,9 +9,7 @@ use lib.IntN.{ℤ, pos, negsuc, nat_abs}
 use lib.ListN.{drop_of_length-le}
 use lib.Signed.{le_z}
 use borrow.Author.Tests.{leb-true, le-leb}
-use Rattle.definitions.specs.declared.Axes.{Axes}
 use Rattle.definitions.specs.declared.Numbers.{Numbers}
-use Rattle.definitions.specs.declared.Verdict.{Verdict}
 use Rattle.definitions.specs.declared.MacroblockReply.TheVariants.{Answered, Refused as Declined}
 use Rattle.definitions.specs.declared.PictureReply.TheVariants.{Counted, Refused as NotMade}
 use Rattle.definitions.specs.Basics.{pick, minus, eq_z, between, all_below, up_to, for_each}

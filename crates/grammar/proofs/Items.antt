@@ -10,7 +10,7 @@ use lib.ListN.{length, get_or, drop}
 use lib.Seq.{drop-cons}
 use Rattle.definitions.specs.Text.{Letter, All, none, Word, word, Number, Rest, close, item, Listed, listed, Simple, is_word, is_number, Item, Note, note}
 use Rattle.grammar.specs.declared.ByteClass.{ByteClass}
-use Rattle.grammar.specs.declared.ByteClass.TheVariants.{Alpha, Zero, Nonzero, Dash, Open, Close, Space, Other}
+use Rattle.grammar.specs.declared.ByteClass.TheVariants.{Alpha, Zero, Nonzero, Dash, Open, Close, Space}
 use Rattle.grammar.specs.declared.Num.TheVariants.{Value}
 use Rattle.grammar.specs.declared.Num.TheVariants as num
 use Rattle.grammar.specs.declared.Got.{Got}
@@ -133,9 +133,9 @@ module _ (s : List ℕ) (i d : ℕ) (l : i < length s) where
     numeric k =
         ⊎_elim (λ (z : c ≡ Zero). let b : get_or s i 0 ≡ 48 = class-in (get_or s i 0) (sym e ∙ z) in omega arith)
         (λ (k : (c ≡ Nonzero) ⊎ (c ≡ Dash)).
-            ⊎_elim (λ (n : c ≡ Nonzero). let b = class-in (get_or s i 0) (sym e ∙ n) in omega arith)
-            (λ (m : c ≡ Dash). let b : get_or s i 0 ≡ 45 = class-in (get_or s i 0) (sym e ∙ m) in omega arith)
-            k)
+        ⊎_elim (λ (n : c ≡ Nonzero). let b = class-in (get_or s i 0) (sym e ∙ n) in omega arith)
+        (λ (m : c ≡ Dash). let b : get_or s i 0 ≡ 45 = class-in (get_or s i 0) (sym e ∙ m) in omega arith)
+        k)
         k
 
     module _ (k : (c ≡ Zero) ⊎ ((c ≡ Nonzero) ⊎ (c ≡ Dash))) where

@@ -10,7 +10,7 @@ use lib.ListN.{length, get_or, length-append}
 use Rattle.definitions.specs.Basics.{minus}
 use Rattle.definitions.specs.Text.{Digit, All, none, each, valued, Plain, digits, Number, unsigned, negative, nothing, is_spaced, is_ended}
 use Rattle.grammar.specs.declared.ByteClass.{ByteClass}
-use Rattle.grammar.specs.declared.ByteClass.TheVariants.{Alpha, Zero, Nonzero, Dash, Open, Close, Space, Other}
+use Rattle.grammar.specs.declared.ByteClass.TheVariants.{Zero, Nonzero, Dash}
 use Rattle.grammar.specs.declared.Num.{Num}
 use Rattle.grammar.specs.declared.Num.TheVariants.{Value}
 use Rattle.grammar.specs.declared.Num.TheVariants as num

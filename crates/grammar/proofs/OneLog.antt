@@ -13,7 +13,7 @@ use Rattle.definitions.specs.declared.Verdict.TheVariants.{Accepted, Refused}
 use Rattle.definitions.specs.Geometry.{axes_of}
 use Rattle.definitions.specs.Refusals.{refusal, verdict_of}
 use Rattle.definitions.specs.Text.{Entry, text_bytes, base_of, Reading, empty, not_read, read_as, Reads, no_bytes, too_long, read}
-use Rattle.definitions.specs.Log.{finding_by, finding_of, LogOf, log_for, verdict_for, empty_for, program_tests, picture_lines, no_picture_line, refused_line, Demand2Log, Demand2Empty, Demand2Entire}
+use Rattle.definitions.specs.Log.{finding_by, finding_of, LogOf, log_for, verdict_for, empty_for, program_tests, picture_lines, refused_line, Demand2Log, Demand2Empty, Demand2Entire}
 use Rattle.definitions.proofs.Lines.{lines-differ, empty-differs, refused-number}
 use Rattle.definitions.proofs.Findings.{refused-by, number_of, said-by-log}
 use Rattle.grammar.proofs.Once.{had, has-bytes, reads-once, demand2-text}

@@ -1,7 +1,7 @@
 -- The readers of the whole text: head lines, record lines up to the end, and both together.
 use Prim.Native.Nat.{ℕ, ◌≤◌, ◌<◌, ◌+◌, ◌*◌}
 use mathlib.Core.Path.{◌≡◌, refl, sym, ◌∙◌, ap, subst}
-use mathlib.Core.Logic.{◌⊎◌, ⊎_elim}
+use mathlib.Core.Logic.{⊎_elim}
 use mathlib.Core.List.{List, [], ◌∷◌, ◌++◌, append_assoc, append-nil, head-eq_of_cons-eq as heads, tail-eq_of_cons-eq as tails}
 use native.Mathlib.Omega.{arith}
 use lib.IntN.{ℤ, pos}

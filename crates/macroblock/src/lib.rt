@@ -109,7 +109,8 @@ pub fn make(base: &[i16], f: Fixed, h: AxisRead, v: AxisRead, out: &mut [i16]) -
     ensures sort { result ≡ sort_by f h v base.now }
     ensures written { out.new ≡ written_by f h v base.now }
 {
-    if h.inside & v.inside {
+    let inside = h.inside & v.inside;
+    if inside {
         let across = h.reads;
         let down = v.reads;
         let columns = h.halves;

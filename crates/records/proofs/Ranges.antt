@@ -1,5 +1,5 @@
 -- Rules 1 to 5 as ranges of words, rule 5 for a limit. Assumes nothing.
-use Prim.Native.Nat.{ℕ, zero, suc, ◌+◌, ◌-◌, ◌*◌}
+use Prim.Native.Nat.{ℕ, ◌+◌, ◌-◌, ◌*◌}
 use mathlib.Core.Path.{◌≡◌, refl, sym, ap, ◌∙◌}
 use mathlib.Core.Bool.{Bool, true, false, not, ◌&&◌, and_assoc, and_comm, and-true, and-false, not-not}
 use mathlib.Core.List.{List}
@@ -7,7 +7,7 @@ use native.Mathlib.Nat.{le_antisymm, add-zero}
 use native.Mathlib.Omega.{arith}
 use lib.Dec.{leb, eqb}
 use lib.IntN.{ℤ, pos, negsuc}
-use borrow.Author.Tests.{leb-true, leb-false, le-leb, eq-eqb, ne_eqb}
+use borrow.Author.Tests.{leb-true, leb-false, eq-eqb, ne_eqb}
 use Rattle.definitions.specs.Basics.{minus, eq_z, between, all_below}
 use Rattle.definitions.specs.Record.{word_of, type_of, is_intra, used, fits, vector_word, rule1, rule2, rule3, rule4, rule5}
 use Rattle.definitions.proofs.Choices.{eq_z-true, yes, no, below-same}

@@ -211,7 +211,7 @@ module _ (v : ℤ) (e : fits narrow v ≡ true) (s : Scale) (a : AcceptedScale s
   back = ap (λ (z : ℤ). to_z w16 (of_z w16 z)) (is ∙ ap (scaled_with s) (word_back narrow (omega arith) v e)) ∙ to_z-of_z scaled_fits
 
   pub back-wide : to_z w32 (of_z w32 (to_z w16 (of_z w16 r))) ≡ scaled_with s v
-  back-wide = rw back (to_z-of_z (sfits_widen tt scaled_fits))
+  back-wide = rw back (to_z-of_z {w = w32} (sfits_widen tt scaled_fits))
 
 -- ---- a reference
 pub reference-fits : (r : ℤ) → Reference r → SFits w16 r

@@ -138,7 +138,8 @@ pub fn write_made(out: &mut [i16], s: Scales, m: [[BlockMotion; 4]; 4], detail: 
     let b = put_quadrant(out, s, 1, FIRST_BLOCK[1], m[1]);
     let c = put_quadrant(out, s, 2, FIRST_BLOCK[2], m[2]);
     let d = put_quadrant(out, s, 3, FIRST_BLOCK[3], m[3]);
-    let kind = if a + b + c + d == 0 { type_in(out) } else { 4 };
+    let unsplit = a + b + c + d == 0;
+    let kind = if unsplit { type_in(out) } else { 4 };
     put_types(&mut out[TYPE..REFERENCES], kind, a, b, c, d);
     out[DETAIL] = detail as i16;
 }

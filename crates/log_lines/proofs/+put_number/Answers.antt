@@ -2,8 +2,7 @@ use mathlib.Core.List.{[], ◌∷◌}
 use native.Mathlib.Omega.{arith}
 use Rattle.definitions.specs.Log.{decimal}
 use Rattle.log_lines.proofs.Putting.{digit-fits, digits-fit, fits-first, fits-then, put-digit, put-digits}
-use borrow.Author.Rules.{rules}
-use Prim.Native.Nat.{ℕ, ◌/◌, ◌<◌}
+use Prim.Native.Nat.{◌/◌}
 use Rattle.log_lines.proofs.+put_number.Goals as goal
 
 pub put_byte-requires : goal.put_byte-requires

@@ -1,11 +1,8 @@
-use Prim.Native.Nat.{◌-◌, ◌≤◌}
 use mathlib.Core.List.{[], ◌∷◌}
 use native.Mathlib.Omega.{arith}
-use lib.ListN.{length, take, get_or}
-use borrow.Author.Rules.{rules}
+use lib.ListN.{get_or}
 use Rattle.definitions.specs.Log.{decimal}
-use Rattle.log_lines.specs.Put.{Put, items_of}
-use Rattle.log_lines.proofs.Putting.{put-none, put-length, put_then, fits-first, fits-then, each_fits, each-put, each_all}
+use Rattle.log_lines.proofs.Putting.{put_then, fits-first, fits-then, each_fits, each-put}
 use Rattle.log_lines.proofs.put_items.Goals as goal
 
 pub put_byte-spaced-requires : goal.put_byte-spaced-requires

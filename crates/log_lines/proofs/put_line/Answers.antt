@@ -1,5 +1,4 @@
 use Rattle.log_lines.proofs.Putting.{bracket-fits, word_fits, items-fit, close-fits, feed-fits, line-put}
-use borrow.Author.Rules.{rules}
 use Rattle.log_lines.proofs.put_line.Goals as goal
 
 -- `log_lines::put_line` meets its contract. Assumes nothing.

@@ -1,12 +1,8 @@
-use native.Mathlib.Omega.{arith}
-use mathlib.Core.Path.{sym, subst}
-use Rattle.log_lines.proofs.Putting.{put-none, put-length, each_fits, each-put, each_all, bytes-each}
-use Prim.Native.Nat.{ℕ, ◌-◌, ◌≤◌}
-use mathlib.Core.List.{List, [], ◌∷◌}
+use Prim.Native.Nat.{◌-◌, ◌≤◌}
+use mathlib.Core.List.{[], ◌∷◌}
 use lib.ListN.{length, take}
-use borrow.Author.Rules.{rules}
 use Rattle.definitions.specs.Basics.{for_each}
-use Rattle.log_lines.specs.Put.{Fits, Put}
+use Rattle.log_lines.specs.Put.{Put}
 use Rattle.log_lines.proofs.put_word.Given as goal
 
 -- `log_lines::put_word` meets its contract. Assumes nothing.

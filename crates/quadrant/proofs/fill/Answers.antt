@@ -2,7 +2,6 @@ use Rattle.definitions.specs.Inheriting.{zero_motion, filled}
 use Rattle.definitions.proofs.Choices.{four_same}
 use Rattle.motion.specs.ByValue.{zero_block, motion_in}
 use Rattle.quadrant.proofs.Taking.{taken}
-use Rattle.std.proofs.Common.{rules}
 use Rattle.quadrant.proofs.fill.Goals as goal
 
 pub returns : goal.returns

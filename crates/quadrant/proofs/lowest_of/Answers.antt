@@ -1,11 +1,11 @@
-use Rattle.std.proofs.Common.{◌≡◌, ℤ, ap, ◌∙◌, to_z-of_z, rules}
+use Rattle.std.proofs.Common.{◌≡◌, ℤ, ap, ◌∙◌, to_z-of_z}
 use Rattle.motion.specs.ByValue.{Reference}
 use Rattle.quadrant.specs.Merging.{rank_of, lowest_of}
 use Rattle.quadrant.proofs.Ranks.{lowest-reference, lowest-rank, next-signed, back_fits, back_is}
 use Rattle.quadrant.proofs.lowest_of.Goals as goal
 
 pub overflow_cast-result : goal.overflow_cast-result
-overflow_cast-result c = 
+overflow_cast-result c =
     let lowest : ℤ = lowest_of c.args.p c.args.q c.args.s c.args.t in
     let refers : Reference lowest = lowest-reference c.args.p c.args.q c.args.s c.args.t c.requires in
     let ranked : c.lower_rank.result ≡ rank_of lowest = lowest-rank c.args.p c.args.q c.args.s c.args.t c.requires
@@ -19,7 +19,7 @@ overflow_cast-result c =
     next-signed lowest refers _ _ ranked c.wrapping_add_u32.ensures.value
 
 pub overflow_sub-result : goal.overflow_sub-result
-overflow_sub-result c = 
+overflow_sub-result c =
     let lowest : ℤ = lowest_of c.args.p c.args.q c.args.s c.args.t in
     let refers : Reference lowest = lowest-reference c.args.p c.args.q c.args.s c.args.t c.requires in
     let ranked : c.lower_rank.result ≡ rank_of lowest = lowest-rank c.args.p c.args.q c.args.s c.args.t c.requires
@@ -33,7 +33,7 @@ overflow_sub-result c =
     back_fits lowest refers _ _ ranked c.wrapping_add_u32.ensures.value
 
 pub returns : goal.returns
-returns c = 
+returns c =
     let lowest : ℤ = lowest_of c.args.p c.args.q c.args.s c.args.t in
     let refers : Reference lowest = lowest-reference c.args.p c.args.q c.args.s c.args.t c.requires in
     let ranked : c.lower_rank.result ≡ rank_of lowest = lowest-rank c.args.p c.args.q c.args.s c.args.t c.requires

@@ -1,10 +1,10 @@
-use Rattle.std.proofs.Common.{ℕ, ◌<◌, List, get_or, ℤ, lit<, rules}
+use Rattle.std.proofs.Common.{ℕ, ◌<◌, List, get_or, ℤ, lit<}
 use Rattle.definitions.specs.Inheriting.{merged}
 use Rattle.definitions.proofs.Choices.{four_same}
 use Rattle.motion.specs.declared.BlockMotion.{BlockMotion}
 use Rattle.motion.specs.ByValue.{zero_block, Reference}
 use Rattle.quadrant.proofs.Choosing.{Chosen}
-use Rattle.quadrant.proofs.Merging.{block-fits, merged-block}
+use Rattle.quadrant.proofs.Merging.{merged-block}
 use Rattle.quadrant.proofs.Ranks.{four-refer, four-read, lowest-read}
 use Rattle.quadrant.proofs.merge.Goals as goal
 

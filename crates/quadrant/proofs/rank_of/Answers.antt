@@ -1,5 +1,5 @@
 use Rattle.std.proofs.Common.{◌∙◌, to_z-of_z, rules}
-use Rattle.quadrant.proofs.Ranks.{next_fits, next-unsigned, rank_is}
+use Rattle.quadrant.proofs.Ranks.{next_fits, rank_is}
 use Rattle.quadrant.proofs.rank_of.Goals as goal
 
 pub returns : goal.returns

@@ -1,4 +1,4 @@
-use Rattle.std.proofs.Common.{sym, ◌∙◌, arith, rules}
+use Rattle.std.proofs.Common.{sym, ◌∙◌, arith}
 use Rattle.definitions.specs.Inheriting.{source}
 use Rattle.definitions.proofs.Choices.{yes, no}
 use Rattle.definitions.proofs.Steps.{horizontal-below, vertical-below, diagonal-below}

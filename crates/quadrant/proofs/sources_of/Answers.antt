@@ -1,4 +1,4 @@
-use Rattle.std.proofs.Common.{◌∙◌, to_z-of_z, rules}
+use Rattle.std.proofs.Common.{◌∙◌, to_z-of_z}
 use Rattle.quadrant.proofs.Choosing.{chosen}
 use Rattle.quadrant.proofs.sources_of.Goals as goal
 

@@ -15,7 +15,7 @@ use Rattle.geometry.proofs.Steps as steps
 use Rattle.geometry.proofs.step.axis_step.Goals as goal
 
 pub distances-unrounded-requires : goal.distances-unrounded-requires
-distances-unrounded-requires c = 
+distances-unrounded-requires c =
     let b : ℕ = base_size c.args.a in
     let s : ℕ = scaled_size c.args.a in
     let mid : ℕ = c.centre-at.result.c.0 in
@@ -24,7 +24,7 @@ distances-unrounded-requires c =
     (inside, k-is)
 
 pub rounded-d-requires : goal.rounded-d-requires
-rounded-d-requires c = 
+rounded-d-requires c =
     let b : ℕ = base_size c.args.a in
     let s : ℕ = scaled_size c.args.a in
     let mid : ℕ = c.centre-at.result.c.0 in
@@ -33,7 +33,7 @@ rounded-d-requires c =
     rw (c.distances-unrounded.ensures.d1, c.distances-unrounded.ensures.d2) (distance-small _ _ _ _ inside (omega (arith, r)), distance-small _ _ _ _ inside (omega (arith, r)))
 
 pub columns_read-columns-requires : goal.columns_read-columns-requires
-columns_read-columns-requires c = 
+columns_read-columns-requires c =
     let b : ℕ = base_size c.args.a in
     let s : ℕ = scaled_size c.args.a in
     let mid : ℕ = c.centre-at.result.c.0 in
@@ -44,7 +44,7 @@ columns_read-columns-requires c =
     steps.columns-asked _ _ _ inside k-is m-is
 
 pub reads-coordinates-requires : goal.reads-coordinates-requires
-reads-coordinates-requires c = 
+reads-coordinates-requires c =
     let b : ℕ = base_size c.args.a in
     let s : ℕ = scaled_size c.args.a in
     let mid : ℕ = c.centre-at.result.c.0 in
@@ -59,7 +59,7 @@ reads-coordinates-requires c =
 
 pub returns : goal.returns
 unfolding step_of how_many
-returns c = 
+returns c =
     let b : ℕ = base_size c.args.a in
     let s : ℕ = scaled_size c.args.a in
     let mid : ℕ = c.centre-at.result.c.0 in

@@ -11,7 +11,7 @@ use Rattle.geometry.proofs.Bounds.{starts}
 use Rattle.geometry.proofs.step.high_layer_centre.Goals as goal
 
 pub overflow_cast-result-2 : goal.overflow_cast-result-2
-overflow_cast-result-2 c = 
+overflow_cast-result-2 c =
     let p : ℕ = c.args.p.0 in
     let o : ℤ = c.args.a.offset.0 in
     let from : ℕ = nat_abs (pos p -ℤ o) in

@@ -22,6 +22,6 @@ returns c =
     let o : SFits w32 c.args.a.offset.0 = search rules in
     let end : SFits w32 (to_z w32 c.args.p.0 +ℤ pos 16) = rw (to_z_pos w32 {n = c.args.p.0} (omega arith)) (record { sfits = omega arith }) in
     let window : SFits w32 (to_z w32 (of_z w32 c.args.a.offset.0) +ℤ to_z w32 c.args.a.scaled.0) =
-        rw (to_z-of_z o, to_z_pos w32 {n = c.args.a.scaled.0} (omega arith))
-        (window-fits c.args.a.offset.0 c.args.a.scaled.0 (offset-small _ c.requires.accepted.offset-low c.requires.accepted.offset-high) (omega arith)) in
+    rw (to_z-of_z o, to_z_pos w32 {n = c.args.a.scaled.0} (omega arith))
+    (window-fits c.args.a.offset.0 c.args.a.scaled.0 (offset-small _ c.requires.accepted.offset-low c.requires.accepted.offset-high) (omega arith)) in
     rw (to_z-of_z end, to_z-of_z window, to_z-of_z o, to_z_pos w32 {n = c.args.p.0} (omega arith), to_z_pos w32 {n = c.args.a.scaled.0} (omega arith))

@@ -1,10 +1,7 @@
-use borrow.Author.Rules.{rules}
 use Prim.Native.Nat.{◌+◌, ◌-◌, ◌≤◌}
-use mathlib.Core.Path.{◌≡◌, sym}
+use mathlib.Core.Path.{◌≡◌}
 use Rattle.definitions.specs.Basics.{between, all_below}
 use Rattle.definitions.specs.Record.{word_of}
-use Rattle.records.specs.Checking.{all_within}
-use Rattle.records.proofs.Searches.{search-none, below_more, search-end}
 use Rattle.records.proofs.check.all_within.Given as goal
 
 -- `all_within` meets its contract: the tests of the words passed. Assumes nothing.

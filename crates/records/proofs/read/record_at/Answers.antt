@@ -4,7 +4,6 @@ use mathlib.Core.Path.{◌∙◌, ap}
 use native.Mathlib.Omega.{arith}
 use lib.ListN.{length}
 use lib.IntN.{ℤ}
-use borrow.Author.Rules.{rules}
 use Rattle.definitions.specs.Record.{record_words}
 use Rattle.definitions.proofs.Records.{record-part, record-length}
 use Rattle.records.proofs.read.record_at.Goals as goal

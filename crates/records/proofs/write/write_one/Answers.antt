@@ -1,14 +1,10 @@
-use Prim.Native.Nat.{◌-◌, ◌%◌, ◌≤◌}
-use mathlib.Core.Path.{◌≡◌, refl, sym, ◌∙◌}
+use mathlib.Core.Path.{refl, ◌∙◌}
 use native.Mathlib.Omega.{arith}
-use lib.ListN.{length-set}
-use borrow.Author.Rules.{rules}
 use mir.Facts.{to_z-of_z, to_z_pos}
 use mir.Syntax.{w16}
-use mir.Val.{to_z}
 use Rattle.definitions.specs.Record.{all_one, laid_out}
-use Rattle.records.proofs.Filled.{Filled, filled-all, filled-detail, filled-references, filled-sub-type, filled-type, filled-vectors}
-use Rattle.records.proofs.Words.{held, narrowed}
+use Rattle.records.proofs.Filled.{filled-all, filled-detail, filled-references, filled-sub-type, filled-type, filled-vectors}
+use Rattle.records.proofs.Words.{narrowed}
 use Rattle.records.proofs.write.write_one.Goals as goal
 
 pub loop-w-init : goal.loop-w-init

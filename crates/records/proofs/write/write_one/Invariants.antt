@@ -1,14 +1,6 @@
 use Prim.Native.Nat.{◌-◌, ◌%◌, ◌≤◌}
-use mathlib.Core.Path.{◌≡◌, refl, sym, ◌∙◌}
-use native.Mathlib.Omega.{arith}
-use lib.ListN.{length-set}
-use borrow.Author.Rules.{rules}
-use mir.Facts.{to_z-of_z, to_z_pos}
-use mir.Syntax.{w16}
-use mir.Val.{to_z}
-use Rattle.definitions.specs.Record.{all_one, laid_out}
-use Rattle.records.proofs.Filled.{Filled, filled-all, filled-detail, filled-references, filled-sub-type, filled-type, filled-vectors}
-use Rattle.records.proofs.Words.{held, narrowed}
+use mathlib.Core.Path.{◌≡◌}
+use Rattle.records.proofs.Filled.{Filled}
 use Rattle.records.proofs.write.write_one.Given as goal
 
 -- `records::write::write_one` meets its contract: the words before w are those of the record. Assumes nothing.

@@ -1,0 +1,8 @@
+use mathlib.Core.Bool.{◌&&◌}
+use native.Mathlib.Omega.{arith}
+use borrow.Author.Rules.{rules}
+use Rattle.split.proofs.Vectors.{number_fits, type-is}
+use Rattle.writing.proofs.type_in.Goals as goal
+
+pub returns : goal.returns
+returns c = type-is _ _ _ _ _ _ _ _ c.same_in.ensures c.same_in-2.ensures c.same_in-3.ensures c.same_in-4.ensures
