@@ -1,4 +1,4 @@
--- Laws of a difference of two naturals, sub_ℕ. (A computed test below a bound becomes its rule by below-true of Choices.) Assumes nothing.
+-- Laws of a difference of two naturals, sub_ℕ. (A computed test below a bound becomes its rule by below_true of Choices.) Assumes nothing.
 use Prim.Native.Nat.{ℕ, zero, suc, ◌+◌, ◌-◌, ◌≤◌, ◌<◌}
 use mathlib.Core.Path.{◌≡◌, refl, ap, sym, subst, ◌∙◌}
 use mathlib.Core.Bool.{Bool, true, false}

@@ -62,7 +62,7 @@ pub record Demand3 (g : Axes) (column row : ℕ) (base : List ℤ) (answer : Ans
   pub one-motion : (b : Basis) (s : Split) → answer ≡ Inherited b s → one_each (motion_of written) s ≡ true
   -- each block has the motion that document 01's block map and steps fix;
   pub motions : (b : Basis) (s : Split) → answer ≡ Inherited b s → (i : ℕ) → i < 16 → motion_of written i ≡ motion_at (inherited_motions g base column row) i
-  -- and every other of the 259 splits whose pieces each carry one motion has more pieces. (The type has no split but those: proofs/Pieces, all-listed.)
+  -- and every other of the 259 splits whose pieces each carry one motion has more pieces. (The type has no split but those: proofs/Pieces, all_listed.)
   pub rivals : (b : Basis) (s : Split) → answer ≡ Inherited b s → (t : Split) → one_each (motion_of written) t ≡ true → t ≢ s → count s < count t
   -- Inherited, words 0 to 4 of the written record say the answer's split.
   pub says-split : (b : Basis) (s : Split) → answer ≡ Inherited b s → take 5 written ≡ pos (type_number s) ∷ map pos (sub_types s)
@@ -109,7 +109,7 @@ pub record Case (limit : ℕ) (n : Numbers) (column row : ℕ) (base : List ℤ)
   pub row_within : row < macroblocks (full_size (axes_of n).vertical)
 
 -- What each call is lent in such a case: words of the right lengths besides. Singly, only those records have to be well formed that its answer will name
--- (addresses_read, those that its class reads; outside none. That they are the same: proofs/Demand, read-named).
+-- (addresses_read, those that its class reads; outside none. That they are the same: proofs/Demand, read_named).
 pub record SinglyCase (limit : ℕ) (n : Numbers) (column row : ℤ) (base words : List ℤ) : Type 0 where
   pub geometry : geometry_verdict n ≡ Accepted
   pub base-length : length base ≡ record_words * base_count (axes_of n)

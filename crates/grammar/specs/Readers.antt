@@ -1,6 +1,6 @@
 -- What the readers of the text promise, in the terms of the grammar (specs/Text of crate definitions). Each promise is local: it speaks of the bytes from
 -- where the reader starts, whatever stands before them. One by ReadAt, NumAt or StoresAt allows one end or one place where it breaks, and not both (proofs/Reading:
--- one-end, one-break, read-or-bad); what is read up to there is one too, for a number and a pattern of one line (proofs/Alone: one-number, one-form), and for a whole
+-- one_end, one-break, read-or-bad); what is read up to there is one too, for a number and a pattern of one line (proofs/Alone: one_number, one_form), and for a whole
 -- text (proofs/Runs: one-reading).
 use Rattle.std.specs.Prelude.{ℕ, ◌+◌, ◌-◌, ◌*◌, ◌≤◌, ◌<◌, ◌≡◌, Bool, true, false, cond, List, [], ◌∷◌, ◌++◌, leb, eqb, length, get_or, take, drop, ℤ}
 use Rattle.std.proofs.lemmas.List.Edits.{sets}

@@ -88,7 +88,7 @@ fn copied_from(live: [bool; 4], q: usize) -> usize
     v
 }
 
-// Each quadrant as it is copied. Where all are live nothing is (`Copied-all`).
+// Each quadrant as it is copied. Where all are live nothing is (`copied_all`).
 pub fn copy(set: u16, m: [[BlockMotion; 4]; 4]) -> [[BlockMotion; 4]; 4]
     ensures { quadrants_in result ≡ copied (live_of set) (quadrants_in m) }
 {

@@ -105,7 +105,7 @@ fn lay_out(out: &mut [i32], h: u32, v: u32, t: Types, m: [[BlockMotion; 4]; 4], 
     out[DETAIL] = detail as i32;
 }
 
-// The record of four quadrants of four blocks, as steps 1 to 3 have left them: scaled, and with the fewest pieces. The split is chosen before step 4 (`made_of` of writing's
+// The record of four quadrants of four blocks, as steps 1 to 3 have left them: scaled, and with the fewest pieces. The split is chosen before step 4 (`made-of` of writing's
 // proofs/Assembled).
 pub fn write_made(out: &mut [i32], s: Scales, m: [[BlockMotion; 4]; 4], detail: u8)
     requires { (length out.old ≡ record_words) × AcceptedScales s × AllWritable wide m }
