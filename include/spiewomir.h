@@ -1,5 +1,5 @@
 /* Motion upsampling between two layers of a track clip: the C interface of the
- * proved library (the crate `spiewomir`; `rt staticlib spiewomir` writes
+ * proved library (the crate `spiewomir`; `tools/build spiewomir` writes
  * target/staticlib/libspiewomir.a, for x86-64 Linux, and `tools/install PREFIX`
  * installs it; it needs no other library). For C99 and C++11 or later.
  *

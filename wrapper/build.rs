@@ -1,5 +1,5 @@
-//! Links the proved library, libspiewomir.a. `rt staticlib spiewomir` writes it
-//! to target/staticlib of the repository; SPIEWOMIR_LIB names another folder, by
+//! Links the proved library, libspiewomir.a. `tools/build spiewomir` of the
+//! repository writes it to target/staticlib; SPIEWOMIR_LIB names another folder, by
 //! an absolute path.
 
 use std::env;
@@ -28,7 +28,7 @@ fn main() {
     println!("cargo:rerun-if-changed={}", archive.display());
     if !archive.is_file() {
         fail(format!(
-            "{} is missing: run `rt staticlib spiewomir` in the repository, or name the archive's folder in SPIEWOMIR_LIB",
+            "{} is missing: run `tools/build spiewomir` in the repository, or name the archive's folder in SPIEWOMIR_LIB",
             archive.display()
         ));
     }

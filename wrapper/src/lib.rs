@@ -8,8 +8,8 @@
 //! word and byte as it was. One macroblock and a picture can be made of wide records
 //! too, of 32-bit words, as its E12 says. `numbers` has the same calls with plain numbers.
 //!
-//! The proved archive, libspiewomir.a, has to be there first: `rt staticlib
-//! spiewomir` writes it to target/staticlib of the repository. SPIEWOMIR_LIB
+//! The proved archive, libspiewomir.a, has to be there first: `tools/build
+//! spiewomir` of the repository writes it to target/staticlib. SPIEWOMIR_LIB
 //! names another folder, by an absolute path.
 //!
 //! ```
