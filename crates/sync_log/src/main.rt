@@ -7,6 +7,7 @@ ghost use Rattle.sync_log.specs.Input.{InputRead};
 
 use definitions::{LogReply, Logged, Verdict};
 use log_text::LOG_BYTES;
+use std::io::{Read, Stdin, Write};
 
 // One byte more than the longest text, which tells a longer one: of a longer input these bytes have the log of all (`first-bytes` of crate grammar).
 const TEXT_ROOM: usize = 65537;
@@ -18,21 +19,23 @@ enum Input {
     Failed,
 }
 
-// Standard input, however its bytes arrive.
-fn read_input(buf: &mut [u8]) -> Input
+// The input, however its bytes arrive.
+fn read_input(mut input: Stdin, buf: &mut [u8]) -> Input
     ensures { InputRead result buf.new }
 {
     let mut done: usize = 0;
     while done < buf.len() {
-        let got = libc::read(libc::STDIN_FILENO, &mut buf[done..]);
-        if got < 0 {
-            return Input::Failed;
+        match input.read(&mut buf[done..]) {
+            Ok(0) => {
+                return Input::Text(done);
+            }
+            Ok(more) => {
+                done += more;
+            }
+            Err(_) => {
+                return Input::Failed;
+            }
         }
-        let more = io::count(got, &buf[done..]);
-        if more == 0 {
-            return Input::Text(done);
-        }
-        done += more;
     }
     Input::Text(done)
 }
@@ -61,25 +64,23 @@ fn log_of(text: &[u8], out: &mut [u8]) -> Logged
 }
 
 // Reads a text, and writes its log; what fails is reported on standard error.
-fn main() {
+fn main(rt: HostRuntime) {
     let mut text = [0u8; TEXT_ROOM];
     let mut out = log_room();
-    match read_input(&mut text) {
+    match read_input(rt.stdin(), &mut text) {
         Input::Text(n) => {
             let logged = log_of(&text[..n], &mut out);
             let end = logged.bytes;
-            if !io::write_all(libc::STDOUT_FILENO, &out[..end]) {
-                io::write_all(
-                    libc::STDERR_FILENO,
-                    b"sync_log: a write to standard output failed\n",
-                );
+            if rt.stdout().write_all(&out[..end]).is_err() {
+                let _ = rt
+                    .stderr()
+                    .write_all(b"sync_log: a write to standard output failed\n");
             }
         }
         Input::Failed => {
-            io::write_all(
-                libc::STDERR_FILENO,
-                b"sync_log: a read of standard input failed\n",
-            );
+            let _ = rt
+                .stderr()
+                .write_all(b"sync_log: a read of standard input failed\n");
         }
     }
 }

@@ -1,0 +1,86 @@
+use mathlib.Core.Path.{subst, sym, ◌∙◌}
+use Rattle.definitions.specs.Inheriting.{filled, merged}
+use Rattle.definitions.specs.Record.{wide}
+use Rattle.macroblock.specs.Quadrants.{Alike}
+use Rattle.macroblock.proofs.Motions.{Spotted, alike-0, alike-1, alike-2, alike-3, made-of-quadrants, placed-0, placed-1, placed-2, placed-3}
+use Rattle.macroblock_wide.proofs.motions_made.Goals as goal
+
+pub quadrant_made-a-requires : goal.quadrant_made-a-requires
+quadrant_made-a-requires c =
+    let spotted : Spotted wide c.args.width c.args.across c.args.down c.args.base.now c.across_of-x0.result c.across_of-x1.result c.across_of-x2.result c.across_of-x3.result c.down_of-y0.result c.down_of-y1.result c.down_of-y2.result c.down_of-y3.result = record {
+      readable = c.requires.0;
+      column-0 = c.across_of-x0.ensures;
+      column-1 = c.across_of-x1.ensures;
+      column-2 = c.across_of-x2.ensures;
+      column-3 = c.across_of-x3.ensures;
+      row-0 = c.down_of-y0.ensures;
+      row-1 = c.down_of-y1.ensures;
+      row-2 = c.down_of-y2.ensures;
+      row-3 = c.down_of-y3.ensures;
+    } in
+    ((placed-0 spotted).mergeable, λ p. subst Alike (sym c.clear_of.ensures) (alike-0 c.args.width c.args.across c.args.down c.args.base.now c.requires.2 spotted p))
+
+pub quadrant_made-b-requires : goal.quadrant_made-b-requires
+quadrant_made-b-requires c =
+    let spotted : Spotted wide c.args.width c.args.across c.args.down c.args.base.now c.across_of-x0.result c.across_of-x1.result c.across_of-x2.result c.across_of-x3.result c.down_of-y0.result c.down_of-y1.result c.down_of-y2.result c.down_of-y3.result = record {
+      readable = c.requires.0;
+      column-0 = c.across_of-x0.ensures;
+      column-1 = c.across_of-x1.ensures;
+      column-2 = c.across_of-x2.ensures;
+      column-3 = c.across_of-x3.ensures;
+      row-0 = c.down_of-y0.ensures;
+      row-1 = c.down_of-y1.ensures;
+      row-2 = c.down_of-y2.ensures;
+      row-3 = c.down_of-y3.ensures;
+    } in
+    ((placed-1 spotted).mergeable, λ p. subst Alike (sym c.clear_of-2.ensures) (alike-1 c.args.width c.args.across c.args.down c.args.base.now c.requires.2 spotted p))
+
+pub quadrant_made-c-requires : goal.quadrant_made-c-requires
+quadrant_made-c-requires c =
+    let spotted : Spotted wide c.args.width c.args.across c.args.down c.args.base.now c.across_of-x0.result c.across_of-x1.result c.across_of-x2.result c.across_of-x3.result c.down_of-y0.result c.down_of-y1.result c.down_of-y2.result c.down_of-y3.result = record {
+      readable = c.requires.0;
+      column-0 = c.across_of-x0.ensures;
+      column-1 = c.across_of-x1.ensures;
+      column-2 = c.across_of-x2.ensures;
+      column-3 = c.across_of-x3.ensures;
+      row-0 = c.down_of-y0.ensures;
+      row-1 = c.down_of-y1.ensures;
+      row-2 = c.down_of-y2.ensures;
+      row-3 = c.down_of-y3.ensures;
+    } in
+    ((placed-2 spotted).mergeable, λ p. subst Alike (sym c.clear_of-3.ensures) (alike-2 c.args.width c.args.across c.args.down c.args.base.now c.requires.2 spotted p))
+
+pub quadrant_made-d-requires : goal.quadrant_made-d-requires
+quadrant_made-d-requires c =
+    let spotted : Spotted wide c.args.width c.args.across c.args.down c.args.base.now c.across_of-x0.result c.across_of-x1.result c.across_of-x2.result c.across_of-x3.result c.down_of-y0.result c.down_of-y1.result c.down_of-y2.result c.down_of-y3.result = record {
+      readable = c.requires.0;
+      column-0 = c.across_of-x0.ensures;
+      column-1 = c.across_of-x1.ensures;
+      column-2 = c.across_of-x2.ensures;
+      column-3 = c.across_of-x3.ensures;
+      row-0 = c.down_of-y0.ensures;
+      row-1 = c.down_of-y1.ensures;
+      row-2 = c.down_of-y2.ensures;
+      row-3 = c.down_of-y3.ensures;
+    } in
+    ((placed-3 spotted).mergeable, λ p. subst Alike (sym c.clear_of-4.ensures) (alike-3 c.args.width c.args.across c.args.down c.args.base.now c.requires.2 spotted p))
+
+pub returns : goal.returns
+returns c =
+    let spotted : Spotted wide c.args.width c.args.across c.args.down c.args.base.now c.across_of-x0.result c.across_of-x1.result c.across_of-x2.result c.across_of-x3.result c.down_of-y0.result c.down_of-y1.result c.down_of-y2.result c.down_of-y3.result = record {
+      readable = c.requires.0;
+      column-0 = c.across_of-x0.ensures;
+      column-1 = c.across_of-x1.ensures;
+      column-2 = c.across_of-x2.ensures;
+      column-3 = c.across_of-x3.ensures;
+      row-0 = c.down_of-y0.ensures;
+      row-1 = c.down_of-y1.ensures;
+      row-2 = c.down_of-y2.ensures;
+      row-3 = c.down_of-y3.ensures;
+    } in
+    made-of-quadrants c.args.width c.args.across c.args.down c.args.base.now c.requires.2
+    (c.quadrant_made-a.ensures ∙ (λ i. merged (filled (c.clear_of.ensures i) ((placed-0 spotted).is i))))
+    (c.quadrant_made-b.ensures ∙ (λ i. merged (filled (c.clear_of-2.ensures i) ((placed-1 spotted).is i))))
+    (c.quadrant_made-c.ensures ∙ (λ i. merged (filled (c.clear_of-3.ensures i) ((placed-2 spotted).is i))))
+    (c.quadrant_made-d.ensures ∙ (λ i. merged (filled (c.clear_of-4.ensures i) ((placed-3 spotted).is i))))
+    c.copy.ensures

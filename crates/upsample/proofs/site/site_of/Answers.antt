@@ -1,0 +1,10 @@
+use Prim.Native.Nat.{◌≤◌}
+use mathlib.Core.Path.{ap}
+use native.Mathlib.Omega.{arith}
+use Rattle.macroblock.specs.declared.Fixed.{Fixed}
+use Rattle.upsample.proofs.Naming.{site-made}
+use borrow.Author.Rules.{rules}
+use Rattle.upsample.proofs.site.site_of.Goals as goal
+
+pub returns : goal.returns
+returns c = site-made c.args.p c.fixed_of-fixed.ensures c.axis_read-h.ensures c.axis_read-v.ensures c.is_two.ensures c.run_of-upper.ensures c.run_of-lower.ensures
