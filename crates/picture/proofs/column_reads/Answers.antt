@@ -1,0 +1,13 @@
+use Prim.Native.Nat.{ℕ, ◌-◌, ◌≤◌}
+use mathlib.Core.Path.{◌≡◌, subst, ◌∙◌}
+use native.Mathlib.Omega.{arith}
+use lib.ListN.{length-replicate, get_or-replicate}
+use Rattle.definitions.specs.Geometry.{full_size, macroblocks}
+use Rattle.macroblock.specs.declared.AxisRead.{AxisRead}
+use Rattle.picture.specs.Reads.{no_read, AxisReads}
+use Rattle.picture.proofs.Filling.{read_more}
+use borrow.Author.Rules.{rules}
+use Rattle.picture.proofs.column_reads.Goals as goal
+
+pub loop-x-init : goal.loop-x-init
+loop-x-init c = (omega arith, record { size = length-replicate {A = AxisRead} 256 c.read_nowhere-reads.result; each = λ k l. absurd (omega arith); rest = λ k l m. get_or-replicate {A = AxisRead} 256 k c.read_nowhere-reads.result no_read m ∙ c.read_nowhere-reads.ensures })
