@@ -14,7 +14,7 @@ use Rattle.macroblock.specs.declared.AxisRead.{AxisRead}
 use Rattle.macroblock.specs.declared.Fixed.{Fixed}
 use Rattle.common.specs.declared.counts.Sort.{Sort}
 use Rattle.common.specs.declared.counts.Sort.TheVariants.{Inherited, Intra, Outside}
-use Rattle.definitions.specs.Basics.{between, four, minus, pick}
+use Rattle.definitions.specs.Basics.{between, four, pick}
 use Rattle.definitions.specs.Blocks.{raster_of}
 use Rattle.definitions.specs.Record.{all_one, detail_of, fits, laid_out, narrow, rule7, split_said}
 use Rattle.definitions.specs.Inheriting.{at, chosen, mostly_intra, motion_at, resolved, zero_motion}

@@ -1,6 +1,6 @@
 -- What is made by the axes' readings is what document 01 makes. Assumes nothing.
 use Prim.Native.Nat.{ℕ, ◌*◌}
-use mathlib.Core.Path.{◌≡◌, refl, sym, ap, ◌∙◌}
+use mathlib.Core.Path.{◌≡◌, refl, sym, ◌∙◌}
 use mathlib.Core.Bool.{Bool, true, false, and-false, ◌&&◌}
 use mathlib.Core.List.{List, []}
 use lib.IntN.{ℤ, pos}

@@ -12,6 +12,7 @@ four_by-requires c = search (rules, rows-below)
 
 pub returns : goal.returns
 unfolding up_to
-returns c = let upper = rows_at (get_or c.args.v 0 0) c.requires.2 in
+returns c =
+    let upper = rows_at (get_or c.args.v 0 0) c.requires.2 in
     let lower = rows_at (get_or c.args.v 1 0) c.requires.3 in
     (c.four_by.ensures.0 ∙ (λ t. masked_by c.args.bits c.args.h (upper t) (lower t)), c.four_by.ensures.1)

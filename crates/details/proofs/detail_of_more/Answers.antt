@@ -4,7 +4,8 @@ use Rattle.details.proofs.Reading.{detail-corners, halves-below}
 use Rattle.details.proofs.detail_of_more.Goals as goal
 
 pub detail_by-requires : goal.detail_by-requires
-detail_by-requires c = let h = halves-below _ c.requires.2 in
+detail_by-requires c =
+    let h = halves-below _ c.requires.2 in
     let v = halves-below _ c.requires.3 in
     rw (c.requires.4, c.requires.5) (h.0, h.1, v.0, v.1)
 

@@ -3,7 +3,6 @@ use native.Mathlib.Omega.{arith}
 use Rattle.definitions.proofs.Choices.{no, yes}
 use Rattle.gather.proofs.bit_of.Goals as goal
 
--- `gather::bit_of` meets its contract. Assumes nothing.
 pub returns-then-on : goal.returns-then-on
 returns-then-on c = (sym (yes _ _ c.if-on.true), omega arith)
 

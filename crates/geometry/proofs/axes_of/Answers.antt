@@ -2,7 +2,6 @@ use Rattle.definitions.proofs.Accepted.{accepted-numbers}
 use Rattle.geometry.proofs.Verdicts.{none-negative}
 use Rattle.geometry.proofs.axes_of.Goals as goal
 
--- `geometry::axes_of` meets its contract. Assumes nothing.
 pub axis_of-requires : goal.axis_of-requires
 axis_of-requires c = none-negative (accepted-numbers c.args.n c.requires).0
 

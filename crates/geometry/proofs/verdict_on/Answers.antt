@@ -1,8 +1,6 @@
 use mathlib.Core.Path.{◌≡◌, sym, ◌∙◌}
 use mathlib.Core.Bool.{true}
-use borrow.Author.Rules.{rules}
 use Rattle.geometry.proofs.Verdicts.{bases, fulls, scaleds, refused-1, refused-2, refused-3, refused-4, accepted}
-use Rattle.common.proofs.Judging.{failed, held}
 use Rattle.geometry.proofs.verdict_on.Goals as goal
 
 pub returns-then-not-bases_right : goal.returns-then-not-bases_right

@@ -1,7 +1,6 @@
 use Rattle.log_lines.proofs.Putting.{bracket-fits, word_fits, items-fit, close-fits, feed-fits, line-put}
 use Rattle.log_lines.proofs.put_line.Goals as goal
 
--- `log_lines::put_line` meets its contract. Assumes nothing.
 pub put_byte-opened-requires : goal.put_byte-opened-requires
 put_byte-opened-requires c = bracket-fits c.args.word.now c.args.numbers.now c.args.out.now c.args.at c.requires
 

@@ -7,7 +7,8 @@ use Rattle.log_lines.specs.Put.{Fits, Put}
 use Rattle.log_lines.proofs.put_word.Goals as goal
 
 pub put_byte-next-requires : goal.put_byte-next-requires
-put_byte-next-requires c = let room = subst (λ (w : List ℕ). Fits c.args.out.now c.args.at w) (sym (bytes-each c.args.word.now)) c.requires in
+put_byte-next-requires c =
+    let room = subst (λ (w : List ℕ). Fits c.args.out.now c.args.at w) (sym (bytes-each c.args.word.now)) c.requires in
     each_fits (λ b. b ∷ []) c.args.word.now c.loop-k.k c.loop-k.invariant.1 (omega arith) room
 
 pub loop-k-preserved : goal.loop-k-preserved

@@ -5,7 +5,6 @@ use Rattle.definitions.specs.Basics.{for_each}
 use Rattle.log_lines.specs.Put.{Put}
 use Rattle.log_lines.proofs.put_word.Given as goal
 
--- `log_lines::put_word` meets its contract. Assumes nothing.
 abbrev pub invariant-loop-k : goal.invariant-loop-k
 invariant-loop-k l = (l.k ≤ length l.word) × Put l.initial.out l.at (for_each (take l.k l.word) (λ b. b ∷ [])) l.out l.next
 

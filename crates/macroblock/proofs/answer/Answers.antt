@@ -1,4 +1,4 @@
-use mathlib.Core.Path.{ap, sym, ◌∙◌}
+use mathlib.Core.Path.{ap, ◌∙◌}
 use Rattle.macroblock.specs.declared.Said.{Said}
 use Rattle.macroblock.specs.Made.{answer_said}
 use Rattle.macroblock.proofs.Making.{answer-said, keeps-detail, sort-inside}

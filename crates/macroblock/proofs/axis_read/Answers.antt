@@ -1,7 +1,5 @@
 use mathlib.Core.Path.{sym, ◌∙◌}
-use native.Mathlib.Omega.{arith}
 use Rattle.macroblock.proofs.Reading.{read-inside, read-outside, step_small}
-use borrow.Author.Rules.{rules}
 use Rattle.macroblock.proofs.axis_read.Goals as goal
 
 pub read_in-requires : goal.read_in-requires

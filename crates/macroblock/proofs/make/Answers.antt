@@ -1,7 +1,4 @@
-use mathlib.Core.Bool.{◌&&◌}
-use mathlib.Core.Path.{sym, ◌∙◌}
 use Rattle.macroblock.proofs.Making.{placed-in, placed-out}
-use borrow.Author.Rules.{rules}
 use Rattle.macroblock.proofs.make.Goals as goal
 
 pub returns-then-is_one-clause-sort : goal.returns-then-is_one-clause-sort

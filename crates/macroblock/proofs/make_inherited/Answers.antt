@@ -7,14 +7,14 @@ use Rattle.definitions.specs.Inheriting.{chosen, motion_at}
 use Rattle.definitions.specs.Record.{laid_out}
 use Rattle.motion.specs.ByValue.{quadrants_in}
 use Rattle.motion.specs.Scales.{all_scaled}
-use borrow.Author.Rules.{rules}
 use Rattle.macroblock.proofs.make_inherited.Goals as goal
 
 pub write_made-requires : goal.write_made-requires
 write_made-requires c = (c.requires.3, c.requires.0.scales, writable c.args.f.width c.args.across c.args.down c.args.base.now c.requires.0.readable c.args.set c.motions_made.result c.motions_made.ensures)
 
 pub returns : goal.returns
-returns c = let m = all_scaled c.args.f.scales (quadrants_in c.motions_made.result) in
+returns c =
+    let m = all_scaled c.args.f.scales (quadrants_in c.motions_made.result) in
     c.write_made.ensures
     ∙ (ap (λ (d : ℕ). laid_out (divided_by (chosen m) (motion_at m) (pos d))) c.requires.2
     ∙ inherited-written c.args.f c.args.across c.args.down c.args.base.now c.requires.1 c.motions_made.ensures)

@@ -2,7 +2,6 @@ use mathlib.Core.Path.{ap, sym, ◌∙◌}
 use Rattle.definitions.specs.Answer.{without_motion}
 use Rattle.macroblock.proofs.Making.{detail-word, made-inherited, made-intra, no-corner, set_is}
 use Rattle.macroblock.proofs.Single.{mostly-none}
-use borrow.Author.Rules.{rules}
 use Rattle.macroblock.proofs.make_of_more.Goals as goal
 
 pub returns-then-mostly_intra-clause-sort : goal.returns-then-mostly_intra-clause-sort

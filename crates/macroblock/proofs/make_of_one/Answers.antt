@@ -7,7 +7,6 @@ use Rattle.motion.specs.ByValue.{motion_in}
 use Rattle.motion.specs.Scales.{motion_scaled}
 use Rattle.macroblock.proofs.Making.{detail-word, made-inherited, made-intra, read-writable, scaled-words}
 use Rattle.macroblock.proofs.Single.{first-readable, mostly-all, mostly-none, one-read, set_all, set-none, whole-written}
-use borrow.Author.Rules.{rules}
 use Rattle.macroblock.proofs.make_of_one.Goals as goal
 
 pub reads_intra-requires : goal.reads_intra-requires
@@ -35,7 +34,8 @@ pub write_one-requires : goal.write_one-requires
 write_one-requires c = (c.requires.3, scaled-words c.args.f.scales c.block_read.result c.scaled.result c.requires.0.scales (read-writable _ _ _ _ _ (first-readable c.args.f c.args.across c.args.down c.args.base.now c.requires.0 c.requires.1) c.block_read.ensures) c.scaled.ensures)
 
 pub returns-then-reads_whole-quarter-clause-sort : goal.returns-then-reads_whole-quarter-clause-sort
-returns-then-reads_whole-quarter-clause-sort c = let not-intra = sym c.reads_intra.ensures ∙ c.if-reads_intra.false in
+returns-then-reads_whole-quarter-clause-sort c =
+    let not-intra = sym c.reads_intra.ensures ∙ c.if-reads_intra.false in
     let w = sym c.reads_whole.ensures in
     let a = sym c.is_half.ensures in
     let b = sym c.is_half-2.ensures in
@@ -45,7 +45,8 @@ returns-then-reads_whole-quarter-clause-sort c = let not-intra = sym c.reads_int
     (c.write_one.ensures ∙ (ap (λ (d : ℤ). laid_out (all_one 1 (motion_in c.scaled.result) d)) (detail-word _ _ c.ranges.detail c.requires.2) ∙ whole-written c.args.f c.args.across c.args.down c.args.base.now c.requires.0 c.requires.1 not-intra all (c.scaled.ensures ∙ ap (motion_scaled c.args.f.scales) c.block_read.ensures)))).0
 
 pub returns-then-reads_whole-quarter-clause-written : goal.returns-then-reads_whole-quarter-clause-written
-returns-then-reads_whole-quarter-clause-written c = let not-intra = sym c.reads_intra.ensures ∙ c.if-reads_intra.false in
+returns-then-reads_whole-quarter-clause-written c =
+    let not-intra = sym c.reads_intra.ensures ∙ c.if-reads_intra.false in
     let w = sym c.reads_whole.ensures in
     let a = sym c.is_half.ensures in
     let b = sym c.is_half-2.ensures in

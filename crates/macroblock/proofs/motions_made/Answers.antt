@@ -5,7 +5,6 @@ use Rattle.definitions.specs.Record.{narrow}
 use Rattle.gather.specs.Reads.{gathered_by}
 use Rattle.macroblock.specs.Quadrants.{Alike}
 use Rattle.macroblock.proofs.Motions.{Spotted, alike-0, alike-1, alike-2, alike-3, made-of-quadrants, merged-only, placed-0, placed-1, placed-2, placed-3}
-use borrow.Author.Rules.{rules}
 use Rattle.macroblock.proofs.motions_made.Goals as goal
 
 pub quadrant_merged-a-requires : goal.quadrant_merged-a-requires

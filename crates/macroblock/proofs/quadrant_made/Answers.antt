@@ -5,15 +5,16 @@ use Rattle.definitions.specs.Inheriting.{filled, merged}
 use Rattle.motion.specs.ByValue.{AllReferring, motions_in}
 use Rattle.quadrant.specs.Merging.{AllEmpty}
 use Rattle.macroblock.proofs.Motions.{filled-mergeable, made-clear, made_plain}
-use borrow.Author.Rules.{rules}
 use Rattle.macroblock.proofs.quadrant_made.Goals as goal
 
 pub returns-then-is_plain : goal.returns-then-is_plain
-returns-then-is_plain c = let p = sym c.is_plain.ensures ∙ c.if-is_plain.true in
+returns-then-is_plain c =
+    let p = sym c.is_plain.ensures ∙ c.if-is_plain.true in
     ap motions_in c.quadrant_read.ensures ∙ made_plain c.args.base.now c.args.x0 c.args.x1 c.args.y0 c.args.y1 c.requires.0 c.args.clear p (c.requires.1 p)
 
 pub merge-requires : goal.merge-requires
-merge-requires c = let e = sym c.quadrant_read-then-clear.ensures in
+merge-requires c =
+    let e = sym c.quadrant_read-then-clear.ensures in
     (subst (λ (m : List BlockMotion). AllEmpty (motions_in m)) e c.requires.0.empty, subst AllReferring e c.requires.0.referring)
 
 pub returns-then-clear : goal.returns-then-clear

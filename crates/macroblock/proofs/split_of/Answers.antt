@@ -9,7 +9,6 @@ use Rattle.macroblock.proofs.Saying.{said-16x16, said-16x8, said-8x16, said-8x8}
 use borrow.Author.Rules.{rules}
 use Rattle.macroblock.proofs.split_of.Goals as goal
 
--- `macroblock::split_of` meets its contract. Assumes nothing.
 pub returns-then-kind-eq1 : goal.returns-then-kind-eq1
 returns-then-kind-eq1 c = said-16x16 c.args.s (bits_are w32 c.args.s.kind (pos 1) (search rules) (search rules) c.if-kind-eq1.true)
 
@@ -21,7 +20,8 @@ returns-then-kind-eq3 c = said-8x16 c.args.s (bits-are-not w32 c.args.s.kind (po
     (bits_are w32 c.args.s.kind (pos 3) (search rules) (search rules) c.if-kind-eq3.true)
 
 pub returns : goal.returns
-returns c = let a : to_z w32 (of_z w32 c.args.s.a) ≡ c.args.s.a = to_z-of_z {w = w32} (search rules) in
+returns c =
+    let a : to_z w32 (of_z w32 c.args.s.a) ≡ c.args.s.a = to_z-of_z {w = w32} (search rules) in
     let b : to_z w32 (of_z w32 c.args.s.b) ≡ c.args.s.b = to_z-of_z {w = w32} (search rules) in
     let d : to_z w32 (of_z w32 c.args.s.c) ≡ c.args.s.c = to_z-of_z {w = w32} (search rules) in
     let e : to_z w32 (of_z w32 c.args.s.d) ≡ c.args.s.d = to_z-of_z {w = w32} (search rules) in

@@ -6,7 +6,6 @@ use Rattle.records.proofs.Words.{bits_are, bits-are-not}
 use borrow.Author.Rules.{rules}
 use Rattle.macroblock.proofs.sub_split_of.Goals as goal
 
--- `macroblock::sub_split_of` meets its contract. Assumes nothing.
 pub returns-then-word-eq0 : goal.returns-then-word-eq0
 returns-then-word-eq0 c = sym (said-8x8 c.args.word (bits_are w32 c.args.word (pos 0) (search rules) (search rules) c.if-word-eq0.true))
 

@@ -29,7 +29,8 @@ pub write_made-requires : goal.write_made-requires
 write_made-requires c = (search rules, c.requires.0.scales, writable c.args.f.width c.args.across c.args.down c.args.base.now c.requires.0.readable _ c.motions_made-m.result c.motions_made-m.ensures)
 
 pub returns-clause-sort : goal.returns-clause-sort
-returns-clause-sort c = let set = set_is c.args.f c.args.across c.args.down c.args.base.now c.requires.0.columns c.requires.0.rows c.corners_of.ensures c.set_of-set.ensures in
+returns-clause-sort c =
+    let set = set_is c.args.f c.args.across c.args.down c.args.base.now c.requires.0.columns c.requires.0.rows c.corners_of.ensures c.set_of-set.ensures in
     let made = all_scaled c.args.f.scales (quadrants_in c.motions_made-m.result) in
     (made-inherited c.args.f c.args.across c.args.down c.args.base.now set (sym c.mostly_intra.ensures ∙ c.if-mostly_intra.false)
     (c.write_made.ensures
@@ -37,7 +38,8 @@ returns-clause-sort c = let set = set_is c.args.f c.args.across c.args.down c.ar
     ∙ inherited-written c.args.f c.args.across c.args.down c.args.base.now set c.motions_made-m.ensures))).0
 
 pub returns-clause-written : goal.returns-clause-written
-returns-clause-written c = let set = set_is c.args.f c.args.across c.args.down c.args.base.now c.requires.0.columns c.requires.0.rows c.corners_of.ensures c.set_of-set.ensures in
+returns-clause-written c =
+    let set = set_is c.args.f c.args.across c.args.down c.args.base.now c.requires.0.columns c.requires.0.rows c.corners_of.ensures c.set_of-set.ensures in
     let made = all_scaled c.args.f.scales (quadrants_in c.motions_made-m.result) in
     (made-inherited c.args.f c.args.across c.args.down c.args.base.now set (sym c.mostly_intra.ensures ∙ c.if-mostly_intra.false)
     (c.write_made.ensures

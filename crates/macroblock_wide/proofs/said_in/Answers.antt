@@ -14,12 +14,12 @@ use Rattle.records.proofs.Words.{four-bits}
 use borrow.Author.Rules.{rules}
 use Rattle.macroblock_wide.proofs.said_in.Goals as goal
 
--- `macroblock_wide::said_in` meets its contract. Assumes nothing.
 small : (r : List ℤ) → rule7 r ≡ true → T (non_neg (detail_of r)) × (nat_abs (detail_of r) < 16)
 unfolding rule7
 small r e = four-bits (detail_of r) e
 
 pub overflow_cast-result : goal.overflow_cast-result
-overflow_cast-result c = let s = small c.args.out.now c.requires.1 in
+overflow_cast-result c =
+    let s = small c.args.out.now c.requires.1 in
     let e : to_z w32 (of_z w32 c.word_at-6.result) ≡ detail_of c.args.out.now = to_z-of_z {w = w32} (search rules) ∙ c.word_at-6.ensures in
     rw e (s.0, record { fits = omega (arith, s.1) })

@@ -1,12 +1,8 @@
-use Prim.Native.Nat.{ℕ, ◌-◌, ◌≤◌}
-use mathlib.Core.Path.{◌≡◌, subst, ◌∙◌}
+use mathlib.Core.Path.{◌∙◌}
 use native.Mathlib.Omega.{arith}
 use lib.ListN.{length-replicate, get_or-replicate}
-use Rattle.definitions.specs.Geometry.{full_size, macroblocks}
 use Rattle.macroblock.specs.declared.AxisRead.{AxisRead}
-use Rattle.picture.specs.Reads.{no_read, AxisReads}
-use Rattle.picture.proofs.Filling.{read_more}
-use borrow.Author.Rules.{rules}
+use Rattle.picture.specs.Reads.{no_read}
 use Rattle.picture.proofs.column_reads.Goals as goal
 
 pub loop-x-init : goal.loop-x-init

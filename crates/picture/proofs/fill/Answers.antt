@@ -1,36 +1,32 @@
-use Prim.Native.Nat.{ℕ, ◌+◌, ◌-◌, ◌*◌, ◌<◌, ◌≤◌}
-use mathlib.Core.List.{◌++◌}
+use Prim.Native.Nat.{ℕ, ◌+◌, ◌-◌, ◌*◌}
 use mathlib.Core.Path.{◌≡◌, refl, sym, ap, subst, ◌∙◌}
 use native.Mathlib.Omega.{arith}
-use lib.ListN.{length, get_or, drop, length-take, length-drop}
-use Rattle.definitions.specs.Basics.{up_to}
+use lib.ListN.{get_or, length-take, length-drop}
 use Rattle.definitions.specs.Record.{record_words, narrow}
 use Rattle.definitions.specs.Answer.{Made}
-use Rattle.definitions.specs.Calls.{made_at, counts_of}
+use Rattle.definitions.specs.Calls.{made_at}
 use Rattle.definitions.specs.Raster.{full_count}
 use Rattle.definitions.proofs.Demand.{made-length}
-use Rattle.definitions.proofs.Parts.{parts, parts_none, parts_all, part-back}
+use Rattle.definitions.proofs.Parts.{parts_none, parts_all, part-back}
 use Rattle.macroblock.specs.declared.Fixed.{Fixed}
 use Rattle.macroblock.specs.Made.{Makeable, made_by, read_of}
 use Rattle.common.specs.Sorts.{sort_of}
 use Rattle.macroblock.proofs.Paper.{sort-is}
 use Rattle.picture.specs.Reads.{no_read}
-use Rattle.common.proofs.Located.{row_below}
 use Rattle.common.proofs.Counted.{counts-none, counts-next, counts-low}
 use Rattle.upsample.proofs.Addresses.{makeable, made-there}
 use Rattle.picture.proofs.Filling.{words_of}
-use borrow.Author.Rules.{rules}
 use Rattle.picture.proofs.fill.Goals as goal
 
 pub loop-a-init : goal.loop-a-init
-loop-a-init c = let f = made_at c.args.g c.args.base.now in
+loop-a-init c =
+    let f = made_at c.args.g c.args.base.now in
     (omega arith, c.requires.1 ∙ ap (λ (n : ℕ). record_words * n) (sym c.full_count-total.ensures.0), parts_none (λ k. (f k).written) record_words c.args.out.now, counts-none f, omega arith, omega (arith, c.requires.0.right.axes.horizontal.full-low), λ h. absurd (omega arith))
 
 pub make-sort-requires : goal.make-sort-requires
-make-sort-requires c = 
+make-sort-requires c =
     let column-there : get_or c.column_reads-columns.result c.loop-a.at.column no_read ≡ read_of c.args.g.horizontal c.loop-a.at.column = c.column_reads-columns.ensures.each _ c.loop-a.invariant.5 in
-    let h = get_or c.column_reads-columns.result c.loop-a.at.column no_read in
-    (
+    let h = get_or c.column_reads-columns.result c.loop-a.at.column no_read in (
       subst (λ (f : Fixed). Makeable narrow f h c.row_read-v.result c.args.base.now) (sym c.fixed_of-fixed.ensures)
           (makeable c.args.g c.loop-a.at.column c.loop-a.at.row c.args.base.now c.requires.0 h c.row_read-v.result column-there c.row_read-v.ensures),
       simp (length-take, length-drop) (omega arith),
@@ -41,7 +37,7 @@ count_sort-counts-requires c = omega (arith, counts-low (made_at c.args.g c.args
 
 pub loop-a-preserved : goal.loop-a-preserved
 unfolding made_by
-loop-a-preserved c = 
+loop-a-preserved c =
     let column-there : get_or c.column_reads-columns.result c.loop-a.at.column no_read ≡ read_of c.args.g.horizontal c.loop-a.at.column = c.column_reads-columns.ensures.each _ c.loop-a.invariant.5 in
     let f = made_at c.args.g c.args.base.now in
     let h = get_or c.column_reads-columns.result c.loop-a.at.column no_read in
@@ -57,5 +53,6 @@ loop-a-preserved c =
     )
 
 pub returns-clause-words : goal.returns-clause-words
-returns-clause-words c = let f = made_at c.args.g c.args.base.now in
+returns-clause-words c =
+    let f = made_at c.args.g c.args.base.now in
     let e : c.loop-a.a ≡ full_count c.args.g = omega (arith, c.full_count-total.ensures.0) in c.loop-a.invariant.2 ∙ (parts_all (λ k. (f k).written) record_words c.args.out.now (full_count c.args.g) c.loop-a.a c.requires.1 e ∙ words_of f (full_count c.args.g))

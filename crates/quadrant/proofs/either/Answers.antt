@@ -2,7 +2,6 @@ use Rattle.std.proofs.Common.{sym}
 use Rattle.definitions.proofs.Choices.{yes, no}
 use Rattle.quadrant.proofs.either.Goals as goal
 
--- `quadrant::either` meets its contract. Assumes nothing.
 pub returns-then-own : goal.returns-then-own
 returns-then-own c = sym (yes _ _ c.if-own.true)
 

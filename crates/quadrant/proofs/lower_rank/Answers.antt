@@ -2,7 +2,6 @@ use Rattle.std.proofs.Common.{sym, le-ltb, lt-ltb}
 use Rattle.definitions.proofs.Choices.{yes, no}
 use Rattle.quadrant.proofs.lower_rank.Goals as goal
 
--- `quadrant::lower_rank` meets its contract. Assumes nothing.
 pub returns-then-q-p : goal.returns-then-q-p
 returns-then-q-p c = sym (yes _ _ (lt-ltb _ _ c.if-q-p.true))
 

@@ -8,7 +8,6 @@ use Rattle.quadrant.proofs.Merging.{merged-block}
 use Rattle.quadrant.proofs.Ranks.{four-refer, four-read, lowest-read}
 use Rattle.quadrant.proofs.merge.Goals as goal
 
--- `quadrant::merge` meets its contract. Assumes nothing.
 abbrev first : List BlockMotion → ℕ → ℤ
 first m k = (get_or m k zero_block).r0
 
@@ -23,7 +22,8 @@ sources_of-g-requires c = four-refer (second c.args.m) (λ k h. (c.requires.1 k 
 
 pub returns : goal.returns
 unfolding merged
-returns c = let zero : (j : ℕ) → j < 4 → Reference (first c.args.m j) = λ j e. (c.requires.1 j e).0 in
+returns c =
+    let zero : (j : ℕ) → j < 4 → Reference (first c.args.m j) = λ j e. (c.requires.1 j e).0 in
     let one : (j : ℕ) → j < 4 → Reference (second c.args.m j) = λ j e. (c.requires.1 j e).1 in
     let x = four-read (first c.args.m) zero (λ p q s t. Chosen p q s t c.sources_of-f.result) (c.sources_of-f.ensures.reference, (c.sources_of-f.ensures.a, (c.sources_of-f.ensures.b, (c.sources_of-f.ensures.c, (c.sources_of-f.ensures.d))))) in
     let y = four-read (second c.args.m) one (λ p q s t. Chosen p q s t c.sources_of-g.result) (c.sources_of-g.ensures.reference, (c.sources_of-g.ensures.a, (c.sources_of-g.ensures.b, (c.sources_of-g.ensures.c, (c.sources_of-g.ensures.d))))) in

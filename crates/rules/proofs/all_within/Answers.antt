@@ -1,7 +1,7 @@
 use borrow.Author.Rules.{rules}
-use Prim.Native.Nat.{◌+◌, ◌-◌, ◌≤◌}
-use mathlib.Core.Path.{◌≡◌, sym}
-use Rattle.definitions.specs.Basics.{between, all_below}
+use Prim.Native.Nat.{◌+◌}
+use mathlib.Core.Path.{sym}
+use Rattle.definitions.specs.Basics.{between}
 use Rattle.definitions.specs.Record.{word_of}
 use Rattle.records.specs.Checking.{all_within}
 use Rattle.records.proofs.Searches.{search-none, below_more, search-end}

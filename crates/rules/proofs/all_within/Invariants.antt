@@ -1,13 +1,10 @@
-use borrow.Author.Rules.{rules}
+-- `all_within` meets its contract: the tests of the words passed. Assumes nothing.
 use Prim.Native.Nat.{◌+◌, ◌-◌, ◌≤◌}
-use mathlib.Core.Path.{◌≡◌, sym}
+use mathlib.Core.Path.{◌≡◌}
 use Rattle.definitions.specs.Basics.{between, all_below}
 use Rattle.definitions.specs.Record.{word_of}
-use Rattle.records.specs.Checking.{all_within}
-use Rattle.records.proofs.Searches.{search-none, below_more, search-end}
 use Rattle.rules.proofs.all_within.Given as goal
 
--- `all_within` meets its contract: the tests of the words passed. Assumes nothing.
 abbrev pub invariant-loop-k : goal.invariant-loop-k
 invariant-loop-k l = (l.k ≤ l.count) × (l.right ≡ all_below l.k (λ k. between l.range.low l.range.high (word_of l.words (l.first + k))))
 

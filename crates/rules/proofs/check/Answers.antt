@@ -1,12 +1,6 @@
-use Prim.Native.Nat.{◌-◌, ◌≤◌}
-use mathlib.Core.Logic.{⊎_elim}
-use mathlib.Core.Path.{◌≡◌, refl, sym, ◌∙◌, ap}
-use mathlib.Core.Bool.{true}
-use borrow.Author.Tests.{not-true, not-false}
+use mathlib.Core.Path.{sym, ◌∙◌, ap}
 use borrow.Author.Rules.{rules}
-use Rattle.definitions.specs.Basics.{all_below}
 use Rattle.records.specs.Checking.{found_at}
-use Rattle.records.proofs.Verdicts.{verdict}
 use Rattle.records.proofs.Searches.{search-none, search-more}
 use Rattle.rules.specs.Searching.{pieces_right}
 use Rattle.rules.proofs.Searched.{found-end, found-head, found-5, found-6, found-7, found-next}

@@ -1,18 +1,12 @@
+-- `check` meets its contract: the verdict from the address on is the whole's; the quadrants passed keep rule 6. Assumes nothing.
 use Prim.Native.Nat.{◌-◌, ◌≤◌}
-use mathlib.Core.Logic.{⊎_elim}
-use mathlib.Core.Path.{◌≡◌, refl, sym, ◌∙◌, ap}
+use mathlib.Core.Path.{◌≡◌}
 use mathlib.Core.Bool.{true}
-use borrow.Author.Tests.{not-true, not-false}
-use borrow.Author.Rules.{rules}
 use Rattle.definitions.specs.Basics.{all_below}
-use Rattle.records.specs.Checking.{found_at}
 use Rattle.records.proofs.Verdicts.{verdict}
-use Rattle.records.proofs.Searches.{search-none, search-more}
 use Rattle.rules.specs.Searching.{pieces_right}
-use Rattle.rules.proofs.Searched.{found-end, found-head, found-5, found-6, found-7, found-next}
 use Rattle.rules.proofs.check.Given as goal
 
--- `check` meets its contract: the verdict from the address on is the whole's; the quadrants passed keep rule 6. Assumes nothing.
 abbrev pub invariant-loop-q : goal.invariant-loop-q
 invariant-loop-q l = (l.q ≤ 4) × (l.rule ≡ 0) × (all_below l.q (pieces_right l.words) ≡ true)
 

@@ -1,4 +1,3 @@
-use borrow.Author.Rules.{rules}
 use Rattle.definitions.specs.Record.{rule7}
 use Rattle.rules.proofs.detail_right.Goals as goal
 

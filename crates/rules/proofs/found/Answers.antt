@@ -1,11 +1,10 @@
+-- `found` meets its contract: no broken rule, or one. Assumes nothing.
 use mathlib.Core.Path.{sym}
 use borrow.Author.Tests.{eq-eqb, ne_eqb}
-use borrow.Author.Rules.{rules}
 use Rattle.definitions.proofs.Choices.{yes, no}
 use Rattle.records.specs.Checking.{found_at}
 use Rattle.rules.proofs.found.Goals as goal
 
--- `found` meets its contract: no broken rule, or one. Assumes nothing.
 pub returns-then-rule-eq0 : goal.returns-then-rule-eq0
 unfolding found_at
 returns-then-rule-eq0 c = sym (yes _ _ (eq-eqb _ _ c.if-rule-eq0.true))

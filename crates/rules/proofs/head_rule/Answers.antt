@@ -1,6 +1,5 @@
 use mathlib.Core.Bool.{not}
 use mathlib.Core.Path.{sym, ◌∙◌, ap}
-use borrow.Author.Rules.{rules}
 use Rattle.definitions.proofs.Choices.{yes, no}
 use Rattle.rules.specs.Searching.{head_broken}
 use Rattle.records.proofs.Ranges.{types, references}

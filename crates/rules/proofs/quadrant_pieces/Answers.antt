@@ -1,8 +1,7 @@
 use borrow.Author.Rules.{rules}
 use mathlib.Core.Path.{◌∙◌}
 use mathlib.Core.Bool.{◌&&◌}
-use Prim.Native.Nat.{◌+◌, ◌*◌, ◌/◌, ◌%◌}
-use Rattle.rules.proofs.Parts.{kept-below, quadrant-same}
+use Rattle.rules.proofs.Parts.{quadrant-same}
 use Rattle.rules.proofs.quadrant_pieces.Goals as goal
 
 pub returns : goal.returns

@@ -1,4 +1,3 @@
-use borrow.Author.Rules.{rules}
 use mathlib.Core.Bool.{◌&&◌}
 use mathlib.Core.Path.{◌∙◌}
 use Rattle.definitions.specs.Blocks.{quadrant_of}

@@ -1,15 +1,11 @@
-use borrow.Author.Rules.{rules}
+-- `vectors_right` meets its contract: all words fit, and the quadrants passed. Assumes nothing.
 use Prim.Native.Nat.{◌-◌, ◌≤◌}
 use mathlib.Core.Bool.{◌&&◌}
-use mathlib.Core.Path.{◌≡◌, sym, ◌∙◌}
+use mathlib.Core.Path.{◌≡◌}
 use Rattle.definitions.specs.Basics.{all_below}
-use Rattle.records.specs.Checking.{all_within}
-use Rattle.records.proofs.Searches.{search-none, below_more, search-end}
 use Rattle.rules.specs.Searching.{unused_zero}
-use Rattle.rules.proofs.Parts.{vectors-apart}
 use Rattle.rules.proofs.vectors_right.Given as goal
 
--- `vectors_right` meets its contract: all words fit, and the quadrants passed. Assumes nothing.
 abbrev pub invariant-loop-q : goal.invariant-loop-q
 invariant-loop-q l = (l.q ≤ 4) × (l.zero ≡ all_below l.q (λ q. unused_zero l.words q 0 && unused_zero l.words q 1))
 

@@ -7,7 +7,8 @@ use borrow.Author.Rules.{rules}
 use Rattle.scan.proofs.quick_by_type.Goals as goal
 
 pub returns : goal.returns
-returns c = let kind = type_of c.args.words.now in
+returns c =
+    let kind = type_of c.args.words.now in
     sym
     (none-formed narrow c.args.words.now
     (word-is-not kind (pos 0) (search rules) (search rules) c.if-kind-eq0.false)

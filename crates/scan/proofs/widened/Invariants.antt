@@ -1,9 +1,9 @@
+-- `widened` meets its contract: the words copied are the record's. Assumes nothing.
 use Prim.Native.Nat.{◌-◌, ◌≤◌}
 use Rattle.definitions.specs.Record.{record_words}
 use Rattle.scan.proofs.Copied.{Copied}
 use Rattle.scan.proofs.widened.Given as goal
 
--- `widened` meets its contract: the words copied are the record's. Assumes nothing.
 abbrev pub invariant-loop-w : goal.invariant-loop-w
 invariant-loop-w l = (l.w ≤ record_words) × Copied l.words l.copy l.w
 

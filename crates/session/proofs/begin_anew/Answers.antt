@@ -1,7 +1,6 @@
 use Rattle.session.proofs.Handing.{begin-wrong, begin-right}
 use Rattle.geometry.proofs.Verdicts.{checked-accepted, checked_refused}
 use mathlib.Core.Path.{sym, ◌∙◌}
-use borrow.Author.Rules.{rules}
 use Rattle.session.proofs.begin_anew.Goals as goal
 
 pub returns-in-Geometry-clause-verdict : goal.returns-in-Geometry-clause-verdict

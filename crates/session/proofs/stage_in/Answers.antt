@@ -1,12 +1,7 @@
-use Rattle.session.proofs.Stages.{stage-many, stage-last, still-below, stage-on}
+use Rattle.session.proofs.Stages.{stage-many, stage-last, stage-on}
 use Rattle.definitions.specs.Calls.{sum_of}
-use Rattle.definitions.specs.Raster.{full_count}
-use Rattle.common.proofs.Sizes.{full-small}
 use Rattle.session.specs.declared.Stage.TheVariants.{Unfinished}
-use Prim.Native.Nat.{◌<◌}
 use mathlib.Core.Path.{◌∙◌}
-use native.Mathlib.Omega.{arith}
-use borrow.Author.Rules.{rules}
 use Rattle.session.proofs.stage_in.Goals as goal
 
 pub returns-then-total-at : goal.returns-then-total-at

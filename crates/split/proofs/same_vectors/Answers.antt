@@ -7,10 +7,10 @@ use Rattle.definitions.proofs.Motions.{bits-same}
 use Rattle.motion.specs.ByValue.{same_vectors_in}
 use Rattle.split.proofs.same_vectors.Goals as goal
 
--- `split::same_vectors` meets its contract. Assumes nothing.
 pub returns : goal.returns
 unfolding same_vectors_in
-returns c = let x0 = bits-same w32 c.args.p.x0 c.args.q.x0 (search rules) (search rules) in
+returns c =
+    let x0 = bits-same w32 c.args.p.x0 c.args.q.x0 (search rules) (search rules) in
     let y0 = bits-same w32 c.args.p.y0 c.args.q.y0 (search rules) (search rules) in
     let x1 = bits-same w32 c.args.p.x1 c.args.q.x1 (search rules) (search rules) in
     let y1 = bits-same w32 c.args.p.y1 c.args.q.y1 (search rules) (search rules) in

@@ -1,7 +1,4 @@
-use mathlib.Core.Bool.{◌&&◌}
-use native.Mathlib.Omega.{arith}
-use borrow.Author.Rules.{rules}
-use Rattle.split.proofs.Vectors.{number_fits, sub-type-is}
+use Rattle.split.proofs.Vectors.{sub-type-is}
 use Rattle.split.proofs.sub_type_of.Goals as goal
 
 pub returns : goal.returns

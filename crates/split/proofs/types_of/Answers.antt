@@ -1,5 +1,3 @@
-use lib.Dec.{lit<}
-use borrow.Author.Rules.{rules}
 use Rattle.motion.specs.ByValue.{quadrants_in}
 use Rattle.split.proofs.Choosing.{chosen-quarters, chosen-whole}
 use Rattle.split.proofs.types_of.Goals as goal

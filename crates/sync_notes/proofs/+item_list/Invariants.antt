@@ -4,7 +4,6 @@ use Rattle.grammar.specs.declared.Got.{Got}
 use Rattle.grammar.specs.Readers.{Items, ReadAt}
 use Rattle.sync_notes.proofs.+item_list.Given as goal
 
--- `sync_notes::+item_list` meets its contract. Assumes nothing.
 abbrev pub decreases-item : goal.decreases-item
 decreases-item l = l.depth + l.depth
 

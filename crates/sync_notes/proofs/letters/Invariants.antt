@@ -4,7 +4,6 @@ use Rattle.grammar.specs.Readers.{part}
 use lib.ListN.{length}
 use Rattle.sync_notes.proofs.letters.Given as goal
 
--- `sync_notes::letters` meets its contract. Assumes nothing.
 abbrev pub invariant-loop-p : goal.invariant-loop-p
 invariant-loop-p l = (l.at ≤ l.p) × (l.p ≤ length l.s) × All Letter (part l.s l.at l.p)
 

@@ -1,7 +1,6 @@
 use Rattle.grammar.proofs.Items.{rest-ends, rest-bad, rest-close, rest-space}
 use Rattle.sync_notes.proofs.rest_of.Goals as goal
 
--- `sync_notes::rest_of` meets its contract. Assumes nothing.
 pub returns-then-at-s : goal.returns-then-at-s
 returns-then-at-s c = rest-ends c.args.s.now c.args.at c.args.depth c.requires c.if-at-s.true
 

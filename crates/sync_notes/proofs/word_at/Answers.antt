@@ -19,5 +19,6 @@ pub loop-j-preserved : goal.loop-j-preserved
 loop-j-preserved c = (omega arith, omega arith, omega arith, λ r h. c.loop-j.invariant.3 r (word_more c.args.s.now c.args.w.now c.loop-j.p c.loop-j.j c.loop-j-test.true c.if-p-s.false c.if-s-p.false r h))
 
 pub returns : goal.returns
-returns c = let n : drop c.loop-j.j c.args.w.now ≡ [] = drop_of_length-le c.args.w.now c.loop-j-test.false in
+returns c =
+    let n : drop c.loop-j.j c.args.w.now ≡ [] = drop_of_length-le c.args.w.now c.loop-j-test.false in
     c.loop-j.invariant.3 (At _) (subst (λ (u : List ℕ). Stands (Exactly u) c.args.s.now c.loop-j.p c.loop-j.p) (sym n) (exactly-none c.args.s.now c.loop-j.p c.loop-j.invariant.1))

@@ -3,7 +3,6 @@ use native.Mathlib.Omega.{arith}
 use Rattle.grammar.proofs.Bytes.{class-alpha, class-nonzero, class-zero, class-dash, class-open, class-close, class-space, class-high, class-mid, class_low}
 use Rattle.sync_numbers.proofs.class_of.Goals as goal
 
--- `sync_numbers::class_of` meets its contract. Assumes nothing.
 pub returns-then-b-le122 : goal.returns-then-b-le122
 returns-then-b-le122 c = sym (class-alpha _ (omega arith))
 

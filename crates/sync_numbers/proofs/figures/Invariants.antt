@@ -3,7 +3,6 @@ use Prim.Native.Nat.{◌-◌}
 use lib.ListN.{length}
 use Rattle.sync_numbers.proofs.figures.Given as goal
 
--- `sync_numbers::figures` meets its contract. Assumes nothing.
 abbrev pub invariant-loop-p : goal.invariant-loop-p
 invariant-loop-p l = DigitsSoFar l.s l.at l.a l.top l.n l.p
 

@@ -3,7 +3,6 @@ use Rattle.grammar.proofs.Signs.{pos-is}
 use native.Mathlib.Omega.{arith}
 use Rattle.sync_numbers.proofs.number.Goals as goal
 
--- `sync_numbers::number` meets its contract. Assumes nothing.
 pub returns-then-at-s : goal.returns-then-at-s
 returns-then-at-s c = number-ends _ _ c.requires c.if-at-s.true
 
@@ -14,7 +13,8 @@ pub returns-in-Zero : goal.returns-in-Zero
 returns-in-Zero c = number-zero _ _ c.if-at-s.false (zero_of _ _ c.class_of-c.ensures c.in-Zero.is)
 
 pub returns-in-Nonzero : goal.returns-in-Nonzero
-returns-in-Nonzero c = let b = nonzero-of _ _ c.class_of-c.ensures c.in-Nonzero.is in
+returns-in-Nonzero c =
+    let b = nonzero-of _ _ c.class_of-c.ensures c.in-Nonzero.is in
     rw (pos-is c.figures-f.result.worth c.figures-f.ensures.most) (number_digits _ _ c.if-at-s.false b.0 b.1 _ _ c.figures-f.ensures)
 
 pub returns-in-Dash : goal.returns-in-Dash

@@ -15,7 +15,8 @@ returns-then-s-q-ne110 c = c.loop-p.invariant.3 _ c.head_tail.result
     (rw c.loop-p.invariant.0 at c.head_tail.ensures))
 
 pub loop-p-preserved : goal.loop-p-preserved
-loop-p-preserved c = let v = rw c.in-At.is at c.note-t.ensures in
+loop-p-preserved c =
+    let v = rw c.in-At.is at c.note-t.ensures in
     let u = v.stops.up in
     (c.loop-p.invariant.0, omega arith, v.stops.within, λ new r h. c.loop-p.invariant.3 new r (head-note c.args.w.now c.args.s.now c.loop-p.p c.requires.1 c.loop-p-test.true c.if-s-p-ne40.false c.if-q-s.false c.if-s-q-ne110.false _ v c.args.out.now c.args.from new r h))
 

@@ -7,7 +7,6 @@ use mathlib.Core.Path.{◌≡◌}
 use Prim.Native.Nat.{◌≤◌, ◌-◌}
 use Rattle.sync_read.proofs.head_line.Given as goal
 
--- `sync_read::head_line` meets its contract. Assumes nothing.
 abbrev pub invariant-loop-p : goal.invariant-loop-p
 invariant-loop-p l = (l.out ≡ l.initial.out) × (l.at ≤ l.p) × (l.p ≤ length l.s) × ((new : List ℤ) (r : Got) → StoresAt (HeadLine l.w) as_read l.s l.p l.initial.out l.from new r → StoresAt (HeadLine l.w) as_read l.s l.at l.initial.out l.from new r)
 

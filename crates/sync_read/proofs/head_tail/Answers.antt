@@ -6,7 +6,6 @@ use mathlib.Core.List.{List, [], ◌∷◌}
 use mathlib.Core.Path.{refl}
 use Rattle.sync_read.proofs.head_tail.Goals as goal
 
--- `sync_read::head_tail` meets its contract. Assumes nothing.
 abbrev zeros : List ℤ
 zeros = pos 0 ∷ pos 0 ∷ []
 

@@ -10,7 +10,8 @@ use mir.Syntax.{w16}
 use Rattle.sync_read.proofs.numbers_of.Goals as goal
 
 pub returns : goal.returns
-returns c = let e : length c.args.v ≡ 8 = search rules in
+returns c =
+    let e : length c.args.v ≡ 8 = search rules in
     let q0 : to_z w32 (of_z w32 c.widened.result) ≡ get_or c.args.v 0 (pos 0) = to_z-of_z {w = w32} (search rules) ∙ c.widened.ensures ∙ to_z-of_z {w = w16} (search rules) in
     let q2 : to_z w32 (of_z w32 c.widened-2.result) ≡ get_or c.args.v 2 (pos 0) = to_z-of_z {w = w32} (search rules) ∙ c.widened-2.ensures ∙ to_z-of_z {w = w16} (search rules) in
     let q4 : to_z w32 (of_z w32 c.widened-3.result) ≡ get_or c.args.v 4 (pos 0) = to_z-of_z {w = w32} (search rules) ∙ c.widened-3.ensures ∙ to_z-of_z {w = w16} (search rules) in

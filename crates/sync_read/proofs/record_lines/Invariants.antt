@@ -4,7 +4,6 @@ use mathlib.Core.Path.{◌≡◌}
 use Prim.Native.Nat.{◌-◌}
 use Rattle.sync_read.proofs.record_lines.Given as goal
 
--- `sync_read::record_lines` meets its contract. Assumes nothing.
 abbrev pub invariant-loop-p : goal.invariant-loop-p
 invariant-loop-p l = (length l.own ≡ 7722) × Walked l.s l.at l.p l.n l.own
 

@@ -9,7 +9,6 @@ use mir.Facts.{to_z-of_z}
 use mir.Syntax.{w16}
 use Rattle.sync_records.proofs.intra_tail.Goals as goal
 
--- `sync_records::intra_tail` meets its contract. Assumes nothing.
 abbrev zeros : List ℤ
 zeros = pos 0 ∷ []
 

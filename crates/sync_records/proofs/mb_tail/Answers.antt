@@ -8,7 +8,6 @@ use lib.IntN.{ℤ, pos}
 use Rattle.definitions.specs.Record.{record_words}
 use Rattle.sync_records.proofs.mb_tail.Goals as goal
 
--- `sync_records::mb_tail` meets its contract. Assumes nothing.
 abbrev zeros : List ℤ
 zeros = replicate record_words (pos 0)
 

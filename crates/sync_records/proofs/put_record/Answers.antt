@@ -7,5 +7,6 @@ use mir.Facts.{to_z-of_z}
 use Rattle.sync_records.proofs.put_record.Goals as goal
 
 pub returns : goal.returns
-returns c = let m = motion_in c.args.m in
+returns c =
+    let m = motion_in c.args.m in
     record-put c.args.out.now c.args.from c.requires.0 c.args.kind m c.args.detail _ (c.write_one.ensures ∙ ap (λ (z : ℤ). laid_out (all_one c.args.kind m z)) (to_z-of_z c.ranges.detail))

@@ -4,7 +4,6 @@ use mathlib.Core.Path.{◌≡◌}
 use Prim.Native.Nat.{◌-◌, ◌≤◌}
 use Rattle.sync_records.proofs.put_words.Given as goal
 
--- `sync_records::put_words` meets its contract. Assumes nothing.
 abbrev pub invariant-loop-k : goal.invariant-loop-k
 invariant-loop-k l = (l.k ≤ length l.words) × (length l.out ≡ length l.initial.out) × (l.out ≡ sets l.initial.out l.from (take l.k l.words))
 

@@ -3,7 +3,6 @@ use Rattle.definitions.specs.Text.{intra, whole, mb}
 use mathlib.Core.Path.{refl}
 use Rattle.sync_records.proofs.record_line.Goals as goal
 
--- `sync_records::record_line` meets its contract. Assumes nothing.
 pub returns-then-at-s : goal.returns-then-at-s
 returns-then-at-s c = (refl, record-ends _ _ c.requires.0 c.if-at-s.true)
 

@@ -14,7 +14,8 @@ pub loop-i-init : goal.loop-i-init
 loop-i-init c = (refl, storing-first _ _ _ _ c.requires.0)
 
 pub loop-i-preserved : goal.loop-i-preserved
-loop-i-preserved c = let q : to_z w16 (of_z w16 c.in-Value.z) ≡ c.in-Value.z = search rules in
+loop-i-preserved c =
+    let q : to_z w16 (of_z w16 c.in-Value.z) ≡ c.in-Value.z = search rules in
     let e : length c.loop-i.own ≡ 64 = c.loop-i.invariant.0 in
     rw q (length-set c.loop-i.own c.loop-i.i c.in-Value.z ∙ e, storing-more c.args.s.now c.args.at c.args.n c.loop-i.own c.loop-i.p c.loop-i.i c.loop-i.invariant.1 c.loop-i-test.true (omega (arith, c.requires.1)) c.in-Value.z _ (rw c.in-Value.is at c.field-v.ensures))
 
@@ -22,7 +23,8 @@ pub returns-in-Bad : goal.returns-in-Bad
 returns-in-Bad c = storing-stuck c.args.s.now c.args.at c.args.n c.loop-i.own c.loop-i.p c.loop-i.i c.loop-i.invariant.1 c.loop-i-test.true c.args.out.now c.args.from _ (rw c.in-Bad.is at c.field-v.ensures)
 
 pub returns-in-Value-v : goal.returns-in-Value-v
-returns-in-Value-v c = let q : to_z w16 (of_z w16 c.in-Value-v.z) ≡ c.in-Value-v.z = search rules in
+returns-in-Value-v c =
+    let q : to_z w16 (of_z w16 c.in-Value-v.z) ≡ c.in-Value-v.z = search rules in
     let k : c.args.n + 1 - 0 ≡ c.args.n + 1 = omega arith in
     let e : length c.loop-i.own ≡ 64 = c.loop-i.invariant.0 in
     let w =

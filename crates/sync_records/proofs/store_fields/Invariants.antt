@@ -4,7 +4,6 @@ use mathlib.Core.Path.{◌≡◌}
 use Prim.Native.Nat.{◌-◌}
 use Rattle.sync_records.proofs.store_fields.Given as goal
 
--- `sync_records::store_fields` meets its contract. Assumes nothing.
 abbrev pub invariant-loop-i : goal.invariant-loop-i
 invariant-loop-i l = (length l.own ≡ 64) × Storing l.s l.at l.n l.own l.p l.i
 

@@ -7,7 +7,8 @@ use borrow.Author.Rules.{rules}
 use Rattle.sync_records.proofs.then_field.Goals as goal
 
 pub returns-in-Value : goal.returns-in-Value
-returns-in-Value c = let q : to_z w16 (of_z w16 c.in-Value.z) ≡ c.in-Value.z = search rules in
+returns-in-Value c =
+    let q : to_z w16 (of_z w16 c.in-Value.z) ≡ c.in-Value.z = search rules in
     rw q
     (after-numbers _ c.args.s.now c.args.r c.args.out.now c.args.from _ _ _ c.in-At.is
     (one-stored c.args.s.now _ c.args.out.now c.args.from c.in-Value.z _ (rw c.in-Value.is at c.field-v.ensures)))

@@ -1,7 +1,6 @@
 use mathlib.Core.Path.{sym, ◌∙◌}
 use Rattle.definitions.specs.Record.{narrow}
 use Rattle.upsample.proofs.Naming.{only-upper, then-lower, upper-refused}
-use borrow.Author.Rules.{rules}
 use Rattle.upsample.proofs.check_runs.Goals as goal
 
 pub returns-then-lower-eq0 : goal.returns-then-lower-eq0

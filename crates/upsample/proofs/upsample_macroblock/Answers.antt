@@ -7,18 +7,17 @@ use Rattle.upsample.specs.declared.site.Site.{Site}
 use Rattle.upsample.specs.Sited.{Callable, placing_of, site_call}
 use Rattle.upsample.proofs.Promises.{singly-kept}
 use Rattle.upsample.proofs.Staging.{place-low, right-place, wrong-place}
-use borrow.Author.Rules.{rules}
 use Rattle.upsample.proofs.upsample_macroblock.Goals as goal
 
 pub site_of-requires : goal.site_of-requires
-site_of-requires c = 
+site_of-requires c =
     let placing : c.place_of.result ≡ placing_of c.args.n c.args.base.now c.args.column c.args.row c.args.out.now = let p = to_z-of_z c.ranges.column in
     let q = to_z-of_z c.ranges.row in
     c.place_of.ensures c.args.base.now c.args.out.now refl refl ∙ (λ i. placing_of c.args.n c.args.base.now (p i) (q i) c.args.out.now) in
     place-low c.args.n c.args.base.now c.args.column c.args.row c.args.out.now c.in-Place.p (sym placing ∙ c.in-Place.is)
 
 pub upsample_site-requires : goal.upsample_site-requires
-upsample_site-requires c = 
+upsample_site-requires c =
     let placing : c.place_of.result ≡ placing_of c.args.n c.args.base.now c.args.column c.args.row c.args.out.now = let p = to_z-of_z c.ranges.column in
     let q = to_z-of_z c.ranges.row in
     c.place_of.ensures c.args.base.now c.args.out.now refl refl ∙ (λ i. placing_of c.args.n c.args.base.now (p i) (q i) c.args.out.now) in
@@ -26,7 +25,7 @@ upsample_site-requires c =
     (right-place c.args.n c.args.base.now c.args.column c.args.row c.args.out.now narrow c.in-Place.p (sym placing ∙ c.in-Place.is)).0
 
 pub returns-in-Place-clause-reply : goal.returns-in-Place-clause-reply
-returns-in-Place-clause-reply c = 
+returns-in-Place-clause-reply c =
     let placing : c.place_of.result ≡ placing_of c.args.n c.args.base.now c.args.column c.args.row c.args.out.now = let p = to_z-of_z c.ranges.column in
     let q = to_z-of_z c.ranges.row in
     c.place_of.ensures c.args.base.now c.args.out.now refl refl ∙ (λ i. placing_of c.args.n c.args.base.now (p i) (q i) c.args.out.now) in
@@ -35,7 +34,7 @@ returns-in-Place-clause-reply c =
     (singly-kept narrow c.args.n c.args.base.now c.args.column c.args.row c.args.out.now _ _ (c.upsample_site.ensures.reply ∙ ap (λ (o : Outcome MacroblockReply). o.reply) e) (c.upsample_site.ensures.words ∙ ap (λ (o : Outcome MacroblockReply). o.words) e)).0
 
 pub returns-in-Place-clause-words : goal.returns-in-Place-clause-words
-returns-in-Place-clause-words c = 
+returns-in-Place-clause-words c =
     let placing : c.place_of.result ≡ placing_of c.args.n c.args.base.now c.args.column c.args.row c.args.out.now = let p = to_z-of_z c.ranges.column in
     let q = to_z-of_z c.ranges.row in
     c.place_of.ensures c.args.base.now c.args.out.now refl refl ∙ (λ i. placing_of c.args.n c.args.base.now (p i) (q i) c.args.out.now) in
@@ -44,7 +43,7 @@ returns-in-Place-clause-words c =
     (singly-kept narrow c.args.n c.args.base.now c.args.column c.args.row c.args.out.now _ _ (c.upsample_site.ensures.reply ∙ ap (λ (o : Outcome MacroblockReply). o.reply) e) (c.upsample_site.ensures.words ∙ ap (λ (o : Outcome MacroblockReply). o.words) e)).1.0
 
 pub returns-in-Place-clause-demand3 : goal.returns-in-Place-clause-demand3
-returns-in-Place-clause-demand3 c = 
+returns-in-Place-clause-demand3 c =
     let placing : c.place_of.result ≡ placing_of c.args.n c.args.base.now c.args.column c.args.row c.args.out.now = let p = to_z-of_z c.ranges.column in
     let q = to_z-of_z c.ranges.row in
     c.place_of.ensures c.args.base.now c.args.out.now refl refl ∙ (λ i. placing_of c.args.n c.args.base.now (p i) (q i) c.args.out.now) in
@@ -53,7 +52,7 @@ returns-in-Place-clause-demand3 c =
     (singly-kept narrow c.args.n c.args.base.now c.args.column c.args.row c.args.out.now _ _ (c.upsample_site.ensures.reply ∙ ap (λ (o : Outcome MacroblockReply). o.reply) e) (c.upsample_site.ensures.words ∙ ap (λ (o : Outcome MacroblockReply). o.words) e)).1.1
 
 pub returns-in-Refused-clause-reply : goal.returns-in-Refused-clause-reply
-returns-in-Refused-clause-reply c = 
+returns-in-Refused-clause-reply c =
     let placing : c.place_of.result ≡ placing_of c.args.n c.args.base.now c.args.column c.args.row c.args.out.now = let p = to_z-of_z c.ranges.column in
     let q = to_z-of_z c.ranges.row in
     c.place_of.ensures c.args.base.now c.args.out.now refl refl ∙ (λ i. placing_of c.args.n c.args.base.now (p i) (q i) c.args.out.now) in
@@ -61,7 +60,7 @@ returns-in-Refused-clause-reply c =
     (singly-kept narrow c.args.n c.args.base.now c.args.column c.args.row c.args.out.now _ _ h.0 h.1).0
 
 pub returns-in-Refused-clause-words : goal.returns-in-Refused-clause-words
-returns-in-Refused-clause-words c = 
+returns-in-Refused-clause-words c =
     let placing : c.place_of.result ≡ placing_of c.args.n c.args.base.now c.args.column c.args.row c.args.out.now = let p = to_z-of_z c.ranges.column in
     let q = to_z-of_z c.ranges.row in
     c.place_of.ensures c.args.base.now c.args.out.now refl refl ∙ (λ i. placing_of c.args.n c.args.base.now (p i) (q i) c.args.out.now) in
@@ -69,7 +68,7 @@ returns-in-Refused-clause-words c =
     (singly-kept narrow c.args.n c.args.base.now c.args.column c.args.row c.args.out.now _ _ h.0 h.1).1.0
 
 pub returns-in-Refused-clause-demand3 : goal.returns-in-Refused-clause-demand3
-returns-in-Refused-clause-demand3 c = 
+returns-in-Refused-clause-demand3 c =
     let placing : c.place_of.result ≡ placing_of c.args.n c.args.base.now c.args.column c.args.row c.args.out.now = let p = to_z-of_z c.ranges.column in
     let q = to_z-of_z c.ranges.row in
     c.place_of.ensures c.args.base.now c.args.out.now refl refl ∙ (λ i. placing_of c.args.n c.args.base.now (p i) (q i) c.args.out.now) in

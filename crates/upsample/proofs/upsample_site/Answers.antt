@@ -2,15 +2,16 @@ use mathlib.Core.Path.{sym, ap, ◌∙◌}
 use Rattle.definitions.specs.Record.{narrow}
 use Rattle.definitions.specs.declared.MacroblockReply.TheVariants.{Answered}
 use Rattle.upsample.proofs.Staging.{site-answered, site-refused}
-use borrow.Author.Rules.{rules}
 use Rattle.upsample.proofs.upsample_site.Goals as goal
 
 pub returns-in-Accepted-clause-reply : goal.returns-in-Accepted-clause-reply
-returns-in-Accepted-clause-reply c = let h = site-answered narrow c.args.s c.args.base.now c.args.out.now (sym c.check_runs.ensures ∙ c.in-Accepted.is) in
+returns-in-Accepted-clause-reply c =
+    let h = site-answered narrow c.args.s c.args.base.now c.args.out.now (sym c.check_runs.ensures ∙ c.in-Accepted.is) in
     ap Answered c.answer.ensures.answer ∙ h.0
 
 pub returns-in-Accepted-clause-words : goal.returns-in-Accepted-clause-words
-returns-in-Accepted-clause-words c = let h = site-answered narrow c.args.s c.args.base.now c.args.out.now (sym c.check_runs.ensures ∙ c.in-Accepted.is) in
+returns-in-Accepted-clause-words c =
+    let h = site-answered narrow c.args.s c.args.base.now c.args.out.now (sym c.check_runs.ensures ∙ c.in-Accepted.is) in
     c.answer.ensures.written ∙ h.1
 
 pub returns-in-Refused-clause-reply : goal.returns-in-Refused-clause-reply

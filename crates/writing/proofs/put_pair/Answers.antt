@@ -1,17 +1,14 @@
 use mathlib.Core.List.{[], ◌∷◌}
 use mathlib.Core.Path.{◌∙◌}
-use native.Mathlib.Omega.{arith}
-use lib.ListN.{length-set}
-use borrow.Author.Rules.{rules}
 use mir.Syntax.{w16}
 use mir.Val.{of_z, to_z}
-use Rattle.definitions.specs.Record.{narrow}
 use Rattle.definitions.proofs.Parts.{stored-all}
-use Rattle.writing.proofs.Rounded.{back, handed}
+use Rattle.writing.proofs.Rounded.{back}
 use Rattle.writing.proofs.put_pair.Goals as goal
 
 pub returns : goal.returns
-returns c = let w0 = back c.args.a.x0 c.requires.2.vectors.0.x c.args.s.horizontal c.requires.1.horizontal c.scale_word.result c.scale_word.ensures in
+returns c =
+    let w0 = back c.args.a.x0 c.requires.2.vectors.0.x c.args.s.horizontal c.requires.1.horizontal c.scale_word.result c.scale_word.ensures in
     let w1 = back c.args.a.y0 c.requires.2.vectors.0.y c.args.s.vertical c.requires.1.vertical c.scale_word-2.result c.scale_word-2.ensures in
     let w2 = back c.args.a.x1 c.requires.2.vectors.1.x c.args.s.horizontal c.requires.1.horizontal c.scale_word-3.result c.scale_word-3.ensures in
     let w3 = back c.args.a.y1 c.requires.2.vectors.1.y c.args.s.vertical c.requires.1.vertical c.scale_word-4.result c.scale_word-4.ensures in

@@ -1,10 +1,8 @@
 use Prim.Native.Nat.{◌+◌, ◌*◌, ◌-◌}
 use native.Mathlib.Omega.{arith}
-use lib.Dec.{lit<}
-use borrow.Author.Rules.{rules}
 use Rattle.motion.specs.ByValue.{motions_in}
 use Rattle.writing.specs.Words.{quadrant_scaled}
-use Rattle.writing.proofs.Placed.{first-low, part-long, quadrant-put}
+use Rattle.writing.proofs.Placed.{quadrant-put}
 use Rattle.writing.proofs.put_quadrant.Goals as goal
 
 pub returns-clause-words : goal.returns-clause-words

@@ -2,17 +2,16 @@ use Prim.Native.Nat.{◌+◌, ◌*◌}
 use mathlib.Core.Bool.{◌&&◌}
 use mathlib.Core.List.{[], ◌∷◌}
 use mathlib.Core.Path.{◌∙◌}
-use native.Mathlib.Omega.{arith}
 use lib.ListN.{get_or}
 use borrow.Author.Rules.{sfits_of}
 use Rattle.definitions.specs.Record.{word_of}
 use Rattle.definitions.proofs.Motions.{word_same}
-use Rattle.writing.proofs.Compared.{reference-first, reference-further, same-is, vector-first, vector-further}
-use Rattle.writing.proofs.Placed.{first-low}
+use Rattle.writing.proofs.Compared.{same-is}
 use Rattle.writing.proofs.same_in.Goals as goal
 
 pub returns : goal.returns
-returns c = let word = word_of c.args.out.now in
+returns c =
+    let word = word_of c.args.out.now in
     let k = 13 + 4 * get_or (0 ∷ 2 ∷ 8 ∷ 10 ∷ []) c.args.q 0 in
     let j = 13 + 4 * get_or (0 ∷ 2 ∷ 8 ∷ 10 ∷ []) c.args.e 0 in
     let e0 = word_same (word (5 + 2 * c.args.q)) (word (5 + 2 * c.args.e)) (sfits_of c.result-1.given) (sfits_of c.result-2-1.given) in

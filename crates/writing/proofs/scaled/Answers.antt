@@ -1,11 +1,11 @@
-use borrow.Author.Rules.{rules}
-use mir.Facts.{Fits-of_z, sfits_to_z, sfits_widen, to_z-of_z}
+use mir.Facts.{sfits_widen, to_z-of_z}
 use mir.Syntax.{w32}
 use Rattle.writing.proofs.Rounded.{back-wide, reference-fits}
 use Rattle.writing.proofs.scaled.Goals as goal
 
 pub returns : goal.returns
-returns c = let x0 = back-wide c.args.m.x0 c.requires.1.vectors.0.x c.args.s.horizontal c.requires.0.horizontal c.scale_word.result c.scale_word.ensures in
+returns c =
+    let x0 = back-wide c.args.m.x0 c.requires.1.vectors.0.x c.args.s.horizontal c.requires.0.horizontal c.scale_word.result c.scale_word.ensures in
     let y0 = back-wide c.args.m.y0 c.requires.1.vectors.0.y c.args.s.vertical c.requires.0.vertical c.scale_word-2.result c.scale_word-2.ensures in
     let x1 = back-wide c.args.m.x1 c.requires.1.vectors.1.x c.args.s.horizontal c.requires.0.horizontal c.scale_word-3.result c.scale_word-3.ensures in
     let y1 = back-wide c.args.m.y1 c.requires.1.vectors.1.y c.args.s.vertical c.requires.0.vertical c.scale_word-4.result c.scale_word-4.ensures in

@@ -1,7 +1,4 @@
-use mathlib.Core.Bool.{◌&&◌}
-use native.Mathlib.Omega.{arith}
-use borrow.Author.Rules.{rules}
-use Rattle.split.proofs.Vectors.{number_fits, type-is}
+use Rattle.split.proofs.Vectors.{type-is}
 use Rattle.writing.proofs.type_in.Goals as goal
 
 pub returns : goal.returns

@@ -1,16 +1,12 @@
-use mathlib.Core.Logic.{⊎_elim}
 use mathlib.Core.List.{◌++◌}
-use mathlib.Core.Path.{◌≡◌, refl, sym, ap, ◌∙◌}
+use mathlib.Core.Path.{◌≡◌, ap, ◌∙◌}
 use native.Mathlib.Omega.{arith}
 use lib.IntN.{ℤ}
-use lib.ListN.{length, drop, set}
+use lib.ListN.{drop, set}
 use mir.Facts.{to_z_pos}
 use mir.Syntax.{w16}
 use Rattle.definitions.specs.Answer.{divided_by}
 use Rattle.definitions.specs.Record.{laid_out}
-use Rattle.definitions.proofs.Records.{laid-length}
-use lib.Dec.{lit<}
-use borrow.Author.Rules.{rules}
 use Rattle.definitions.specs.Inheriting.{chosen, motion_at}
 use Rattle.motion.specs.ByValue.{quadrants_in}
 use Rattle.motion.specs.Scales.{all_scaled}

@@ -1,14 +1,11 @@
-use mathlib.Core.Path.{◌≡◌, refl, sym, ap, ◌∙◌}
+use mathlib.Core.Path.{◌≡◌, ap, ◌∙◌}
 use native.Mathlib.Omega.{arith}
-use lib.Dec.{lit<}
 use lib.IntN.{ℤ}
-use lib.ListN.{length, set}
-use borrow.Author.Rules.{rules}
+use lib.ListN.{set}
 use mir.Facts.{to_z_pos}
 use mir.Syntax.{w32}
 use Rattle.definitions.specs.Inheriting.{motion_at}
 use Rattle.definitions.specs.Record.{laid_out}
-use Rattle.definitions.proofs.Records.{laid-length}
 use Rattle.motion.specs.ByValue.{quadrants_in}
 use Rattle.motion.specs.Scales.{all_scaled}
 use Rattle.split.specs.Types.{contents_by}

@@ -2,7 +2,6 @@ use mathlib.Core.List.{[], ◌∷◌}
 use mathlib.Core.Path.{◌≡◌, ◌∙◌}
 use native.Mathlib.Omega.{arith}
 use lib.IntN.{pos}
-use lib.ListN.{length-set}
 use borrow.Author.Rules.{rules}
 use mir.Facts.{to_z_pos}
 use mir.Syntax.{w8, w32}
@@ -11,7 +10,8 @@ use Rattle.definitions.proofs.Parts.{stored-all}
 use Rattle.writing_wide.proofs.put_types.Goals as goal
 
 pub returns : goal.returns
-returns c = let f0 : Fits w8 c.args.t.kind = search rules in
+returns c =
+    let f0 : Fits w8 c.args.t.kind = search rules in
     let w0 : to_z w32 c.args.t.kind ≡ pos c.args.t.kind = to_z_pos w32 {n = c.args.t.kind} (omega (arith, f0)) in
     let f1 : Fits w8 c.args.t.a = search rules in
     let w1 : to_z w32 c.args.t.a ≡ pos c.args.t.a = to_z_pos w32 {n = c.args.t.a} (omega (arith, f1)) in

@@ -1,5 +1,4 @@
 use mathlib.Core.Path.{sym, ◌∙◌}
-use borrow.Author.Rules.{rules}
 use Rattle.geometry.proofs.Verdicts.{checked-by}
 use Rattle.geometry.proofs.Geometry.new.Goals as goal
 

@@ -4,7 +4,6 @@ use borrow.Author.Tests.{eq-eqb, ne_eqb}
 use Rattle.definitions.proofs.Choices.{no, yes}
 use Rattle.geometry.proofs.map.falls.Goals as goal
 
--- `geometry::map::falls` meets its contract. Assumes nothing.
 pub returns-then-q-f : goal.returns-then-q-f
 returns-then-q-f c = (sym (yes _ _ (eq-eqb _ _ c.if-q-f.true)), omega arith)
 

@@ -1,6 +1,5 @@
 use native.Mathlib.Omega.{arith}
 use Rattle.definitions.specs.Basics.{how_many}
-use borrow.Author.Rules.{rules}
 use Rattle.geometry.proofs.map.falls_in.Goals as goal
 
 pub returns : goal.returns

@@ -1,7 +1,6 @@
 use native.Mathlib.Omega.{arith}
 use native.Mathlib.Nat.{lt_of_le_of_lt}
 use lib.Dec.{lit<}
-use borrow.Author.Rules.{rules}
 use Rattle.geometry.proofs.Rows.{tops}
 use Rattle.geometry.proofs.map.row.Goals as goal
 

@@ -1,7 +1,6 @@
 use Prim.Native.Nat.{ℕ}
 use mathlib.Core.Path.{◌≡◌, ap, ◌∙◌}
 use native.Mathlib.Omega.{arith}
-use borrow.Author.Rules.{rules}
 use Rattle.definitions.specs.Accepted.{Inside}
 use Rattle.definitions.specs.Basics.{how_many}
 use Rattle.definitions.specs.BlockMap.{falls_in, step_of}

@@ -1,5 +1,4 @@
 use mathlib.Core.Path.{◌∙◌}
-use borrow.Author.Rules.{rules}
 use Rattle.geometry.proofs.Steps as steps
 use Rattle.geometry.proofs.step.borders_by_parity.Goals as goal
 

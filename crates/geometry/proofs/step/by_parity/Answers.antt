@@ -3,7 +3,6 @@ use borrow.Author.Tests.{eq-eqb, ne_eqb}
 use Rattle.definitions.proofs.Choices.{yes, no}
 use Rattle.geometry.proofs.step.by_parity.Goals as goal
 
--- `geometry::step::by_parity` meets its contract. Assumes nothing.
 pub returns-then-k-eq0 : goal.returns-then-k-eq0
 returns-then-k-eq0 c = sym (yes _ _ (eq-eqb _ _ c.if-k-eq0.true))
 

@@ -1,7 +1,3 @@
-use Prim.Native.Nat.{ℕ, ◌/◌}
-use mathlib.Core.Path.{ap, ◌∙◌}
-use borrow.Author.Rules.{rules}
-use Rattle.definitions.specs.Geometry.{base_size, scaled_size, z_of}
 use Rattle.definitions.proofs.Accepted.{inside-axis}
 use Rattle.geometry.proofs.step.centre.Goals as goal
 

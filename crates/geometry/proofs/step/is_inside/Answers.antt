@@ -12,7 +12,8 @@ pub overflow_add-result : goal.overflow_add-result
 overflow_add-result c = rw (to_z_pos w32 {n = c.args.p.0} (omega arith)) (record { sfits = omega arith })
 
 pub overflow_add-result-2 : goal.overflow_add-result-2
-overflow_add-result-2 c = let o : SFits w32 c.args.a.offset.0 = search rules in
+overflow_add-result-2 c =
+    let o : SFits w32 c.args.a.offset.0 = search rules in
     rw (to_z-of_z o, to_z_pos w32 {n = c.args.a.scaled.0} (omega arith))
     (window-fits c.args.a.offset.0 c.args.a.scaled.0 (offset-small _ c.requires.accepted.offset-low c.requires.accepted.offset-high) (omega arith))
 

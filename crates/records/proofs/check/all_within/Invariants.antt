@@ -1,10 +1,10 @@
+-- `all_within` meets its contract: the tests of the words passed. Assumes nothing.
 use Prim.Native.Nat.{◌+◌, ◌-◌, ◌≤◌}
 use mathlib.Core.Path.{◌≡◌}
 use Rattle.definitions.specs.Basics.{between, all_below}
 use Rattle.definitions.specs.Record.{word_of}
 use Rattle.records.proofs.check.all_within.Given as goal
 
--- `all_within` meets its contract: the tests of the words passed. Assumes nothing.
 abbrev pub invariant-loop-k : goal.invariant-loop-k
 invariant-loop-k l = (l.k ≤ l.count) × (l.right ≡ all_below l.k (λ k. between l.range.low l.range.high (word_of l.words (l.first + k))))
 

@@ -9,5 +9,6 @@ use Rattle.definitions.proofs.Records.{record-part, record-length}
 use Rattle.records.proofs.read.record_at.Goals as goal
 
 pub returns : goal.returns
-returns c = let part = record-part c.args.base.now c.args.a (record_words * c.args.a + record_words - record_words * c.args.a) (omega arith) in
+returns c =
+    let part = record-part c.args.base.now c.args.a (record_words * c.args.a + record_words - record_words * c.args.a) (omega arith) in
     (part, ap (λ (r : List ℤ). length r) part ∙ record-length c.args.base.now c.args.a (omega arith))

@@ -20,7 +20,8 @@ pub loop-w-3-preserved : goal.loop-w-3-preserved
 loop-w-3-preserved c = (filled-vectors _ _ _ c.loop-w-3.out c.loop-w-3.w c.loop-w-3.invariant.0 _ _ _ _ c.loop-w-3.invariant.1 (omega arith) c.loop-w-3.invariant.3 refl refl refl refl, omega arith, omega arith, omega arith)
 
 pub returns : goal.returns
-returns c = let r0 = narrowed c.args.m.r0 c.requires.1.r0 in
+returns c =
+    let r0 = narrowed c.args.m.r0 c.requires.1.r0 in
     let r1 = narrowed c.args.m.r1 c.requires.1.r1 in
     let x0 = narrowed c.args.m.x0 c.requires.1.x0 in
     let y0 = narrowed c.args.m.y0 c.requires.1.y0 in

@@ -1,9 +1,9 @@
+-- `records::write::write_one` meets its contract: the words before w are those of the record. Assumes nothing.
 use Prim.Native.Nat.{◌-◌, ◌%◌, ◌≤◌}
 use mathlib.Core.Path.{◌≡◌}
 use Rattle.records.proofs.Filled.{Filled}
 use Rattle.records.proofs.write.write_one.Given as goal
 
--- `records::write::write_one` meets its contract: the words before w are those of the record. Assumes nothing.
 abbrev pub invariant-loop-w : goal.invariant-loop-w
 invariant-loop-w l = Filled l.kind (record { list0 = record { reference = l.r0; x = l.x0; y = l.y0 }; list1 = record { reference = l.r1; x = l.x1; y = l.y1 } }) (l.detail) l.out l.w × (1 ≤ l.w) × (l.w ≤ 5)
 

@@ -1,7 +1,6 @@
 use Rattle.session.proofs.Stages.{going, over-of}
 use Rattle.session.proofs.Handing.{abandon-nothing, abandon-over, abandon-going}
 use mathlib.Core.Path.{sym, ◌∙◌}
-use borrow.Author.Rules.{rules}
 use Rattle.session.proofs.Session.abandon.Goals as goal
 
 pub returns-in-Nothing-clause-verdict : goal.returns-in-Nothing-clause-verdict

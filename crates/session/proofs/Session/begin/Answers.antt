@@ -1,7 +1,6 @@
 use Rattle.session.proofs.Stages.{going, over-of}
 use Rattle.session.proofs.Handing.{free-nothing, free-over, begin-busy}
 use mathlib.Core.Path.{sym, ◌∙◌}
-use borrow.Author.Rules.{rules}
 use Rattle.session.proofs.Session.begin.Goals as goal
 
 pub begin_anew-requires : goal.begin_anew-requires

@@ -7,23 +7,22 @@ use mir.Syntax.{w32}
 use Rattle.definitions.specs.Record.{narrow}
 use Rattle.definitions.specs.Calls.{macroblock_call, sum_of}
 use Prim.Native.Nat.{◌<◌, ◌^◌}
-use borrow.Author.Rules.{rules}
 use Rattle.session.proofs.Session.next.Goals as goal
 
 pub overflow_cast-column : goal.overflow_cast-column
-overflow_cast-column c = 
+overflow_cast-column c =
     let on : Going c.args.self c.in-Unfinished.column c.in-Unfinished.row = going _ _ _ (sym c.stage_of.ensures ∙ c.in-Unfinished.is) in
     let small : (sum_of c.args.self.counts < 65536) × (c.in-Unfinished.column < 65536) × (c.in-Unfinished.row < 65536) = going-small c.args.self on in
     record { sfits = omega (arith, small.1, small.2) }
 
 pub overflow_cast-row : goal.overflow_cast-row
-overflow_cast-row c = 
+overflow_cast-row c =
     let on : Going c.args.self c.in-Unfinished.column c.in-Unfinished.row = going _ _ _ (sym c.stage_of.ensures ∙ c.in-Unfinished.is) in
     let small : (sum_of c.args.self.counts < 65536) × (c.in-Unfinished.column < 65536) × (c.in-Unfinished.row < 65536) = going-small c.args.self on in
     record { sfits = omega (arith, small.1, small.2) }
 
 pub advance-requires : goal.advance-requires
-advance-requires c = 
+advance-requires c =
     let on : Going c.args.self c.in-Unfinished.column c.in-Unfinished.row = going _ _ _ (sym c.stage_of.ensures ∙ c.in-Unfinished.is) in
     let small : (sum_of c.args.self.counts < 65536) × (c.in-Unfinished.column < 65536) × (c.in-Unfinished.row < 65536) = going-small c.args.self on in
     small.0
@@ -41,7 +40,7 @@ pub returns-in-Nothing-clause-demand3 : goal.returns-in-Nothing-clause-demand3
 returns-in-Nothing-clause-demand3 c = (next-nothing c.args.self c.args.base.now c.args.out.now (sym c.stage_of.ensures ∙ c.in-Nothing.is) _ c.refused.ensures).1.1.1
 
 pub returns-in-Unfinished-clause-reply : goal.returns-in-Unfinished-clause-reply
-returns-in-Unfinished-clause-reply c = 
+returns-in-Unfinished-clause-reply c =
     let on : Going c.args.self c.in-Unfinished.column c.in-Unfinished.row = going _ _ _ (sym c.stage_of.ensures ∙ c.in-Unfinished.is) in
     let small : (sum_of c.args.self.counts < 65536) × (c.in-Unfinished.column < 65536) × (c.in-Unfinished.row < 65536) = going-small c.args.self on in
     let x : c.in-Unfinished.column < 2 ^ 31 = omega (arith, small.1) in
@@ -54,7 +53,7 @@ returns-in-Unfinished-clause-reply c =
     c.advance.ensures).0
 
 pub returns-in-Unfinished-clause-words : goal.returns-in-Unfinished-clause-words
-returns-in-Unfinished-clause-words c = 
+returns-in-Unfinished-clause-words c =
     let on : Going c.args.self c.in-Unfinished.column c.in-Unfinished.row = going _ _ _ (sym c.stage_of.ensures ∙ c.in-Unfinished.is) in
     let small : (sum_of c.args.self.counts < 65536) × (c.in-Unfinished.column < 65536) × (c.in-Unfinished.row < 65536) = going-small c.args.self on in
     let x : c.in-Unfinished.column < 2 ^ 31 = omega (arith, small.1) in
@@ -67,7 +66,7 @@ returns-in-Unfinished-clause-words c =
     c.advance.ensures).1.0
 
 pub returns-in-Unfinished-clause-session : goal.returns-in-Unfinished-clause-session
-returns-in-Unfinished-clause-session c = 
+returns-in-Unfinished-clause-session c =
     let on : Going c.args.self c.in-Unfinished.column c.in-Unfinished.row = going _ _ _ (sym c.stage_of.ensures ∙ c.in-Unfinished.is) in
     let small : (sum_of c.args.self.counts < 65536) × (c.in-Unfinished.column < 65536) × (c.in-Unfinished.row < 65536) = going-small c.args.self on in
     let x : c.in-Unfinished.column < 2 ^ 31 = omega (arith, small.1) in
@@ -80,7 +79,7 @@ returns-in-Unfinished-clause-session c =
     c.advance.ensures).1.1.0
 
 pub returns-in-Unfinished-clause-demand3 : goal.returns-in-Unfinished-clause-demand3
-returns-in-Unfinished-clause-demand3 c = 
+returns-in-Unfinished-clause-demand3 c =
     let on : Going c.args.self c.in-Unfinished.column c.in-Unfinished.row = going _ _ _ (sym c.stage_of.ensures ∙ c.in-Unfinished.is) in
     let small : (sum_of c.args.self.counts < 65536) × (c.in-Unfinished.column < 65536) × (c.in-Unfinished.row < 65536) = going-small c.args.self on in
     let x : c.in-Unfinished.column < 2 ^ 31 = omega (arith, small.1) in

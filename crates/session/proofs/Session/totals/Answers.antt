@@ -1,7 +1,6 @@
 use Rattle.session.proofs.Stages.{going, over-of}
 use Rattle.session.proofs.Handing.{totals-nothing, totals-begun}
 use mathlib.Core.Path.{sym, ◌∙◌}
-use borrow.Author.Rules.{rules}
 use Rattle.session.proofs.Session.totals.Goals as goal
 
 pub returns-in-Nothing-clause-counts : goal.returns-in-Nothing-clause-counts

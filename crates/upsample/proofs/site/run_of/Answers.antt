@@ -1,15 +1,8 @@
-use Prim.Native.Nat.{◌+◌, ◌*◌, ◌≤◌, ◌<◌}
 use mathlib.Core.Path.{sym, ◌∙◌}
-use native.Mathlib.Nat.{mul-le-mul}
-use native.Mathlib.Omega.{arith}
-use lib.ListN.{get_or}
-use borrow.Author.Tests.{not-true, not-false}
 use Rattle.definitions.proofs.Choices.{yes, no}
 use Rattle.upsample.proofs.Naming.{run-made, run_none}
-use borrow.Author.Rules.{rules}
 use Rattle.upsample.proofs.site.run_of.Goals as goal
 
--- `upsample::site::run_of` meets its contract. Assumes nothing.
 pub returns-then-not-read : goal.returns-then-not-read
 returns-then-not-read c = run_none _ _ _ (c.if-not-read.true)
 

@@ -1,9 +1,4 @@
-use Prim.Native.Nat.{◌≤◌}
-use mathlib.Core.Path.{ap}
-use native.Mathlib.Omega.{arith}
-use Rattle.macroblock.specs.declared.Fixed.{Fixed}
 use Rattle.upsample.proofs.Naming.{site-made}
-use borrow.Author.Rules.{rules}
 use Rattle.upsample.proofs.site.site_of.Goals as goal
 
 pub returns : goal.returns
