@@ -7,7 +7,7 @@ ghost use Rattle.sync_log.specs.Input.{InputRead};
 
 use definitions::{LogReply, Logged, Verdict};
 use log_text::LOG_BYTES;
-use std::io::{Read, Stdin, Write};
+use std::io::{Read, Stdin};
 
 // One byte more than the longest text, which tells a longer one: of a longer input these bytes have the log of all (`first-bytes` of crate grammar).
 const TEXT_ROOM: usize = 65537;
