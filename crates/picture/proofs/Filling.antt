@@ -1,11 +1,11 @@
--- One column more, and the words of the macroblocks made so far. Assumes nothing.
+-- No column yet and one more, and the words of the macroblocks made so far. Assumes nothing.
 use Prim.Native.Nat.{ℕ, ◌+◌, ◌<◌, ◌≤◌}
 use mathlib.Core.Path.{◌≡◌, refl, sym, ap, ◌∙◌}
 use mathlib.Core.List.{List}
 use mathlib.Core.Logic.{◌⊎◌, ⊎_elim}
 use native.Mathlib.Nat.{eq-or-lt_of_le}
 use native.Mathlib.Omega.{arith}
-use lib.ListN.{get_or, set, length-set}
+use lib.ListN.{get_or, set, replicate, length-set, length-replicate, get_or-replicate}
 use lib.Seq.{get_or-set_same, get_or-set_other}
 use Rattle.definitions.specs.declared.Axis.{Axis}
 use Rattle.definitions.specs.Basics.{up_to, for_each}
@@ -13,11 +13,18 @@ use Rattle.definitions.specs.Answer.{Made}
 use Rattle.definitions.proofs.Parts.{parts}
 use Rattle.definitions.proofs.RecordLists.{each_same}
 use Rattle.macroblock.specs.declared.AxisRead.{AxisRead}
-use Rattle.macroblock.specs.Made.{read_of}
+use Rattle.macroblock.specs.Made.{nowhere, read_of}
 use Rattle.picture.specs.Reads.{no_read, AxisReads}
 
 below_last : (k x : ℕ) → k < x + 1 → (k ≡ x) ⊎ (k < x)
 below_last k x l = let m : k ≤ x = omega arith in eq-or-lt_of_le m
+
+pub read_none : (a : Axis) (r : AxisRead) → r ≡ nowhere → AxisReads a 0 (replicate 256 r)
+read_none a r e = record {
+  size = length-replicate {A = AxisRead} 256 r;
+  each = λ k l. absurd (omega arith);
+  rest = λ k l m. get_or-replicate {A = AxisRead} 256 k r no_read m ∙ e;
+}
 
 pub read_more : (a : Axis) (x : ℕ) (reads : List AxisRead) (r : AxisRead) → x < 256 → AxisReads a x reads → r ≡ read_of a x → AxisReads a (x + 1) (set reads x r)
 read_more a x reads r h so_far e = record {

@@ -54,18 +54,27 @@ pub fn sized(n: Numbers, words: usize, lent: usize) -> Checked
 }
 
 // ---- The axes, for records of both widths
-// The horizontal axis at each column of the picture; 256 is the most.
-pub fn column_reads(a: Axis) -> [AxisRead; 256]
-    requires { AcceptedAxis a }
-    ensures { AxisReads a (macroblocks (full_size a)) result }
+// The horizontal axis at each column of the picture; 256 is the most. It is read into a table that is lent: of one that is handed back by value the compiler keeps
+// copies of 3 KB on the stack.
+pub fn read_columns(a: Axis, reads: &mut [AxisRead])
+    requires { AcceptedAxis a × AxisReads a 0 reads.old }
+    ensures { AxisReads a (macroblocks (full_size a)) reads.new }
 {
     let width = a.full.0 / 16;
-    let mut reads = [read_nowhere(); 256];
     let mut x: u32 = 0;
     while x < width {
         reads[x as usize] = axis_read(a, x);
         x += 1;
     }
+}
+
+// The same by value.
+pub fn column_reads(a: Axis) -> [AxisRead; 256]
+    requires { AcceptedAxis a }
+    ensures { AxisReads a (macroblocks (full_size a)) result }
+{
+    let mut reads = [read_nowhere(); 256];
+    read_columns(a, &mut reads);
     reads
 }
 
@@ -112,7 +121,8 @@ fn fill(g: Axes, base: &[i16], out: &mut [i16]) -> Counts
     ensures words { out.new ≡ for_each (up_to (full_count g) (made_at g base.now)) (λ m. m.written) }
 {
     let fixed = fixed_of(g);
-    let columns = column_reads(g.horizontal);
+    let mut columns = [read_nowhere(); 256];
+    read_columns(g.horizontal, &mut columns);
     let width = g.horizontal.full.0 / 16;
     let total = full_count(g);
     let mut counts = NO_COUNTS;

@@ -16,7 +16,7 @@ use definitions::{Axes, Counts, Numbers, PictureReply, RECORD_WORDS, Verdict};
 use geometry::Checked;
 use macroblock::{fixed_of, read_nowhere};
 use macroblock_wide::make;
-use picture::{Position, column_reads, next, row_read, sized};
+use picture::{Position, next, read_columns, row_read, sized};
 use records_wide::check;
 
 // Every macroblock, in raster order.
@@ -26,7 +26,8 @@ fn fill(g: Axes, base: &[i32], out: &mut [i32]) -> Counts
     ensures words { out.new ≡ for_each (up_to (full_count g) (made_at g base.now)) (λ m. m.written) }
 {
     let fixed = fixed_of(g);
-    let columns = column_reads(g.horizontal);
+    let mut columns = [read_nowhere(); 256];
+    read_columns(g.horizontal, &mut columns);
     let width = g.horizontal.full.0 / 16;
     let total = full_count(g);
     let mut counts = NO_COUNTS;

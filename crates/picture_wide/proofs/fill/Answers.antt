@@ -15,8 +15,11 @@ use Rattle.macroblock.proofs.Paper.{sort-is}
 use Rattle.picture.specs.Reads.{no_read}
 use Rattle.common.proofs.Counted.{counts-none, counts-next, counts-low}
 use Rattle.upsample.proofs.Addresses.{makeable, made-there}
-use Rattle.picture.proofs.Filling.{words_of}
+use Rattle.picture.proofs.Filling.{read_none, words_of}
 use Rattle.picture_wide.proofs.fill.Goals as goal
+
+pub read_columns-requires : goal.read_columns-requires
+read_columns-requires c = (c.requires.0.right.axes.horizontal, read_none c.args.g.horizontal c.read_nowhere-columns.result c.read_nowhere-columns.ensures)
 
 pub loop-a-init : goal.loop-a-init
 loop-a-init c =
@@ -25,8 +28,8 @@ loop-a-init c =
 
 pub make-sort-requires : goal.make-sort-requires
 make-sort-requires c =
-    let column-there : get_or c.column_reads-columns.result c.loop-a.at.column no_read ≡ read_of c.args.g.horizontal c.loop-a.at.column = c.column_reads-columns.ensures.each _ c.loop-a.invariant.5 in
-    let h = get_or c.column_reads-columns.result c.loop-a.at.column no_read in (
+    let column-there : get_or c.read_columns.new.reads c.loop-a.at.column no_read ≡ read_of c.args.g.horizontal c.loop-a.at.column = c.read_columns.ensures.each _ c.loop-a.invariant.5 in
+    let h = get_or c.read_columns.new.reads c.loop-a.at.column no_read in (
       subst (λ (f : Fixed). Makeable wide f h c.row_read-v.result c.args.base.now) (sym c.fixed_of-fixed.ensures)
           (makeable c.args.g c.loop-a.at.column c.loop-a.at.row c.args.base.now c.requires.0 h c.row_read-v.result column-there c.row_read-v.ensures),
       simp (length-take, length-drop) (omega arith),
@@ -38,9 +41,9 @@ count_sort-counts-requires c = omega (arith, counts-low (made_at c.args.g c.args
 pub loop-a-preserved : goal.loop-a-preserved
 unfolding made_by
 loop-a-preserved c =
-    let column-there : get_or c.column_reads-columns.result c.loop-a.at.column no_read ≡ read_of c.args.g.horizontal c.loop-a.at.column = c.column_reads-columns.ensures.each _ c.loop-a.invariant.5 in
+    let column-there : get_or c.read_columns.new.reads c.loop-a.at.column no_read ≡ read_of c.args.g.horizontal c.loop-a.at.column = c.read_columns.ensures.each _ c.loop-a.invariant.5 in
     let f = made_at c.args.g c.args.base.now in
-    let h = get_or c.column_reads-columns.result c.loop-a.at.column no_read in
+    let h = get_or c.read_columns.new.reads c.loop-a.at.column no_read in
     let m = (λ i. made_by (c.fixed_of-fixed.ensures i) h c.row_read-v.result c.args.base.now) ∙ made-there c.args.g c.loop-a.at.column c.loop-a.at.row c.args.base.now c.requires.0 h c.row_read-v.result column-there c.row_read-v.ensures c.loop-a.a c.loop-a.invariant.5 c.loop-a.invariant.4 in
     let sort = c.make-sort.ensures.sort ∙ (sort-is _ h c.row_read-v.result c.args.base.now ∙ ap (λ (k : Made). sort_of k.answer) m) in (
       omega (arith, c.loop-a-test),

@@ -1,7 +1,7 @@
 use Prim.Native.Nat.{◌-◌, ◌≤◌}
 use Rattle.definitions.specs.Geometry.{full_size, macroblocks}
 use Rattle.picture.specs.Reads.{AxisReads}
-use Rattle.picture.proofs.column_reads.Given as goal
+use Rattle.picture.proofs.read_columns.Given as goal
 
 abbrev pub invariant-loop-x : goal.invariant-loop-x
 invariant-loop-x l = (l.x ≤ macroblocks (full_size l.a)) × AxisReads l.a l.x l.reads
