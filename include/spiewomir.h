@@ -23,8 +23,7 @@
  * A refused call leaves every word and byte lent to it as it was. `base` and `text`
  * are never written, and a base is read where it stands. Calls keep nothing between
  * them (a session is handed over and back by value), take no memory but stack (some
- * 3 KB; 12 KB for a picture, 20 KB for a text, 40 KB for a log), and may be made from
- * any threads at once.
+ * 5 KB; 20 KB for a text, 40 KB for a log), and may be made from any threads at once.
  */
 #ifndef SPIEWOMIR_H
 #define SPIEWOMIR_H
