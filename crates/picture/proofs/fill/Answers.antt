@@ -1,6 +1,7 @@
 use Prim.Native.Nat.{ℕ, ◌+◌, ◌-◌, ◌*◌}
 use mathlib.Core.Path.{◌≡◌, refl, sym, ap, subst, ◌∙◌}
 use native.Mathlib.Omega.{arith}
+use borrow.Author.Rules.{rules}
 use lib.ListN.{get_or, length-take, length-drop}
 use Rattle.definitions.specs.Record.{record_words, narrow}
 use Rattle.definitions.specs.Answer.{Made}
@@ -19,7 +20,7 @@ use Rattle.picture.proofs.Filling.{read_none, words_of}
 use Rattle.picture.proofs.fill.Goals as goal
 
 pub read_columns-requires : goal.read_columns-requires
-read_columns-requires c = (c.requires.0.right.axes.horizontal, read_none c.args.g.horizontal c.read_nowhere-columns.result c.read_nowhere-columns.ensures)
+read_columns-requires c = (search rules, read_none _ c.read_nowhere-columns.result c.read_nowhere-columns.ensures)
 
 pub loop-a-init : goal.loop-a-init
 loop-a-init c =
