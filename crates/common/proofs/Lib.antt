@@ -3,3 +3,4 @@ pub mod Sizes
 pub mod Located
 pub mod Counted
 pub mod Judging
+pub mod Unless

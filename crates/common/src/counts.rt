@@ -20,13 +20,15 @@ pub enum Sort {
     Outside,
 }
 
-fn sort_of(a: Answer) -> Sort
-    ensures { result ≡ sort_of a }
-{
-    match a {
-        Answer::Outside => Sort::Outside,
-        Answer::Intra(_) => Sort::Intra,
-        Answer::Inherited(_, _) => Sort::Inherited,
+impl From<Answer> for Sort {
+    ghost from_gives = { λ a s. s ≡ sort_of a };
+
+    fn from(a: Answer) -> Sort {
+        match a {
+            Answer::Outside => Sort::Outside,
+            Answer::Intra(_) => Sort::Intra,
+            Answer::Inherited(_, _) => Sort::Inherited,
+        }
     }
 }
 
@@ -38,18 +40,15 @@ pub fn count_sort(c: Counts, s: Sort) -> Counts
     match s {
         Sort::Inherited => Counts {
             inherited: c.inherited + 1,
-            intra: c.intra,
-            outside: c.outside,
+            ..c
         },
         Sort::Intra => Counts {
-            inherited: c.inherited,
             intra: c.intra + 1,
-            outside: c.outside,
+            ..c
         },
         Sort::Outside => Counts {
-            inherited: c.inherited,
-            intra: c.intra,
             outside: c.outside + 1,
+            ..c
         },
     }
 }
@@ -59,7 +58,7 @@ pub fn count(c: Counts, a: Answer) -> Counts
     requires { sum_of c < 65536 }
     ensures { result ≡ counted a c }
 {
-    count_sort(c, sort_of(a))
+    count_sort(c, a.into())
 }
 
 // The macroblocks counted.

@@ -1,8 +1,10 @@
-// Document 01's refusals by their numbers.
+// Document 01's refusals by their numbers. (Numbers, no enum: the definitions order refusals by them, specs/Refusals, and C hands them out.)
+ghost use Rattle.definitions.specs.Basics.{pick};
 ghost use Rattle.definitions.specs.Refusals.{refusal};
-ghost use Rattle.std.specs.Prelude.{◌≡◌};
+ghost use Rattle.definitions.specs.Replies.{Accepted};
+ghost use Rattle.std.specs.Prelude.{not, ◌≡◌};
 
-use definitions::Refusal;
+use definitions::{Refusal, Verdict};
 
 // ---- From the input
 pub const BASE_SIZE: u32 = 1;
@@ -48,4 +50,15 @@ pub fn refused_at(number: u32, place: u32) -> Refusal
         place,
         rule: 0,
     }
+}
+
+// Refused by the number, unless the test holds.
+#[tactic(auto, unfolding(definitions::specs::Basics::pick))]
+pub fn unless(right: bool, number: u32) -> Verdict
+    ensures { result ≡ pick (not right) (Err (refusal number)) Accepted }
+{
+    if right {
+        return Ok(());
+    }
+    Err(refused(number))
 }

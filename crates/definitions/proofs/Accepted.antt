@@ -13,8 +13,8 @@ use Rattle.definitions.specs.declared.Axes.{Axes}
 use Rattle.definitions.specs.declared.AxisNumbers.{AxisNumbers}
 use Rattle.definitions.specs.declared.Numbers.{Numbers}
 use Rattle.definitions.specs.declared.Refusal.{Refusal}
-use Rattle.definitions.specs.declared.Verdict.{Verdict}
-use Rattle.definitions.specs.declared.Verdict.TheVariants.{Accepted, Refused}
+use Rattle.definitions.specs.Replies.{Verdict, Accepted}
+use Rattle.std.specs.Prelude.{Err as Refused}
 use Rattle.definitions.specs.Accepted.{Inside, AcceptedAxis, AcceptedAxes}
 use Rattle.definitions.specs.Basics.{pick, minus}
 use Rattle.definitions.specs.Geometry.{base_size, scaled_size, full_size, offset_of, axis_of, axes_of, inside_axis, inside, c_of, sample_of, macroblocks}

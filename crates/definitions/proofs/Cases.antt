@@ -12,13 +12,13 @@ use lib.Signed.{le_z_yes, lt_z_yes}
 use borrow.Author.Tests.{ltb-true}
 use Rattle.definitions.specs.declared.Numbers.{Numbers}
 use Rattle.definitions.specs.declared.Counts.{Counts}
-use Rattle.definitions.specs.declared.Verdict.TheVariants.{Accepted}
+use Rattle.definitions.specs.Replies.{Accepted}
 use Rattle.definitions.specs.declared.Class.TheVariants.{Corner, Center}
 use Rattle.definitions.specs.declared.Split.TheVariants.{S16x16}
 use Rattle.definitions.specs.declared.Answer.{Answer}
 use Rattle.definitions.specs.declared.Answer.TheVariants.{Outside, Intra, Inherited}
-use Rattle.definitions.specs.declared.MacroblockReply.{MacroblockReply}
-use Rattle.definitions.specs.declared.PictureReply.TheVariants.{Counted}
+use Rattle.definitions.specs.Replies.{MacroblockReply}
+use Rattle.std.specs.Prelude.{Ok as Counted}
 use Rattle.definitions.specs.Basics.{pick, all_below, all_of, up_to, set_of, some_of, how_many}
 use Rattle.definitions.specs.Geometry.{axes_of, full_size, macroblocks, inside_axis, m_of, n_of, f_of, two_of, columns_read}
 use Rattle.definitions.specs.BlockMap.{digits_of, coordinate_of, step_of, address_read, block_read}

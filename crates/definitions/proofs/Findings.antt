@@ -13,8 +13,8 @@ use lib.ListN.{length}
 use borrow.Author.Tests.{eqb-true, eqb-false, eq-eqb, ne_eqb}
 use Rattle.definitions.specs.declared.Numbers.{Numbers}
 use Rattle.definitions.specs.declared.Refusal.{Refusal}
-use Rattle.definitions.specs.declared.Verdict.{Verdict}
-use Rattle.definitions.specs.declared.Verdict.TheVariants.{Accepted, Refused}
+use Rattle.definitions.specs.Replies.{Verdict, Accepted}
+use Rattle.std.specs.Prelude.{Err as Refused}
 use Rattle.definitions.specs.Geometry.{axes_of}
 use Rattle.definitions.specs.Record.{narrow}
 use Rattle.definitions.specs.Refusals.{refusal, verdict_of, geometry_tests, geometry_verdict, record_tests, all_addresses}
@@ -47,7 +47,7 @@ pub data RefusedBy (lines : ℕ) : Refusal → Type 0 where
   by_number : {k : ℕ} → Memᴰ k (1 ∷ 2 ∷ 3 ∷ 4 ∷ 5 ∷ []) → RefusedBy lines (refusal k)
   by-record : {a rule : ℕ} → a < lines → RefusedBy lines (record { number = 8; place = a; rule = rule })
 
-same-refusal : {r s : Refusal} → Refused r ≡ Refused s → r ≡ s
+same-refusal : {r s : Refusal} → ◌≡◌ {A = Verdict} (Refused r) (Refused s) → r ≡ s
 same-refusal e = cc
 
 module _ (lines : ℕ) where
@@ -65,7 +65,7 @@ module _ (lines : ℕ) where
         given_by (RefusedBy lines) (record_tests narrow base records) (records-give narrow (RefusedBy lines) base records (λ x m. let l = member-index (base_count (axes_of n)) x m in by-record (omega arith))) r
         (sym (count-right n lines base a same) ∙ v)
     by_count a false e v =
-        let five : Refused (refusal 5) ≡ Refused r = sym (count-wrong n lines base a (eqb-false _ _ e)) ∙ v in
+        let five : ◌≡◌ {A = Verdict} (Refused (refusal 5)) (Refused r) = sym (count-wrong n lines base a (eqb-false _ _ e)) ∙ v in
         subst (RefusedBy lines) (same-refusal five) (by_number (Memᴰ.tail (Memᴰ.tail (Memᴰ.tail (Memᴰ.tail (Memᴰ.head refl))))))
 
     by-geometry : (g : Verdict) → geometry_verdict n ≡ g → verdict_of (program_tests n lines base) ≡ Refused r → RefusedBy lines r

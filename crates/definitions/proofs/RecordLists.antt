@@ -12,7 +12,7 @@ use lib.ListN.{length, take, drop, length-append, length-drop}
 use lib.Seq.{take-append-le, drop-append-le, take_all, drop_at}
 use borrow.Author.Tests.{not-false}
 use Rattle.definitions.specs.declared.Refusal.{Refusal}
-use Rattle.definitions.specs.declared.Verdict.TheVariants.{Accepted}
+use Rattle.definitions.specs.Replies.{Accepted}
 use Rattle.definitions.specs.Basics.{up_to, for_each}
 use Rattle.definitions.specs.Record.{record_words, record_at, well_formed}
 use Rattle.definitions.specs.Refusals.{verdict_of, record_test, record_tests}

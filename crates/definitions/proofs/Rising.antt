@@ -13,9 +13,10 @@ use lib.IntN.{ℤ, nat_abs}
 use Rattle.definitions.specs.declared.Axes.{Axes}
 use Rattle.definitions.specs.declared.Numbers.{Numbers}
 use Rattle.definitions.specs.declared.Refusal.{Refusal}
-use Rattle.definitions.specs.declared.Verdict.TheVariants.{Accepted, Refused}
-use Rattle.definitions.specs.declared.MacroblockReply.TheVariants.{Refused as Declined}
-use Rattle.definitions.specs.declared.PictureReply.TheVariants.{Refused as NotMade}
+use Rattle.definitions.specs.Replies.{Accepted}
+use Rattle.std.specs.Prelude.{Err as Refused}
+use Rattle.std.specs.Prelude.{Err as Declined}
+use Rattle.std.specs.Prelude.{Err as NotMade}
 use Rattle.definitions.specs.Basics.{all_of, up_to, for_each}
 use Rattle.definitions.specs.Geometry.{axes_of, base_size, macroblocks, inside, columns_read}
 use Rattle.definitions.specs.Record.{record_at, well_formed, narrow}

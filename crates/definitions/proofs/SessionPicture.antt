@@ -9,8 +9,8 @@ use lib.ListN.{length}
 use borrow.Author.Tests.{eq-eqb, ne_eqb}
 use Rattle.definitions.specs.declared.Axes.{Axes}
 use Rattle.definitions.specs.declared.Numbers.{Numbers}
-use Rattle.definitions.specs.declared.Verdict.TheVariants.{Accepted}
-use Rattle.definitions.specs.declared.MacroblockReply.TheVariants.{Answered}
+use Rattle.definitions.specs.Replies.{Accepted}
+use Rattle.std.specs.Prelude.{Ok as Answered}
 use Rattle.definitions.specs.Basics.{up_to, for_each}
 use Rattle.definitions.specs.Geometry.{axes_of}
 use Rattle.definitions.specs.Record.{record_words, narrow}

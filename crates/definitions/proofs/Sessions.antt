@@ -10,10 +10,10 @@ use borrow.Author.Tests.{eqb-false, not-true, leb-true, le-leb}
 use Rattle.definitions.specs.declared.Numbers.{Numbers}
 use Rattle.definitions.specs.declared.Answer.{Answer}
 use Rattle.definitions.specs.declared.Counts.{Counts}
-use Rattle.definitions.specs.declared.Verdict.{Verdict}
-use Rattle.definitions.specs.declared.Verdict.TheVariants.{Accepted, Refused}
-use Rattle.definitions.specs.declared.MacroblockReply.{MacroblockReply}
-use Rattle.definitions.specs.declared.MacroblockReply.TheVariants.{Answered, Refused as Declined}
+use Rattle.definitions.specs.Replies.{Verdict, Accepted}
+use Rattle.std.specs.Prelude.{Err as Refused}
+use Rattle.definitions.specs.Replies.{MacroblockReply}
+use Rattle.std.specs.Prelude.{Ok as Answered, Err as Declined}
 use Rattle.definitions.specs.Basics.{pick, all_of, for_each}
 use Rattle.definitions.specs.Geometry.{axes_of}
 use Rattle.definitions.specs.Answer.{Made}

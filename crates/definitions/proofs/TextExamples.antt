@@ -6,11 +6,11 @@ use mathlib.Core.List.{List, [], ◌∷◌}
 use native.Mathlib.Omega.{arith}
 use lib.IntN.{ℤ, pos}
 use lib.ListN.{length}
-use Rattle.definitions.specs.declared.LogReply.{LogReply}
-use Rattle.definitions.specs.declared.LogReply.TheVariants.{Refused as NotWritten}
+use Rattle.definitions.specs.Replies.{LogReply}
+use Rattle.std.specs.Prelude.{Err as NotWritten}
 use Rattle.definitions.specs.declared.Refusal.{Refusal}
-use Rattle.definitions.specs.declared.TextReply.{TextReply}
-use Rattle.definitions.specs.declared.TextReply.TheVariants.{Refused as NotRead}
+use Rattle.definitions.specs.Replies.{TextReply}
+use Rattle.std.specs.Prelude.{Err as NotRead}
 use Rattle.definitions.specs.Basics.{pick, minus, all_below, up_to}
 use Rattle.definitions.specs.Record.{record_words, laid_out, record_at, rule1, rule2, rule3, rule4, rule5, rule6, rule7, first_broken}
 use Rattle.definitions.specs.Refusals.{refusal, geometry_tests, record_tests}

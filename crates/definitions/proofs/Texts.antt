@@ -11,8 +11,8 @@ use lib.Seq.{take-take}
 use borrow.Author.Tests.{leb-true, leb-false}
 use Rattle.definitions.specs.declared.Motion.{Motion}
 use Rattle.definitions.specs.declared.Refusal.{Refusal}
-use Rattle.definitions.specs.declared.TextReply.{TextReply}
-use Rattle.definitions.specs.declared.TextReply.TheVariants.{NoPicture, Read, Refused}
+use Rattle.definitions.specs.Replies.{TextReply, NoPicture, Read}
+use Rattle.std.specs.Prelude.{Err as Refused}
 use Rattle.definitions.specs.Record.{record_words, type_of, sub_type_of, motion_of, detail_of, all_one}
 use Rattle.definitions.specs.Answer.{unused_motion}
 use Rattle.definitions.specs.Text.{Belongs, CanGoOn, BreaksAt, intra, whole, words_for, TextAnswer, wrong_words, no_picture, refused, given}

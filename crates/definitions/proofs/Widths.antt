@@ -10,8 +10,8 @@ use lib.ListN.{drop_of_length-le}
 use lib.Signed.{le_z}
 use borrow.Author.Tests.{leb-true, le-leb}
 use Rattle.definitions.specs.declared.Numbers.{Numbers}
-use Rattle.definitions.specs.declared.MacroblockReply.TheVariants.{Answered, Refused as Declined}
-use Rattle.definitions.specs.declared.PictureReply.TheVariants.{Counted, Refused as NotMade}
+use Rattle.std.specs.Prelude.{Ok as Answered, Err as Declined}
+use Rattle.std.specs.Prelude.{Ok as Counted, Err as NotMade}
 use Rattle.definitions.specs.Basics.{pick, minus, eq_z, between, all_below, up_to, for_each}
 use Rattle.definitions.specs.Blocks.{quadrant_of}
 use Rattle.definitions.specs.Geometry.{axes_of}

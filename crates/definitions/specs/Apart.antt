@@ -3,7 +3,7 @@ use Rattle.std.specs.Prelude.{ℕ, ◌≡◌, List, ℤ, take}
 use Rattle.definitions.specs.declared.Numbers.{Numbers}
 use Rattle.definitions.specs.declared.Answer.{Answer}
 use Rattle.definitions.specs.declared.Counts.{Counts}
-use Rattle.definitions.specs.declared.PictureReply.TheVariants.{Counted}
+use Rattle.std.specs.Prelude.{Ok as Counted}
 use Rattle.definitions.specs.Record.{record_at}
 use Rattle.definitions.specs.Answer.{answer_detail, with_bits}
 use Rattle.definitions.specs.Calls.{picture_call}

@@ -4,15 +4,15 @@ use mathlib.Core.List.{List, ◌∷◌, map, Memᴰ}
 use Rattle.definitions.specs.declared.Axes.{Axes}
 use Rattle.definitions.specs.declared.Numbers.{Numbers}
 use Rattle.definitions.specs.declared.Counts.{Counts}
-use Rattle.definitions.specs.declared.Verdict.TheVariants.{Accepted}
+use Rattle.definitions.specs.Replies.{Accepted}
 use Rattle.definitions.specs.declared.Class.TheVariants.{Corner}
 use Rattle.definitions.specs.declared.Origin.{Origin}
 use Rattle.definitions.specs.declared.Basis.{Basis}
 use Rattle.definitions.specs.declared.Split.{Split}
 use Rattle.definitions.specs.declared.Answer.{Answer}
 use Rattle.definitions.specs.declared.Answer.TheVariants.{Outside, Intra, Inherited}
-use Rattle.definitions.specs.declared.MacroblockReply.TheVariants.{Answered}
-use Rattle.definitions.specs.declared.PictureReply.TheVariants.{Counted}
+use Rattle.std.specs.Prelude.{Ok as Answered}
+use Rattle.std.specs.Prelude.{Ok as Counted}
 use Rattle.definitions.specs.Basics.{pick}
 use Rattle.definitions.specs.Geometry.{axes_of, base_size, full_size, macroblocks, inside}
 use Rattle.definitions.specs.Splits.{Covers, pieces, one_each, count}

@@ -6,8 +6,8 @@ use Rattle.definitions.specs.declared.Axis.{Axis}
 use Rattle.definitions.specs.declared.AxisNumbers.{AxisNumbers}
 use Rattle.definitions.specs.declared.Numbers.{Numbers}
 use Rattle.definitions.specs.declared.Prediction.{Prediction}
-use Rattle.definitions.specs.declared.MacroblockReply.{MacroblockReply}
-use Rattle.definitions.specs.declared.MacroblockReply.TheVariants.{Answered, Refused}
+use Rattle.definitions.specs.Replies.{MacroblockReply}
+use Rattle.std.specs.Prelude.{Ok as Answered, Err as Refused}
 use Rattle.definitions.specs.Basics.{pick, minus, eq_z, all_below, all_of, up_to, four, set_of, some_of, how_many}
 use Rattle.definitions.specs.Geometry.{axes_of, axis_of, inside_axis, c_of, m_of, n_of, f_of, two_of, base_size, scaled_size}
 use Rattle.definitions.specs.BlockMap.{digits_of, coordinate_of, step_of, address_read, block_read}

@@ -1,5 +1,6 @@
 -- Document 01 as definitions, in its order, with step 4 of "Inheriting" as document 02's E3 has it, and with document 02's E7 (detail), E5 (what fed a macroblock), E2 (no picture) and E12 (records of two widths): read these files from the top with the papers beside them.
 pub mod Basics
+pub mod Replies
 pub mod Geometry
 pub mod Raster
 pub mod Accepted

@@ -6,10 +6,10 @@ use Rattle.definitions.specs.declared.Numbers.{Numbers}
 use Rattle.definitions.specs.declared.Answer.{Answer}
 use Rattle.definitions.specs.declared.Answer.TheVariants.{Outside, Intra, Inherited}
 use Rattle.definitions.specs.declared.Refusal.{Refusal}
-use Rattle.definitions.specs.declared.Verdict.{Verdict}
-use Rattle.definitions.specs.declared.Verdict.TheVariants.{Accepted, Refused}
-use Rattle.definitions.specs.declared.LogReply.{LogReply}
-use Rattle.definitions.specs.declared.LogReply.TheVariants.{Written, Refused as NotWritten}
+use Rattle.definitions.specs.Replies.{Verdict, Accepted}
+use Rattle.std.specs.Prelude.{Err as Refused}
+use Rattle.definitions.specs.Replies.{LogReply}
+use Rattle.std.specs.Prelude.{Ok as Written, Err as NotWritten}
 use Rattle.definitions.specs.Basics.{pick, up_to, for_each}
 use Rattle.definitions.specs.Geometry.{axes_of}
 use Rattle.definitions.specs.Splits.{count}

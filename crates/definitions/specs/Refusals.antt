@@ -5,8 +5,8 @@ use Rattle.std.specs.Int.Signed.{le_z, lt_z}
 use Rattle.definitions.specs.declared.Axes.{Axes}
 use Rattle.definitions.specs.declared.Numbers.{Numbers}
 use Rattle.definitions.specs.declared.Refusal.{Refusal}
-use Rattle.definitions.specs.declared.Verdict.{Verdict}
-use Rattle.definitions.specs.declared.Verdict.TheVariants.{Accepted, Refused}
+use Rattle.definitions.specs.Replies.{Verdict, Accepted}
+use Rattle.std.specs.Prelude.{Err as Refused}
 use Rattle.definitions.specs.Basics.{pick, minus, between, up_to}
 use Rattle.definitions.specs.Geometry.{axes_of, full_size, macroblocks, inside}
 use Rattle.definitions.specs.Raster.{base_count}

@@ -5,11 +5,11 @@ use Rattle.std.proofs.Math.Option.{Option, none, some}
 use Rattle.definitions.specs.declared.Numbers.{Numbers}
 use Rattle.definitions.specs.declared.Counts.{Counts}
 use Rattle.definitions.specs.declared.Refusal.{Refusal}
-use Rattle.definitions.specs.declared.Verdict.{Verdict}
-use Rattle.definitions.specs.declared.Verdict.TheVariants.{Accepted, Refused}
-use Rattle.definitions.specs.declared.MacroblockReply.{MacroblockReply}
-use Rattle.definitions.specs.declared.MacroblockReply.TheVariants.{Answered, Refused as Declined}
-use Rattle.definitions.specs.declared.PictureReply.TheVariants.{Counted}
+use Rattle.definitions.specs.Replies.{Verdict, Accepted}
+use Rattle.std.specs.Prelude.{Err as Refused}
+use Rattle.definitions.specs.Replies.{MacroblockReply}
+use Rattle.std.specs.Prelude.{Ok as Answered, Err as Declined}
+use Rattle.std.specs.Prelude.{Ok as Counted}
 use Rattle.definitions.specs.Basics.{pick, all_of, up_to, for_each}
 use Rattle.definitions.specs.Geometry.{axes_of}
 use Rattle.definitions.specs.Record.{record_words, narrow}

@@ -7,8 +7,8 @@ use Rattle.definitions.specs.declared.Motion.{Motion}
 use Rattle.definitions.specs.declared.Numbers.{Numbers}
 use Rattle.definitions.specs.declared.Refusal.{Refusal}
 use Rattle.definitions.specs.declared.TextRead.{TextRead}
-use Rattle.definitions.specs.declared.TextReply.{TextReply}
-use Rattle.definitions.specs.declared.TextReply.TheVariants.{NoPicture, Read, Refused}
+use Rattle.definitions.specs.Replies.{TextReply, NoPicture, Read}
+use Rattle.std.specs.Prelude.{Err as Refused}
 use Rattle.definitions.specs.Basics.{for_each}
 use Rattle.definitions.specs.Record.{record_words, word_of, laid_out, all_one}
 use Rattle.definitions.specs.Answer.{without_motion}

@@ -14,18 +14,18 @@ use Rattle.definitions.specs.declared.Axes.{Axes}
 use Rattle.definitions.specs.declared.Basis.{Basis}
 use Rattle.definitions.specs.declared.Answer.{Answer}
 use Rattle.definitions.specs.declared.Answer.TheVariants.{Outside, Intra, Inherited}
-use Rattle.definitions.specs.declared.Verdict.{Verdict}
-use Rattle.definitions.specs.declared.Verdict.TheVariants.{Accepted, Refused}
+use Rattle.definitions.specs.Replies.{Verdict, Accepted}
+use Rattle.std.specs.Prelude.{Err as Refused}
 use Rattle.definitions.specs.declared.Refusal.{Refusal}
-use Rattle.definitions.specs.declared.TextReply.{TextReply}
-use Rattle.definitions.specs.declared.TextReply.TheVariants.{NoPicture, Read, Refused as NotRead}
+use Rattle.definitions.specs.Replies.{TextReply, NoPicture, Read}
+use Rattle.std.specs.Prelude.{Err as NotRead}
 use Rattle.definitions.specs.declared.AxisStep.{AxisStep}
-use Rattle.definitions.specs.declared.PictureReply.{PictureReply}
-use Rattle.definitions.specs.declared.PictureReply.TheVariants.{Refused as NotMade}
-use Rattle.definitions.specs.declared.LogReply.{LogReply}
-use Rattle.definitions.specs.declared.LogReply.TheVariants.{Written, Refused as NotWritten}
-use Rattle.definitions.specs.declared.MacroblockReply.{MacroblockReply}
-use Rattle.definitions.specs.declared.MacroblockReply.TheVariants.{Answered, Refused as Declined}
+use Rattle.definitions.specs.Replies.{PictureReply}
+use Rattle.std.specs.Prelude.{Err as NotMade}
+use Rattle.definitions.specs.Replies.{LogReply}
+use Rattle.std.specs.Prelude.{Ok as Written, Err as NotWritten}
+use Rattle.definitions.specs.Replies.{MacroblockReply}
+use Rattle.std.specs.Prelude.{Ok as Answered, Err as Declined}
 use Rattle.definitions.specs.Basics.{pick, minus, all_below, all_of, up_to, for_each, set_of, some_of, how_many}
 use Rattle.definitions.specs.Raster.{base_address}
 use Rattle.definitions.specs.Geometry.{axis_of, inside_axis, m_of, n_of, f_of, two_of, columns_read}

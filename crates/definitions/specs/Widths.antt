@@ -4,8 +4,8 @@ use Rattle.definitions.specs.declared.Numbers.{Numbers}
 use Rattle.definitions.specs.declared.Class.TheVariants.{Corner}
 use Rattle.definitions.specs.declared.Split.TheVariants.{S16x16}
 use Rattle.definitions.specs.declared.Answer.TheVariants.{Inherited}
-use Rattle.definitions.specs.declared.MacroblockReply.TheVariants.{Refused as Declined}
-use Rattle.definitions.specs.declared.PictureReply.TheVariants.{Refused as NotMade}
+use Rattle.std.specs.Prelude.{Err as Declined}
+use Rattle.std.specs.Prelude.{Err as NotMade}
 use Rattle.definitions.specs.Basics.{minus}
 use Rattle.definitions.specs.Record.{record_at, laid_out, narrow, wide, all_one}
 use Rattle.definitions.specs.Inheriting.{unused}

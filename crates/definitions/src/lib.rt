@@ -150,18 +150,12 @@ pub struct Refusal {
     pub rule: u32,
 }
 
-#[derive(Clone, Copy)]
-pub enum Verdict {
-    Accepted,
-    Refused(Refusal),
-}
+// Ok: accepted.
+pub type Verdict = Result<(), Refusal>;
 
 // ---- Calls
-#[derive(Clone, Copy)]
-pub enum MacroblockReply {
-    Answered(Answer),
-    Refused(Refusal),
-}
+// Ok: what was answered.
+pub type MacroblockReply = Result<Answer, Refusal>;
 
 #[derive(Clone, Copy)]
 pub struct Counts {
@@ -170,11 +164,8 @@ pub struct Counts {
     pub outside: u32,
 }
 
-#[derive(Clone, Copy)]
-pub enum PictureReply {
-    Counted(Counts),
-    Refused(Refusal),
-}
+// Ok: what was counted.
+pub type PictureReply = Result<Counts, Refusal>;
 
 // What a text gives: the geometry's numbers and the count of record lines.
 #[derive(Clone, Copy)]
@@ -183,15 +174,11 @@ pub struct TextRead {
     pub lines: u32,
 }
 
-// `NoPicture`: the text has no bytes (document 02, E2).
-#[derive(Clone, Copy)]
-pub enum TextReply {
-    NoPicture,
-    Read(TextRead),
-    Refused(Refusal),
-}
+// Ok: what was read, or None where the text has no bytes and so means no picture (document 02, E2).
+pub type TextReply = Result<Option<TextRead>, Refusal>;
 
-// What the log call gives: the length of the log, the verdict on the text that its lines say, and whether the text is empty and so means no picture; or why none is written.
+// What the log call gives: the length of the log, the verdict on the text that its lines say, and whether the text is empty and so means no picture.
+// (A flag, no Option: a log has its bytes in each case, and C is handed the flag.)
 #[derive(Clone, Copy)]
 pub struct Logged {
     pub bytes: usize,
@@ -199,8 +186,5 @@ pub struct Logged {
     pub empty: bool,
 }
 
-#[derive(Clone, Copy)]
-pub enum LogReply {
-    Written(Logged),
-    Refused(Refusal),
-}
+// Ok: what was written. Err: why no log is written.
+pub type LogReply = Result<Logged, Refusal>;

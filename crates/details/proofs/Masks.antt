@@ -1,5 +1,5 @@
 -- Masks: the bits of a number that a mask leaves, the masks that a set of columns and a set of rows make, and the tables of sets. Of numbers alone. Assumes nothing.
-use Prim.Native.Nat.{ℕ, zero, suc, ◌+◌, ◌-◌, ◌*◌, ◌/◌, ◌%◌, ◌^◌, ◌<◌, min, max}
+use Prim.Native.Nat.{ℕ, zero, suc, ◌+◌, ◌-◌, ◌*◌, ◌/◌, ◌%◌, ◌^◌, ◌<◌, ◌≤◌, min, max}
 use mathlib.Core.Path.{◌≡◌, refl, sym, ap, ap₂, ◌∙◌}
 use mathlib.Core.Bool.{Bool, true, false, ◌&&◌, ◌||◌, not}
 use mathlib.Core.List.{List, [], ◌∷◌}
@@ -12,11 +12,18 @@ use lib.Dec.{eqb, ltb}
 use lib.ListN.{get_or, get_or-append}
 use lib.Pow.{pow-add, pow_pos}
 use lib.Seq.{get_or-append_seam}
+use mir.Val.{bool_byte}
 use borrow.Author.Tests.{eqb-true, eq-eqb, ltb-true, ne_eqb}
 use Rattle.definitions.specs.Basics.{all_below, bit_set, pick, up_to, some_of}
 use Rattle.definitions.proofs.Choices.{and_intro, below_true, both_true, both_ways, each, up_to-length}
 use Rattle.gather.proofs.Sets.{bit}
 use Rattle.details.specs.Bits.{as_rows, four_masked, is_own, masked}
+
+-- a test that fails, as a number
+pub bit-where-not : (on : Bool) → (bool_byte (not on) ≡ pick on 0 1) × (bool_byte (not on) ≤ 1)
+unfolding pick
+bit-where-not true = (refl, omega arith)
+bit-where-not false = (refl, omega arith)
 
 -- ---- What a mask of several bits leaves is what each of its bits leaves
 or-odd : (a b : ℕ) → bit_or a b % 2 ≡ max (a % 2) (b % 2)

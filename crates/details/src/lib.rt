@@ -1,36 +1,36 @@
 // The detail of a macroblock (document 02, E7): which of its quadrants read base quadrants that have detail. By the block map alone, before any filling.
 #![tactic(auto)]
 
-ghost use Rattle.std.specs.Prelude.{◌*◌, ◌+◌, ◌/◌, ◌<◌, ◌≤◌, nat_abs, get_or, ◌≡◌};
-ghost use Rattle.definitions.specs.Record.{detail_of, narrow};
+ghost use Rattle.std.specs.Prelude.{◌*◌, ◌+◌, ◌/◌, ◌<◌, ◌≤◌, nat_abs, map, get_or, ◌≡◌};
+ghost use Rattle.definitions.specs.Record.{detail_of};
 ghost use Rattle.details.specs.Bits.{InOne, detail_by, details_by, four_masked, halves_of, is_own, masked, masked_by};
-ghost use Rattle.gather.specs.Reads.{Readable, ReadableAt, Rising, record_read};
+ghost use Rattle.gather.specs.Reads.{ReadableAt, Rising, record_read};
 
-use gather::address_of;
+use gather::{Reading, address_of};
 use records::read::detail_at;
+use word::Word;
 
 // ---- The bits that are read
 // Those of the macroblock that a block with coordinates x and y reads.
-fn reads_detail(base: &[i16], width: usize, x: u16, y: u16) -> u32
-    requires { ReadableAt narrow width base.now x y × (width ≤ 256) }
-    ensures { (result ≡ nat_abs (detail_of (record_read width base.now x y))) × (result < 16) }
+fn reads_detail<W: Word>(base: &[W], width: usize, x: u16, y: u16) -> u32
+    requires { ReadableAt W.LIMIT width (map W.value base.now) x y × (width ≤ 256) }
+    ensures { (result ≡ nat_abs (detail_of (record_read width (map W.value base.now) x y))) × (result < 16) }
 {
     detail_at(base, address_of(width, x, y)) as u32
 }
 
 // Those of the macroblocks that the corner blocks read, four bits each: the first, the one to its right, the one below and the diagonal one.
-fn details_of(base: &[i16], width: usize, across: [u16; 4], down: [u16; 4]) -> u32
-    requires { Readable narrow width across down base.now × (width ≤ 256) }
-    ensures { result ≡ details_by width across down base.now }
+fn details_of<W: Word>(r: &Reading<W>) -> u32
+    ensures { result ≡ details_by r.now.width r.now.across r.now.down (map W.value r.now.base.now) }
 {
-    let left = across[0];
-    let right = across[3];
-    let upper = down[0];
-    let lower = down[3];
-    let a = reads_detail(base, width, left, upper);
-    let b = reads_detail(base, width, right, upper);
-    let c = reads_detail(base, width, left, lower);
-    let d = reads_detail(base, width, right, lower);
+    let left = r.across[0];
+    let right = r.across[3];
+    let upper = r.down[0];
+    let lower = r.down[3];
+    let a = reads_detail(r.base, r.width, left, upper);
+    let b = reads_detail(r.base, r.width, right, upper);
+    let c = reads_detail(r.base, r.width, left, lower);
+    let d = reads_detail(r.base, r.width, right, lower);
     a + 16 * b + 256 * c + 4096 * d
 }
 
@@ -65,7 +65,7 @@ fn any(bits: u32, columns: u32, rows: u32) -> u32
     requires { (columns < 64) × (rows < 2048) }
     ensures { (result ≡ masked bits (columns * rows)) × (result ≤ 1) }
 {
-    if bits & (columns * rows) == 0 { 0 } else { 1 }
+    (bits & (columns * rows) != 0) as u32
 }
 
 fn four_by(bits: u32, h: [u8; 2], upper: u32, lower: u32) -> u8
@@ -92,18 +92,11 @@ pub fn detail_by(bits: u32, h: [u8; 2], v: [u8; 2]) -> u8
 
 // ---- The detail of a macroblock
 // Where several macroblocks are read: those of the corners are all (`detail-corners`).
-pub fn detail_of_more(
-    base: &[i16],
-    width: usize,
-    across: [u16; 4],
-    down: [u16; 4],
-    h: [u8; 2],
-    v: [u8; 2],
-) -> u8
-    requires { Readable narrow width across down base.now × (width ≤ 256) × Rising across × Rising down × (h ≡ halves_of across) × (v ≡ halves_of down) }
-    ensures { (result ≡ detail_by width across down base.now) × (result < 16) }
+pub fn detail_of_more<W: Word>(r: &Reading<W>, h: [u8; 2], v: [u8; 2]) -> u8
+    requires { Rising r.now.across × Rising r.now.down × (h ≡ halves_of r.now.across) × (v ≡ halves_of r.now.down) }
+    ensures { (result ≡ detail_by r.now.width r.now.across r.now.down (map W.value r.now.base.now)) × (result < 16) }
 {
-    let bits = details_of(base, width, across, down);
+    let bits = details_of(r);
     detail_by(bits, h, v)
 }
 
@@ -127,18 +120,11 @@ fn detail_in(bits: u32, h: [u8; 2], v: [u8; 2]) -> u8
 }
 
 // Where one is read, its bits are all that matter (`detail-one`), and where each quadrant reads the one in its own place, they are the answer (`detail-own`).
-pub fn detail_of_one(
-    base: &[i16],
-    width: usize,
-    across: [u16; 4],
-    down: [u16; 4],
-    h: [u8; 2],
-    v: [u8; 2],
-) -> u8
-    requires { Readable narrow width across down base.now × (width ≤ 256) × Rising across × Rising down × InOne 4 across × InOne 4 down × (h ≡ halves_of across) × (v ≡ halves_of down) }
-    ensures { (result ≡ detail_by width across down base.now) × (result < 16) }
+pub fn detail_of_one<W: Word>(r: &Reading<W>, h: [u8; 2], v: [u8; 2]) -> u8
+    requires { Rising r.now.across × Rising r.now.down × InOne 4 r.now.across × InOne 4 r.now.down × (h ≡ halves_of r.now.across) × (v ≡ halves_of r.now.down) }
+    ensures { (result ≡ detail_by r.now.width r.now.across r.now.down (map W.value r.now.base.now)) × (result < 16) }
 {
-    let bits = reads_detail(base, width, across[0], down[0]);
+    let bits = reads_detail(r.base, r.width, r.across[0], r.down[0]);
     if is_own(h) & is_own(v) {
         return bits as u8;
     }
@@ -146,12 +132,12 @@ pub fn detail_of_one(
 }
 
 // Where one quadrant of one is read, all four bits are its bit (`detail-quarter`).
-pub fn detail_of_quarter(base: &[i16], width: usize, across: [u16; 4], down: [u16; 4]) -> u8
-    requires { Readable narrow width across down base.now × (width ≤ 256) × Rising across × Rising down × InOne 2 across × InOne 2 down }
-    ensures { (result ≡ detail_by width across down base.now) × (result < 16) }
+pub fn detail_of_quarter<W: Word>(r: &Reading<W>) -> u8
+    requires { Rising r.now.across × Rising r.now.down × InOne 2 r.now.across × InOne 2 r.now.down }
+    ensures { (result ≡ detail_by r.now.width r.now.across r.now.down (map W.value r.now.base.now)) × (result < 16) }
 {
-    let x = across[0];
-    let y = down[0];
-    let bits = reads_detail(base, width, x, y);
+    let x = r.across[0];
+    let y = r.down[0];
+    let bits = reads_detail(r.base, r.width, x, y);
     (15 * ((bits >> (2 * (y % 4 / 2) + x % 4 / 2)) & 1)) as u8
 }

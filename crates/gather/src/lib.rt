@@ -1,18 +1,20 @@
 // Reading by the block map: the motions that the blocks of a macroblock read, and which of the macroblocks that are read are intra.
 #![tactic(auto)]
 
-ghost use Rattle.std.specs.Prelude.{ℕ, ◌<◌, ◌≤◌, pos, get_or, length, ◌≡◌};
+ghost use Rattle.std.specs.Prelude.{ℕ, ◌<◌, ◌≤◌, pos, map, ◌≡◌};
 ghost use Rattle.definitions.specs.Basics.{eq_z, pick, set_of};
 ghost use Rattle.definitions.specs.Blocks.{quadrant_of};
-ghost use Rattle.definitions.specs.Record.{is_intra, narrow, sub_type_of, type_of};
+ghost use Rattle.definitions.specs.Record.{is_intra, sub_type_of, type_of};
 ghost use Rattle.gather.specs.Reads.{PlaceIn, PlacesIn, Readable, ReadableAt, across_of, address_at, beside, block_at, block_from, corners_by, down_of, motion_read, quadrant_from, record_read, set_among};
 ghost use Rattle.motion.specs.ByValue.{motion_in};
 
-use common::raster;
 use definitions::RECORD_WORDS;
+use geometry::raster;
 use motion::BlockMotion;
 use records::layout::{REFERENCES, VECTORS};
 use records::read::{is_intra, is_single, is_whole};
+use std::alloc::AllocError;
+use word::{Word, word_at};
 
 // The base macroblock of the 4 by 4 block at coordinates x and y.
 pub fn address_of(width: usize, x: u16, y: u16) -> usize
@@ -53,18 +55,10 @@ pub fn down_of(width: usize, y: u16) -> Spot
     }
 }
 
-// A word, in 32 bits.
-pub fn word_at(base: &[i16], at: usize) -> i32
-    requires { at < length base.now }
-    ensures { result ≡ get_or base.now at (pos 0) }
-{
-    base[at] as i32
-}
-
 // The motion at a column and a row.
-fn block_from(base: &[i16], x: Spot, y: Spot) -> BlockMotion
-    requires { PlaceIn base.now x y }
-    ensures { result ≡ block_from base.now x y }
+fn block_from<W: Word>(base: &[W], x: Spot, y: Spot) -> BlockMotion
+    requires { PlaceIn (map W.value base.now) x y }
+    ensures { result ≡ block_from (map W.value base.now) x y }
 {
     let v = x.vectors + y.vectors;
     let r = x.references + y.references;
@@ -79,23 +73,23 @@ fn block_from(base: &[i16], x: Spot, y: Spot) -> BlockMotion
 }
 
 // The motion that the block with coordinates x and y reads.
-pub fn block_read(base: &[i16], width: usize, x: u16, y: u16) -> BlockMotion
-    requires { ReadableAt narrow width base.now x y × (width ≤ 256) }
-    ensures { motion_in result ≡ motion_read width base.now x y }
+pub fn block_read<W: Word>(base: &[W], width: usize, x: u16, y: u16) -> BlockMotion
+    requires { ReadableAt W.LIMIT width (map W.value base.now) x y × (width ≤ 256) }
+    ensures { motion_in result ≡ motion_read width (map W.value base.now) x y }
 {
     block_from(base, across_of(x), down_of(width, y))
 }
 
 // The blocks of a quadrant: at two columns and two rows.
-pub fn quadrant_read(
-    base: &[i16],
+pub fn quadrant_read<W: Word>(
+    base: &[W],
     left: Spot,
     right: Spot,
     upper: Spot,
     lower: Spot,
 ) -> [BlockMotion; 4]
-    requires { PlacesIn base.now left right upper lower }
-    ensures { result ≡ quadrant_from base.now left right upper lower }
+    requires { PlacesIn (map W.value base.now) left right upper lower }
+    ensures { result ≡ quadrant_from (map W.value base.now) left right upper lower }
 {
     let a = block_from(base, left, upper);
     let b = block_from(base, right, upper);
@@ -106,28 +100,48 @@ pub fn quadrant_read(
 
 // ---- Macroblocks
 // The macroblock that a block with coordinates x and y reads is intra; is of type 1, 16×16.
-pub fn reads_intra(base: &[i16], width: usize, x: u16, y: u16) -> bool
-    requires { ReadableAt narrow width base.now x y × (width ≤ 256) }
-    ensures { result ≡ is_intra (record_read width base.now x y) }
+pub fn reads_intra<W: Word>(base: &[W], width: usize, x: u16, y: u16) -> bool
+    requires { ReadableAt W.LIMIT width (map W.value base.now) x y × (width ≤ 256) }
+    ensures { result ≡ is_intra (record_read width (map W.value base.now) x y) }
 {
     is_intra(base, address_of(width, x, y))
 }
 
-pub fn reads_whole(base: &[i16], width: usize, x: u16, y: u16) -> bool
-    requires { ReadableAt narrow width base.now x y × (width ≤ 256) }
-    ensures { result ≡ eq_z (type_of (record_read width base.now x y)) (pos 1) }
+pub fn reads_whole<W: Word>(base: &[W], width: usize, x: u16, y: u16) -> bool
+    requires { ReadableAt W.LIMIT width (map W.value base.now) x y × (width ≤ 256) }
+    ensures { result ≡ eq_z (type_of (record_read width (map W.value base.now) x y)) (pos 1) }
 {
     is_whole(base, address_of(width, x, y))
 }
 
 // The quadrant of that macroblock in which the block read lies is not divided.
-pub fn reads_single(base: &[i16], width: usize, x: u16, y: u16) -> bool
-    requires { ReadableAt narrow width base.now x y × (width ≤ 256) }
-    ensures { result ≡ eq_z (sub_type_of (record_read width base.now x y) (quadrant_of (block_at x y))) (pos 0) }
+pub fn reads_single<W: Word>(base: &[W], width: usize, x: u16, y: u16) -> bool
+    requires { ReadableAt W.LIMIT width (map W.value base.now) x y × (width ≤ 256) }
+    ensures { result ≡ eq_z (sub_type_of (record_read width (map W.value base.now) x y) (quadrant_of (block_at x y))) (pos 0) }
 {
     let q = (2 * (y % 4 / 2) + x % 4 / 2) as usize;
     is_single(base, address_of(width, x, y), q)
 }
+
+// ---- What a macroblock inside the window reads
+// The base with its width in macroblocks, and the coordinates that the two axes give: the records that they name lie in the base and are well formed. It is made once for a macroblock, and lent.
+pub struct Reading<'a, W: Word> {
+    pub base: &'a [W],
+    pub width: usize,
+    pub across: [u16; 4],
+    pub down: [u16; 4],
+    ghost readable: { Readable W.LIMIT width across down (map W.value base.now) },
+    ghost low: { width ≤ 256 },
+}
+
+// (By hand, as in `bases`.)
+impl<'a, W: Word> Clone for Reading<'a, W> {
+    fn clone(&self) -> Result<Reading<'a, W>, AllocError> {
+        Ok(*self)
+    }
+}
+
+impl<'a, W: Word> Copy for Reading<'a, W> {}
 
 // ---- The intra set
 // Which of the macroblocks that are read are intra. What is read lies in the columns of the first and the last block, and in their rows, since coordinates rise: these are all (`set-corners`).
@@ -139,26 +153,26 @@ pub struct Corners {
     pub diagonal: bool,
 }
 
-pub fn corners_of(base: &[i16], width: usize, across: [u16; 4], down: [u16; 4]) -> Corners
-    requires { Readable narrow width across down base.now × (width ≤ 256) }
-    ensures { result ≡ corners_by width across down base.now }
+pub fn corners_of<W: Word>(r: &Reading<W>) -> Corners
+    ensures { result ≡ corners_by r.now.width r.now.across r.now.down (map W.value r.now.base.now) }
 {
-    let left = across[0];
-    let right = across[3];
-    let upper = down[0];
-    let lower = down[3];
+    let left = r.across[0];
+    let right = r.across[3];
+    let upper = r.down[0];
+    let lower = r.down[3];
     Corners {
-        first: reads_intra(base, width, left, upper),
-        right: reads_intra(base, width, right, upper),
-        below: reads_intra(base, width, left, lower),
-        diagonal: reads_intra(base, width, right, lower),
+        first: reads_intra(r.base, r.width, left, upper),
+        right: reads_intra(r.base, r.width, right, upper),
+        below: reads_intra(r.base, r.width, left, lower),
+        diagonal: reads_intra(r.base, r.width, right, lower),
     }
 }
 
+// (A function of its own, so that its bound is said once.)
 fn bit_of(on: bool) -> u16
     ensures { (result ≡ pick on 1 0) × (result ≤ 1) }
 {
-    if on { 1 } else { 0 }
+    on as u16
 }
 
 // What holds of block i along an axis, by the macroblock of the first block and that of the last.

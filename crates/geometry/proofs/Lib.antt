@@ -2,5 +2,4 @@
 mod Steps
 pub mod Verdicts
 mod Rows
-mod Words
 mod Bounds

@@ -1,21 +1,17 @@
--- What the checked constructor gives: by refusals 1 to 4, a geometry or its refusal.
-use Rattle.std.specs.Prelude.{T}
+-- What refusals 1 to 4 leave of numbers: the axes, or their refusal; and what each axis keeps.
+use Rattle.std.specs.Prelude.{T, Result, Ok, Err as Refused}
 use Rattle.std.specs.Int.Signed.{non_neg}
+use Rattle.definitions.specs.declared.Axes.{Axes}
 use Rattle.definitions.specs.declared.AxisNumbers.{AxisNumbers}
 use Rattle.definitions.specs.declared.Numbers.{Numbers}
-use Rattle.definitions.specs.declared.Verdict.{Verdict}
-use Rattle.definitions.specs.declared.Verdict.TheVariants.{Accepted, Refused}
+use Rattle.definitions.specs.declared.Refusal.{Refusal}
+use Rattle.definitions.specs.Replies.{Verdict, Accepted}
 use Rattle.definitions.specs.Geometry.{axes_of}
-use Rattle.definitions.specs.Refusals.{geometry_verdict}
-use Rattle.geometry.specs.declared.Checked.{Checked}
-use Rattle.geometry.specs.declared.Checked.TheVariants.{Geometry as Right, Refused as Declined}
 
-abbrev pub checked_by : Verdict → Numbers → Checked
-checked_by Accepted n = Right (record { axes = axes_of n })
-checked_by (Refused r) n = Declined r
-
-unfoldable pub checked_of : Numbers → Checked
-checked_of n = checked_by (geometry_verdict n) n
+-- by the verdict
+abbrev pub checked_by : Verdict → Numbers → Result Axes Refusal
+checked_by Accepted n = Ok (axes_of n)
+checked_by (Refused r) n = Refused r
 
 -- B, S and E are not below 0
 pub record NoneNegative (n : AxisNumbers) : Type 0 where

@@ -1,34 +1,34 @@
-// The geometry of the two layers: numbers that refusals 1 to 4 accept, and what an axis gives for one macroblock.
+// The geometry of the two layers: numbers that refusals 1 to 4 accept, its counts and addresses, refusals 5 to 7, and what an axis gives for one macroblock.
 #![tactic(auto)]
 
 pub mod map; // map.rt: the block map
+pub mod raster; // raster.rt: macroblocks and their addresses
 pub mod sign; // sign.rt: the size and the sign of a displacement
 pub mod step; // step.rt: an axis, for one macroblock, and the class of both
+pub mod tests; // tests.rt: refusals 5, 6 and 7
 
 ghost use Rattle.definitions.specs.Geometry.{axes_of, axis_of};
-ghost use Rattle.definitions.specs.Refusals.{geometry_verdict, offset_right, refusal, scaled_right, size_right};
+ghost use Rattle.definitions.specs.Refusals.{geometry_verdict, offset_right, scaled_right, size_right};
 ghost use Rattle.definitions.specs.Basics.{between as in_range};
-ghost use Rattle.geometry.specs.Checked.{NoneNegative, checked_of};
-ghost use Rattle.std.specs.Prelude.{◌&&◌, true, ◌≡◌};
+ghost use Rattle.definitions.specs.Accepted.{AcceptedAxes, AcceptedAxis};
+ghost use Rattle.definitions.specs.Replies.{Accepted};
+ghost use Rattle.geometry.specs.Checked.{NoneNegative};
+ghost use Rattle.geometry.specs.Step.{AtSample};
+ghost use Rattle.std.specs.Prelude.{◌<◌, ◌&&◌, true, ◌≡◌, IfOk, IfErr};
 
 use common::refusals;
-use common::refusals::refused;
+use common::refusals::unless;
 use definitions::{
     Axes, Axis, AxisNumbers, BaseSample, EnhancementOffset, EnhancementSample, Numbers, Refusal,
     Verdict,
 };
 pub use step::{axis_step, class_of, is_inside};
 
-// A geometry that refusals 1 to 4 accept. Only `new` makes one.
+// A geometry that refusals 1 to 4 accept.
 #[derive(Clone, Copy)]
 pub struct Geometry {
-    axes: Axes,
-}
-
-#[derive(Clone, Copy)]
-pub enum Checked {
-    Geometry(Geometry),
-    Refused(Refusal),
+    pub axes: Axes,
+    ghost accepted: { AcceptedAxes axes },
 }
 
 impl Geometry {
@@ -44,13 +44,12 @@ impl Geometry {
     pub const OFFSET_MAX: i32 = 8190;
 
     // The geometry of the numbers, or why they are refused.
-    pub fn new(n: Numbers) -> Checked
-        ensures { result ≡ checked_of n }
+    pub fn new(n: Numbers) -> Result<Geometry, Refusal>
+        ensures accepted { IfOk result (λ g. (geometry_verdict n ≡ Accepted) × (g.axes ≡ axes_of n)) }
+        ensures refused { IfErr result (λ r. geometry_verdict n ≡ Err r) }
     {
-        match verdict_on(n) {
-            Verdict::Accepted => Checked::Geometry(Geometry { axes: axes_of(n) }),
-            Verdict::Refused(r) => Checked::Refused(r),
-        }
+        verdict_on(n)?;
+        Ok(Geometry { axes: axes_of(n) })
     }
 
     // Its two axes, with sizes that are not below 0.
@@ -59,32 +58,63 @@ impl Geometry {
     {
         self.axes
     }
+
+    // One of them.
+    pub fn horizontal(self) -> CheckedAxis
+        ensures { result.axis ≡ self.axes.horizontal }
+    {
+        CheckedAxis {
+            axis: self.axes.horizontal,
+        }
+    }
+
+    pub fn vertical(self) -> CheckedAxis
+        ensures { result.axis ≡ self.axes.vertical }
+    {
+        CheckedAxis {
+            axis: self.axes.vertical,
+        }
+    }
+}
+
+// An axis of such a geometry.
+#[derive(Clone, Copy)]
+pub struct CheckedAxis {
+    pub axis: Axis,
+    ghost accepted: { AcceptedAxis axis },
+}
+
+impl CheckedAxis {
+    // At a macroblock that starts at this sample.
+    pub fn at(self, start: EnhancementSample) -> AxisAt
+        requires { start.0 < 65536 }
+        ensures axis { result.axis ≡ self.axis }
+        ensures start { result.start ≡ start }
+    {
+        AxisAt {
+            axis: self.axis,
+            start,
+        }
+    }
+}
+
+// Such an axis, and where a macroblock starts on it: far below what 32 bits hold.
+#[derive(Clone, Copy)]
+pub struct AxisAt {
+    pub axis: Axis,
+    pub start: EnhancementSample,
+    ghost known: { AtSample axis start.0 },
 }
 
 // Refusals 1 to 4, by number first and then by axis.
+#[tactic(auto, unfolding(definitions::specs::Basics::pick, definitions::specs::Refusals::geometry_tests))]
 fn verdict_on(n: Numbers) -> Verdict
     ensures { result ≡ geometry_verdict n }
 {
-    if !bases_right(n) {
-        return refused_by(refusals::BASE_SIZE);
-    }
-    if !fulls_right(n) {
-        return refused_by(refusals::FULL_SIZE);
-    }
-    if !scaleds_right(n) {
-        return refused_by(refusals::SCALED_SIZE);
-    }
-    if !offsets_right(n) {
-        return refused_by(refusals::OFFSET);
-    }
-    Verdict::Accepted
-}
-
-// The verdict of a refusal.
-fn refused_by(number: u32) -> Verdict
-    ensures { result ≡ Verdict.Refused (refusal number) }
-{
-    Verdict::Refused(refused(number))
+    unless(bases_right(n), refusals::BASE_SIZE)?;
+    unless(fulls_right(n), refusals::FULL_SIZE)?;
+    unless(scaleds_right(n), refusals::SCALED_SIZE)?;
+    unless(offsets_right(n), refusals::OFFSET)
 }
 
 // Refusal 1 does not apply.
@@ -148,7 +178,7 @@ fn offset_right(o: i32) -> bool
 
 // The axes of accepted numbers.
 fn axes_of(n: Numbers) -> Axes
-    requires { geometry_verdict n ≡ Verdict.Accepted }
+    requires { geometry_verdict n ≡ Accepted }
     ensures { result ≡ axes_of n }
 {
     Axes {

@@ -37,6 +37,7 @@ fn table() -> [[[u32; 5]; 5]; 2]
 }
 
 // The row with this M and N: there is one.
+#[tactic(auto, using(crate::proofs::Rows::tops))]
 fn row(k: u32, m: EnhancementOffset, n: EnhancementOffset) -> u32
     requires { length (digits_of (even k) m.0 n.0) ≡ 4 }
     ensures { decimals result ≡ digits_of (even k) m.0 n.0 }
@@ -63,6 +64,7 @@ pub fn reads(k: u32, m: EnhancementOffset, n: EnhancementOffset, f: u32) -> [u32
 }
 
 // 1 where a coordinate lies in column (row) f, else 0.
+#[tactic(auto, unfolding(definitions::specs::Basics::pick))]
 fn falls(q: u32, f: u32) -> u32
     ensures { (result ≡ pick (eqb (column_of q) f) 1 0) × (result ≤ 1) }
 {
@@ -70,6 +72,7 @@ fn falls(q: u32, f: u32) -> u32
 }
 
 // How many of the four blocks that read these coordinates fall in column (row) f (document 02, E5).
+#[tactic(auto, unfolding(definitions::specs::Basics::how_many))]
 pub fn falls_in(q: [u32; 4], f: u32) -> u32
     ensures { (result ≡ falls_in q f) × (result ≤ 4) }
 {

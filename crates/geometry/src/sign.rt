@@ -6,11 +6,9 @@ use definitions::EnhancementOffset;
 
 // |d|.
 pub fn magnitude(d: EnhancementOffset) -> u32
-    requires { nat_abs d.0 < 65536 }
     ensures { result ≡ nat_abs d.0 }
 {
-    let x = d.0;
-    if x < 0 { (0 - x) as u32 } else { x as u32 }
+    d.0.unsigned_abs()
 }
 
 // sign(d) · n.

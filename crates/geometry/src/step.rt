@@ -15,39 +15,40 @@ ghost use Rattle.definitions.specs.Accepted.{Inside, Sized};
 ghost use Rattle.definitions.specs.BlockMap.{step_of};
 ghost use Rattle.definitions.specs.Geometry.{base_size, c_of, class_of, d1_of, d2_of, even, f_of, inside_axis, k_of, m_of, n_of, p_of, rounded_of, scaled_size, two_of, z_of};
 ghost use Rattle.definitions.specs.Basics.{minus, pick};
-ghost use Rattle.geometry.specs.Step.{AtSample, RoundedAt};
+ghost use Rattle.geometry.specs.Step.{RoundedAt};
 ghost use Rattle.std.proofs.Math.IntN.{sub_ℕ};
 ghost use Rattle.std.specs.Int.Signed.{lt_z};
 
+use crate::AxisAt;
 use crate::map::{falls_in, reads};
 use crate::sign::{magnitude, with_sign_of};
-use definitions::{Axis, AxisStep, BaseSample, Class, EnhancementOffset, EnhancementSample};
+use definitions::{AxisStep, BaseSample, Class, EnhancementOffset, EnhancementSample};
 
 // 003, 2: the macroblock is fully inside the cropping window. o ≤ P and P + 16 ≤ o + S.
-pub fn is_inside(a: Axis, p: EnhancementSample) -> bool
-    requires { AtSample a p.0 }
-    ensures { result ≡ inside_axis a p.0 }
+#[tactic(auto, unfolding(definitions::specs::Geometry::inside_axis))]
+pub fn is_inside(at: AxisAt) -> bool
+    ensures { result ≡ inside_axis at.axis at.start.0 }
 {
-    let o = a.offset.0;
-    let x = p.0 as i32;
-    (o <= x) & (x + 16 <= o + a.scaled.0 as i32)
+    let o = at.axis.offset.0;
+    let x = at.start.0 as i32;
+    (o <= x) & (x + 16 <= o + at.axis.scaled.0 as i32)
 }
 
 // All that the axis gives for the macroblock at P: steps 1 to 5, then the block map (003, 3.3.2.1, Table 3), and of its four blocks how many fall in the first column (row).
-pub fn axis_step(a: Axis, p: EnhancementSample) -> AxisStep
-    requires { AtSample a p.0 × (inside_axis a p.0 ≡ true) }
-    ensures { result ≡ step_of a p.0 }
+pub fn axis_step(at: AxisAt) -> AxisStep
+    requires { inside_axis at.axis at.start.0 ≡ true }
+    ensures { result ≡ step_of at.axis at.start.0 }
 {
-    let at = centre(a, p); // 1. XP0 + 8, XC and XC >> 3
-    let unrounded = distances(a.base, a.scaled, at); // 2. dX1 and dX2
+    let mid = centre(at); // 1. XP0 + 8, XC and XC >> 3
+    let unrounded = distances(at.axis.base, at.axis.scaled, mid); // 2. dX1 and dX2
     let d = rounded(unrounded); // 3. rounded to fours
-    let chosen = borders_by_parity(at.k, d); // 4. MbBorderX and B8x8BorderX
-    let columns = columns_read(at.k, chosen.border); // 5. XB / 16, one or two
+    let chosen = borders_by_parity(mid.k, d); // 4. MbBorderX and B8x8BorderX
+    let columns = columns_read(mid.k, chosen.border); // 5. XB / 16, one or two
     let border = chosen.border;
     let border8 = chosen.border8;
-    let coordinates = reads(at.k, border, border8, columns.first);
+    let coordinates = reads(mid.k, border, border8, columns.first);
     AxisStep {
-        k: at.k,
+        k: mid.k,
         border,
         border8,
         first: columns.first,
@@ -68,23 +69,22 @@ struct Centred {
 }
 
 // c, Z and k = Z / 8.
-fn centre(a: Axis, p: EnhancementSample) -> Centred
-    requires { AtSample a p.0 × (inside_axis a p.0 ≡ true) }
-    ensures c { result.c.0 ≡ c_of a p.0 }
-    ensures z { result.z.0 ≡ z_of (base_size a) (scaled_size a) (c_of a p.0) }
-    ensures k { result.k ≡ k_of (base_size a) (scaled_size a) (c_of a p.0) }
+fn centre(at: AxisAt) -> Centred
+    requires { inside_axis at.axis at.start.0 ≡ true }
+    ensures c { result.c.0 ≡ c_of at.axis at.start.0 }
+    ensures z { result.z.0 ≡ z_of (base_size at.axis) (scaled_size at.axis) (c_of at.axis at.start.0) }
+    ensures k { result.k ≡ k_of (base_size at.axis) (scaled_size at.axis) (c_of at.axis at.start.0) }
 {
-    let c = high_layer_centre(a, p);
-    let z = base_layer_centre(a.base, a.scaled, c);
+    let c = high_layer_centre(at);
+    let z = base_layer_centre(at.axis.base, at.axis.scaled, c);
     Centred { c, z, k: z.0 / 8 }
 }
 
-// XP0 + 8, with XP0 = XP − scaled_base_X: c = P − o + 8.
-fn high_layer_centre(a: Axis, p: EnhancementSample) -> EnhancementSample
-    requires { AtSample a p.0 × (inside_axis a p.0 ≡ true) }
-    ensures { result.0 ≡ c_of a p.0 }
+// XP0 + 8, with XP0 = XP − scaled_base_X, which is not below 0 inside: c = P − o + 8.
+fn high_layer_centre(at: AxisAt) -> EnhancementSample
+    ensures { result.0 ≡ c_of at.axis at.start.0 }
 {
-    EnhancementSample((p.0 as i32 - a.offset.0) as u32 + 8)
+    EnhancementSample((at.start.0 as i32 - at.axis.offset.0).unsigned_abs() + 8)
 }
 
 // XC = ((XP0 + 8) * BasePicWidth + BasePicWidth / 2) / ScaledBaseWidth: Z = (c·B + B/2) / S.
@@ -162,6 +162,7 @@ struct Borders {
 }
 
 // If (8 * (XC >> 3)) % 16 == 0, which is k even, MbBorderX = dX1 and B8x8BorderX = dX2, otherwise MbBorderX = dX2 and B8x8BorderX = dX1.
+#[tactic(auto, using(crate::proofs::Steps::border, crate::proofs::Steps::border8))]
 fn borders_by_parity(k: u32, d: FromCentre) -> Borders
     ensures border { result.border.0 ≡ pick (even k) d.d1.0 d.d2.0 }
     ensures border8 { result.border8.0 ≡ pick (even k) d.d2.0 d.d1.0 }
@@ -175,6 +176,7 @@ fn borders_by_parity(k: u32, d: FromCentre) -> Borders
 }
 
 // The one where k is even, the other where it is odd.
+#[tactic(auto, unfolding(definitions::specs::Basics::pick))]
 fn by_parity(k: u32, one: EnhancementOffset, other: EnhancementOffset) -> EnhancementOffset
     ensures { result.0 ≡ pick (even k) one.0 other.0 }
 {
@@ -191,8 +193,9 @@ struct Columns {
 
 // 3.2.1: the first is XB / 16. 003 prints XB = XC - (MbBorderX > -8); document 01 reads it with the factor 8 that this lacks: F is k/2 − 1 if k is even and
 // M > −8, else k/2. 3.2.2: | MbBorderX | >= 8, one; otherwise two.
+#[tactic(auto, using(crate::proofs::Steps::first, crate::proofs::Steps::two))]
 fn columns_read(k: u32, m: EnhancementOffset) -> Columns
-    requires { ((even k && lt_z (minus 8) m.0) ≡ true → 2 ≤ k) × (nat_abs m.0 < 65536) }
+    requires { (even k && lt_z (minus 8) m.0) ≡ true → 2 ≤ k }
     ensures first { result.first ≡ pick (even k && lt_z (minus 8) m.0) (k / 2 - 1) (k / 2) }
     ensures two { result.two ≡ not (leb 8 (nat_abs m.0)) }
     ensures f { (b s c : ℕ) → k ≡ k_of b s c → m.0 ≡ m_of b s c → result.first ≡ f_of b s c }
@@ -205,6 +208,7 @@ fn columns_read(k: u32, m: EnhancementOffset) -> Columns
 }
 
 // F, in document 01's words.
+#[tactic(auto, unfolding(definitions::specs::Basics::pick))]
 fn first_column(k: u32, m: EnhancementOffset) -> u32
     requires { (even k && lt_z (minus 8) m.0) ≡ true → 2 ≤ k }
     ensures { result ≡ pick (even k && lt_z (minus 8) m.0) (k / 2 - 1) (k / 2) }
@@ -218,7 +222,6 @@ fn first_column(k: u32, m: EnhancementOffset) -> u32
 
 // |M| ≥ 8: one column (row) is read, otherwise two.
 fn reads_two(m: EnhancementOffset) -> bool
-    requires { nat_abs m.0 < 65536 }
     ensures { result ≡ not (leb 8 (nat_abs m.0)) }
 {
     let one = magnitude(m) >= 8;
@@ -229,9 +232,10 @@ fn reads_two(m: EnhancementOffset) -> bool
 pub fn class_of(columns: bool, rows: bool) -> Class
     ensures { result ≡ class_of columns rows }
 {
-    if !columns {
-        if !rows { Class::Corner } else { Class::Hori }
-    } else {
-        if !rows { Class::Vert } else { Class::Center }
+    match (columns, rows) {
+        (false, false) => Class::Corner,
+        (false, true) => Class::Hori,
+        (true, false) => Class::Vert,
+        (true, true) => Class::Center,
     }
 }

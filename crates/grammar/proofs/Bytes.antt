@@ -4,7 +4,7 @@ use mathlib.Core.Path.{◌≡◌, refl}
 use mathlib.Core.Bool.{Bool, true, false, cond}
 use native.Mathlib.Omega.{arith}
 use lib.Dec.{leb, eqb}
-use borrow.Author.Tests.{leb-true, eqb-true, le-leb, lt-leb, ne_eqb}
+use borrow.Author.Tests.{leb-true, eqb-true, le-leb, lt-leb}
 use Rattle.grammar.specs.declared.ByteClass.{ByteClass}
 use Rattle.grammar.specs.declared.ByteClass.TheVariants.{Alpha, Zero, Nonzero, Dash, Open, Close, Space, Other}
 use Rattle.grammar.specs.Readers.{byte_class_of}
@@ -74,21 +74,3 @@ class-close b h = rw h
 pub class-space : (b : ℕ) → b ≡ 32 → byte_class_of b ≡ Space
 unfolding byte_class_of
 class-space b h = rw h
-
-pub class-high : (b : ℕ) → 122 < b → byte_class_of b ≡ Other
-unfolding byte_class_of
-class-high b h =
-    let n : 97 ≤ b = omega arith in
-    simp (le-leb _ _ n, lt-leb _ _ h)
-
-pub class-mid : (b : ℕ) → 57 < b → b < 97 → byte_class_of b ≡ Other
-unfolding byte_class_of
-class-mid b h k =
-    let n : 49 ≤ b = omega arith in
-    simp (lt-leb _ _ k, le-leb _ _ n, lt-leb _ _ h)
-
-pub class_low : (b : ℕ) → b < 49 → (b ≡ 48 → ⊥) → (b ≡ 45 → ⊥) → (b ≡ 40 → ⊥) → (b ≡ 41 → ⊥) → (b ≡ 32 → ⊥) → byte_class_of b ≡ Other
-unfolding byte_class_of
-class_low b h p q r s t =
-    let n : b < 97 = omega arith in
-    simp (lt-leb _ _ n, lt-leb _ _ h, ne_eqb _ _ p, ne_eqb _ _ q, ne_eqb _ _ r, ne_eqb _ _ s, ne_eqb _ _ t)

@@ -14,8 +14,7 @@ use Rattle.definitions.specs.Text.{none, each, digits, Number, unsigned, text_by
 use Rattle.definitions.specs.Log.{log_for, LogOf}
 use Rattle.definitions.specs.Examples.{whole_case, whole_entries, whole_text, noted_text, whole_log, whole-holds, Broken, broken_texts, PlacesRight}
 use Rattle.definitions.proofs.Choices.{both_true}
-use Rattle.grammar.specs.declared.Num.TheVariants.{Value}
-use Rattle.grammar.specs.declared.Num.TheVariants as num
+use Rattle.std.specs.Prelude.{Ok as Value, Err as Bad}
 use Rattle.grammar.specs.Readers.{byte_class_of, part, Stands, Any, NumAt}
 use Rattle.grammar.proofs.Machine.{Cfg, dead, live, step, step_k, δ, runs, state_at, Alive, Waiting}
 use Rattle.grammar.proofs.Runs.{ends-text-as}
@@ -111,10 +110,10 @@ number123 =
 stands123 : Stands (Any Number) digits123 0 3
 stands123 = record { is = (pos 123, number123); stops = record { up = omega arith; within = omega arith; no-further = λ m b. omega arith } }
 
-pub reads-123 : (z : ℤ) (e : ℕ) → NumAt Number digits123 0 (Value z e) → (z ≡ pos 123) × (e ≡ 3)
+pub reads-123 : (z : ℤ) (e : ℕ) → NumAt Number digits123 0 (Value (z, e)) → (z ≡ pos 123) × (e ≡ 3)
 reads-123 z e h =
     let q : e ≡ 3 = one_end (Any Number) digits123 0 e 3 (record { is = (z, h.0); stops = h.1 }) stands123 in
     (one_number (part digits123 0 3) z (pos 123) (subst (λ (e : ℕ). Number z (part digits123 0 e)) q h.0) number123, q)
 
-pub no-break-123 : (p : ℕ) → NumAt Number digits123 0 (num.Bad p) → ⊥
+pub no-break-123 : (p : ℕ) → NumAt Number digits123 0 (Bad p) → ⊥
 no-break-123 p h = read-or-bad (Any Number) digits123 0 3 p stands123 h

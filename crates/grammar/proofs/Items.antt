@@ -11,10 +11,8 @@ use lib.Seq.{drop-cons}
 use Rattle.definitions.specs.Text.{Letter, All, none, Word, word, Number, Rest, close, item, Listed, listed, Simple, is_word, is_number, Item, Note, note}
 use Rattle.grammar.specs.declared.ByteClass.{ByteClass}
 use Rattle.grammar.specs.declared.ByteClass.TheVariants.{Alpha, Zero, Nonzero, Dash, Open, Close, Space}
-use Rattle.grammar.specs.declared.Num.TheVariants.{Value}
-use Rattle.grammar.specs.declared.Num.TheVariants as num
-use Rattle.grammar.specs.declared.Got.{Got}
-use Rattle.grammar.specs.declared.Got.TheVariants.{Bad}
+use Rattle.std.specs.Prelude.{Err as Bad, Ok as Value}
+use Rattle.grammar.specs.Found.{Got}
 use Rattle.grammar.specs.Readers.{byte_class_of, part, Begins, Stands, Breaks, ReadAt, Any, NumAt, Items, NoteTail, Exactly}
 use Rattle.grammar.proofs.Machine.{lit, rest}
 use Rattle.grammar.proofs.Cats.{Cat, no-cons}
@@ -145,11 +143,11 @@ module _ (s : List ℕ) (i d : ℕ) (l : i < length s) where
       to_number : (u : List ℕ) → Item d (get_or s i 0 ∷ u) → Any Number (get_or s i 0 ∷ u)
       to_number u h = let n = numeric k in item-cons (get_or s i 0) u (λ q r. absurd (omega arith)) (λ q. q) d h (λ q. absurd (omega arith))
 
-      pub item-number : (z : ℤ) (e : ℕ) → NumAt Number s i (Value z e) → Stands (Item d) s i e
+      pub item-number : (z : ℤ) (e : ℕ) → NumAt Number s i (Value (z, e)) → Stands (Item d) s i e
       item-number z e h =
           stands-as-here (Any Number) (Item d) s i l of_number to_number (λ x. number-none x.1) (item-none d) (item-some d) e (record { is = (z, h.0); stops = h.1 })
 
-      pub item-no-number : (p : ℕ) → NumAt Number s i (num.Bad p) → Breaks (Item d) s i p
+      pub item-no-number : (p : ℕ) → NumAt Number s i (Bad p) → Breaks (Item d) s i p
       item-no-number p h = breaks-as-here (Any Number) (Item d) s i l of_number to_number (λ x. number-none x.1) (item-none d) (item-some d) p h
 
     pub item-list : c ≡ Open → (d ≡ 0 → ⊥) → (r : Got) → ReadAt (Items (d - 1)) s (i + 1) r → ReadAt (Item d) s i r

@@ -11,11 +11,8 @@ use Rattle.definitions.specs.Basics.{minus}
 use Rattle.definitions.specs.Text.{Digit, All, none, each, valued, Plain, digits, Number, unsigned, negative, nothing, is_spaced, is_ended}
 use Rattle.grammar.specs.declared.ByteClass.{ByteClass}
 use Rattle.grammar.specs.declared.ByteClass.TheVariants.{Zero, Nonzero, Dash}
-use Rattle.grammar.specs.declared.Num.{Num}
-use Rattle.grammar.specs.declared.Num.TheVariants.{Value}
-use Rattle.grammar.specs.declared.Num.TheVariants as num
-use Rattle.grammar.specs.declared.Got.{Got}
-use Rattle.grammar.specs.declared.Got.TheVariants.{At}
+use Rattle.grammar.specs.Found.{Num, Got}
+use Rattle.std.specs.Prelude.{Ok as At, Ok as Value, Err as Bad}
 use Rattle.grammar.specs.Readers.{byte_class_of, part, Stops, Stands, Breaks, ReadAt, Any, DigitsAt, NumAt, AfterMinus, FieldOf, Exactly}
 use Rattle.grammar.proofs.Cats.{Cat, no-cons}
 use Rattle.grammar.proofs.Bytes.{class-in, class-zero, class-nonzero, class-dash}
@@ -135,7 +132,7 @@ digits-plain : (s : List ℕ) (i b top n e : ℕ) → 49 ≤ b → b ≤ 57 → 
 digits-plain s i b top n e l m h = subst (λ (n : ℕ). Plain n (b ∷ part s i e)) (sym h.worth) (digits l m h.all)
 
 module _ (s : List ℕ) (i : ℕ) (l : i < length s) where
-  pub number-zero : get_or s i 0 ≡ 48 → NumAt Number s i (Value (pos 0) (i + 1))
+  pub number-zero : get_or s i 0 ≡ 48 → NumAt Number s i (Value (pos 0, i + 1))
   number-zero b = (
     subst (Number (pos 0)) (sym (part-first s i (i + 1) (omega arith) l ∙ (cc (b, part_none s (i + 1) (i + 1) (omega arith))))) zero_number,
     stops-after (Any Number) s i l (i + 1)
@@ -149,7 +146,7 @@ module _ (s : List ℕ) (i : ℕ) (l : i < length s) where
   )
 
   module _ (low : 49 ≤ get_or s i 0) (high : get_or s i 0 ≤ 57) where
-    pub number_digits : (n e : ℕ) → DigitsAt s (i + 1) (get_or s i 0 - 48) 32767 n e → NumAt Number s i (Value (pos n) e)
+    pub number_digits : (n e : ℕ) → DigitsAt s (i + 1) (get_or s i 0 - 48) 32767 n e → NumAt Number s i (Value (pos n, e))
     number_digits n e h =
         let u : i + 1 ≤ e = h.up in (
           subst (Number (pos n)) (sym (part-first s i e (omega arith) l)) (unsigned h.most (digits-plain s (i + 1) (get_or s i 0) 32767 n e low high h)),
@@ -162,7 +159,7 @@ module _ (s : List ℕ) (i : ℕ) (l : i < length s) where
               }),
         )
 
-    pub minus-digits : (n e : ℕ) → DigitsAt s (i + 1) (get_or s i 0 - 48) 32768 n e → NumAt AfterMinus s i (Value (minus n) e)
+    pub minus-digits : (n e : ℕ) → DigitsAt s (i + 1) (get_or s i 0 - 48) 32768 n e → NumAt AfterMinus s i (Value (minus n, e))
     minus-digits n e h =
         let u : i + 1 ≤ e = h.up in
         let v = valued-grows (get_or s i 0 - 48) (part s (i + 1) e) in
@@ -177,12 +174,12 @@ module _ (s : List ℕ) (i : ℕ) (l : i < length s) where
         )
 
   pub number-minus : get_or s i 0 ≡ 45 → (r : Num) → NumAt AfterMinus s (i + 1) r → NumAt Number s i r
-  number-minus b (Value z e) h =
+  number-minus b (Value (z, e)) h =
       let u : i + 1 ≤ e = h.1.up in (
         subst (Number z) (sym (part-first s i e (omega arith) l ∙ ap (λ (x : ℕ). x ∷ part s (i + 1) e) b)) h.0,
         stops-after (Any Number) s i l e (subst (λ (x : ℕ). Stops (λ w. Any Number (x ∷ w)) s (i + 1) e) (sym b) h.1),
       )
-  number-minus b (num.Bad p) h =
+  number-minus b (Bad p) h =
       breaks-after (Any Number) s i l (λ x. number-none x.1) p (subst (λ (x : ℕ). Breaks (λ w. Any Number (x ∷ w)) s (i + 1) p) (sym b) h)
 
 number-class : {z : ℤ} {b : ℕ} {u : List ℕ} → Number z (b ∷ u) → (C : ByteClass → Type 0) → C Zero → C Nonzero → C Dash → C (byte_class_of b)
@@ -266,21 +263,21 @@ number-separate last =
     }
 
 module _ (s : List ℕ) (i : ℕ) (last : Bool) where
-  pub field-bad : (p : ℕ) → Breaks (Any Number) s i p → NumAt (FieldOf last) s i (num.Bad p)
+  pub field-bad : (p : ℕ) → Breaks (Any Number) s i p → NumAt (FieldOf last) s i (Bad p)
   field-bad p h =
       breaks-as (Closed last) (Any (FieldOf last)) s i (closed-field last) (field-closed last) p
       (breaks-first (Any Number) (Exactly (closer last ∷ [])) s i (record { rest = closer last ∷ []; is = refl }) p h)
 
-  module _ (z : ℤ) (e : ℕ) (h : NumAt Number s i (Value z e)) where
+  module _ (z : ℤ) (e : ℕ) (h : NumAt Number s i (Value (z, e))) where
     stands : Stands (Any Number) s i e
     stands = record { is = (z, h.0); stops = h.1 }
 
-    pub field_open : (e < length s → get_or s e 0 ≡ closer last → ⊥) → NumAt (FieldOf last) s i (num.Bad e)
+    pub field_open : (e < length s → get_or s e 0 ≡ closer last → ⊥) → NumAt (FieldOf last) s i (Bad e)
     field_open n =
         breaks-as (Closed last) (Any (FieldOf last)) s i (closed-field last) (field-closed last) e
         (then-breaks (Any Number) (Exactly (closer last ∷ [])) s i (number-separate last) e stands e (exactly-bad s e (closer last) [] h.1.within n))
 
-    pub field-read : e < length s → get_or s e 0 ≡ closer last → NumAt (FieldOf last) s i (Value z (e + 1))
+    pub field-read : e < length s → get_or s e 0 ≡ closer last → NumAt (FieldOf last) s i (Value (z, e + 1))
     field-read l b =
         let m : e + 1 ≤ length s = omega arith in
         let k = then-stands (Any Number) (Exactly (closer last ∷ [])) s i (number-separate last) e stands (e + 1) (exactly-more s e (closer last) [] l b (At (e + 1)) (exactly-none s (e + 1) m)) in (

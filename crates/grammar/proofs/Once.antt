@@ -8,8 +8,8 @@ use lib.ListN.{length, drop, length-append}
 use Rattle.definitions.specs.declared.Numbers.{Numbers}
 use Rattle.definitions.specs.declared.Refusal.{Refusal}
 use Rattle.definitions.specs.declared.TextRead.{TextRead}
-use Rattle.definitions.specs.declared.TextReply.{TextReply}
-use Rattle.definitions.specs.declared.TextReply.TheVariants.{NoPicture, Read, Refused}
+use Rattle.definitions.specs.Replies.{TextReply, NoPicture, Read}
+use Rattle.std.specs.Prelude.{Err as Refused}
 use Rattle.definitions.specs.Record.{record_words}
 use Rattle.definitions.specs.Text.{Kind, Entry, Heads, head, is_byte, Text, Belongs, base_of, Reading, empty, not_read, read_as, Reads, no_bytes, too_long, broken, too_many, read, TextAnswer, wrong_words, no_picture, refused, given, BelongsAs, Demand2Text}
 use Rattle.definitions.proofs.Texts.{one_place}
@@ -121,7 +121,7 @@ empty-as (no_picture e x) h = had x
 empty-as (refused e x) h = absurd (let z : ◌≡◌ {A = ℕ} 0 1 = cc in omega arith)
 empty-as (given e x) h = absurd (let z : ◌≡◌ {A = ℕ} 0 1 = cc in omega arith)
 
-same-refusal : {r s : Refusal} → Refused r ≡ Refused s → r ≡ s
+same-refusal : {r s : Refusal} → ◌≡◌ {A = TextReply} (Refused r) (Refused s) → r ≡ s
 same-refusal e = cc
 
 nine-as : {t : List ℕ} {words new : List ℤ} {reply : TextReply} {r : Refusal} → TextAnswer t words reply new → reply ≡ Refused r → r.number ≡ 9 → 0 < length t

@@ -10,11 +10,9 @@ use lib.ListN.{length, get_or, take, set}
 use lib.Seq.{sets, take-suc-set}
 use Rattle.definitions.specs.Text.{Part, byte, spaced, ended, Form, nothing, is_byte, is_spaced, is_ended, bytes_then, numbers_then, letter, tail_of, LineOf, RecordKind, intra, whole, mb, kind_of, words_for, words_of}
 use Rattle.definitions.proofs.Parts.{stored-all, sets-append}
-use Rattle.grammar.specs.declared.Got.{Got}
-use Rattle.grammar.specs.declared.Got.TheVariants.{At, Bad}
-use Rattle.grammar.specs.declared.Num.TheVariants.{Value}
-use Rattle.grammar.specs.declared.Num.TheVariants as num
-use Rattle.grammar.specs.Readers.{part, Begins, Stops, Stands, Breaks, ReadAt, Any, NumAt, field_part, FieldOf, Exactly, Stored, StoresAt, as_read, Fields, TailOf, EntryTail, InText, ThenReads, ThenStores, WordAfter, NumbersAfter}
+use Rattle.grammar.specs.Found.{Got}
+use Rattle.std.specs.Prelude.{Ok as At, Err as Bad, Ok as Value}
+use Rattle.grammar.specs.Readers.{part, Begins, Stops, Stands, Breaks, ReadAt, Any, NumAt, field_part, FieldOf, Exactly, Stored, StoresAt, as_read, Fields, FieldsAfter, TailOf, EntryTail}
 use Rattle.grammar.proofs.Cats.{Cat, no-cons}
 use Rattle.grammar.proofs.Runs.{fields_in, form-count}
 use Rattle.grammar.proofs.Pieces.{part_none, part_join, part-first}
@@ -110,10 +108,10 @@ pattern-field true w (vs, is_ended {z = z} n nothing) = (z, is_ended n nothing)
 pattern-field false w (vs, is_spaced {z = z} n nothing) = (z, is_spaced n nothing)
 
 module _ (last : Bool) (s : List ℕ) (i : ℕ) where
-  pub field-breaks : (p : ℕ) → NumAt (FieldOf last) s i (num.Bad p) → Breaks (Pattern (field_part last ∷ [])) s i p
+  pub field-breaks : (p : ℕ) → NumAt (FieldOf last) s i (Bad p) → Breaks (Pattern (field_part last ∷ [])) s i p
   field-breaks p h = breaks-as (Any (FieldOf last)) (Pattern (field_part last ∷ [])) s i (field-pattern last) (pattern-field last) p h
 
-  pub field-stands : (z : ℤ) (e : ℕ) → NumAt (FieldOf last) s i (Value z e) → Stands (Pattern (field_part last ∷ [])) s i e
+  pub field-stands : (z : ℤ) (e : ℕ) → NumAt (FieldOf last) s i (Value (z, e)) → Stands (Pattern (field_part last ∷ [])) s i e
   field-stands z e h =
       record { is = (z ∷ [], h.0); stops = stops_as (Any (FieldOf last)) (Pattern (field_part last ∷ [])) s i (field-pattern last) (pattern-field last) e h.1 }
 
@@ -126,90 +124,77 @@ behind old from n mid xs new ys many first e =
     e ∙ ap (λ (m : List ℤ). sets m (from + n) ys) first ∙ ap (λ (j : ℕ). sets (sets old from xs) (from + j) ys) (sym many)
     ∙ sym (sets-append old from xs ys)
 
-abbrev pub ChainTo : List Part → List ℕ → ℕ → List ℤ → ℕ → List ℤ → Got → Type 0
-ChainTo ps s i old from new (At e) = Stored (Form ps) as_read s i old from new e
-ChainTo ps s i old from new (Bad p) = Breaks (Pattern ps) s i p
-
--- as a record, so that laws find its arguments
-pub record Chain (ps : List Part) (s : List ℕ) (i : ℕ) (old : List ℤ) (from : ℕ) (new : List ℤ) (r : Got) : Type 0 where
-  pub is : ChainTo ps s i old from new r
-
 pub stored-stands : {ps : List Part} {s : List ℕ} {i : ℕ} {old : List ℤ} {from : ℕ} {new : List ℤ} {e : ℕ} → Stored (Form ps) as_read s i old from new e → Stands (Pattern ps) s i e
 stored-stands h = record { is = (h.value, h.is); stops = h.stops }
 
 nothing-stands : (s : List ℕ) (i : ℕ) → i ≤ length s → Stands (Pattern []) s i i
 nothing-stands s i l = word-pattern [] s i (At i) (exactly-none s i l)
 
-pub chain_first : (s : List ℕ) (i : ℕ) (old : List ℤ) (from : ℕ) → i ≤ length s → Chain [] s i old from old (At i)
+pub chain_first : (s : List ℕ) (i : ℕ) (old : List ℤ) (from : ℕ) → i ≤ length s → Stored (Form []) as_read s i old from old i
 chain_first s i old from l =
     let h = nothing-stands s i l in
-    record { is = record { value = []; is = subst (Form [] []) (sym (part_none s i i (omega arith))) nothing; stops = h.stops; stored = refl } }
+    record { value = []; is = subst (Form [] []) (sym (part_none s i i (omega arith))) nothing; stops = h.stops; stored = refl }
 
-module _ (ps : List Part) (s : List ℕ) (i : ℕ) (old : List ℤ) (from : ℕ) where
-  word_next :
-      (w : List ℕ) (new : List ℤ) (r q : Got) → ChainTo ps s i old from new r → ThenReads (Exactly w) s r q → ChainTo (ps ++ bytes_then w []) s i old from new q
-  word_next w new (At a) (At e) v t =
-      let k = word-pattern w s a (At e) t in
+-- bytes, or numbers, after what is read; ps is all that is read, and rest what the line has after it
+module _ {ps : List Part} {s : List ℕ} {i : ℕ} {old : List ℤ} {from : ℕ} {mid : List ℤ} {a : ℕ} (v : Stored (Form ps) as_read s i old from mid a) where
+  pub chain-word : {w : List ℕ} {e : ℕ} → Stands (Exactly w) s a e → Stored (Form (ps ++ bytes_then w [])) as_read s i old from mid e
+  chain-word {w} {e} t =
       record {
         value = v.value;
         is = subst (λ (vs : List ℤ). Form (ps ++ bytes_then w []) vs (part s i e)) (append-nil v.value) (form-values ps (bytes_then w []) s i a e v.value [] v.stops.up t.stops.up v.is (subst (Form (bytes_then w []) []) (sym t.is) (bytes-form w)));
-        stops = form-then-stops ps (bytes_then w []) s i a (stored-stands v) e k;
+        stops = form-then-stops ps (bytes_then w []) s i a (stored-stands v) e (word-pattern w s a (At e) t);
         stored = v.stored;
       }
-  word_next w new (At a) (Bad p) v t = form-then ps (bytes_then w []) s i a (stored-stands v) (Bad p) (word-pattern w s a (Bad p) t)
-  word_next w new (Bad p) q v t = subst (λ (q : Got). ChainTo (ps ++ bytes_then w []) s i old from new q) (sym t) (form-bad ps (bytes_then w []) s i p v)
 
-  numbers-next :
-      (qs : List Part) (mid new : List ℤ) (r q : Got) → ChainTo ps s i old from mid r → ThenStores (Form qs) as_read s r mid (from + fields_in ps) new q
-      → ChainTo (ps ++ qs) s i old from new q
-  numbers-next qs mid new (At a) (At e) v t =
+  pub chain-numbers :
+      {qs : List Part} {next : ℕ} {new : List ℤ} {e : ℕ} → Stored (Form qs) as_read s a mid next new e → next ≡ from + fields_in ps
+      → Stored (Form (ps ++ qs)) as_read s i old from new e
+  chain-numbers {qs} {next} {new} {e} t place =
       record {
         value = v.value ++ t.value;
         is = form-values ps qs s i a e v.value t.value v.stops.up t.stops.up v.is t.is;
         stops = form-then-stops ps qs s i a (stored-stands v) e (stored-stands t);
-        stored = behind old from (fields_in ps) mid v.value new t.value (form-count v.is) v.stored t.stored;
+        stored = behind old from (fields_in ps) mid v.value new t.value (form-count v.is) v.stored (t.stored ∙ ap (λ (k : ℕ). sets mid k t.value) place);
       }
-  numbers-next qs mid new (At a) (Bad p) v t = form-then ps qs s i a (stored-stands v) (Bad p) t.1
-  numbers-next qs mid new (Bad p) q v t = subst (λ (q : Got). ChainTo (ps ++ qs) s i old from new q) (sym t.0) (form-bad ps qs s i p v)
 
-pub chain-word :
-    {ps : List Part} {s : List ℕ} {i : ℕ} {old : List ℤ} {from : ℕ} {new : List ℤ} {w : List ℕ} {r q : Got} → Chain ps s i old from new r → WordAfter w s r q
-    → Chain (ps ++ bytes_then w []) s i old from new q
-chain-word {ps} {s} {i} {old} {from} {new} {w} {r} {q} v t = record { is = word_next ps s i old from w new r q v.is t.is }
+  pub chain-bad : (qs rest : List Part) {p : ℕ} → Breaks (Pattern qs) s a p → Breaks (Pattern ((ps ++ qs) ++ rest)) s i p
+  chain-bad qs rest {p} t = form-bad (ps ++ qs) rest s i p (form-then ps qs s i a (stored-stands v) (Bad p) t)
 
-pub chain-numbers :
-    {ps : List Part} (qs : List Part) {s : List ℕ} {i : ℕ} {old : List ℤ} {from next : ℕ} {mid new : List ℤ} {r q : Got} → Chain ps s i old from mid r
-    → NumbersAfter (Form qs) s r mid next new q → next ≡ from + fields_in ps → Chain (ps ++ qs) s i old from new q
-chain-numbers {ps} qs {s} {i} {old} {from} {next} {mid} {new} {r} {q} v t e =
-    record { is = numbers-next ps s i old from qs mid new r q v.is (subst (λ (x : ℕ). ThenStores (Form qs) as_read s r mid x new q) e t.is) }
+  pub chain-word-bad : (w : List ℕ) (rest : List Part) {p : ℕ} → Breaks (Exactly w) s a p → Breaks (Pattern ((ps ++ bytes_then w []) ++ rest)) s i p
+  chain-word-bad w rest {p} t = chain-bad (bytes_then w []) rest (word-pattern w s a (Bad p) t)
 
--- ---- a reader after r
-read-inside : (P : List ℕ → Type 0) (s : List ℕ) (a : ℕ) (q : Got) → ReadAt P s a q → InText s q
-read-inside P s a (At e) h = h.stops.within
-read-inside P s a (Bad p) h = tt
+-- ---- the bytes of w, and what comes after them
+pub bytes-then : (w : List ℕ) (ps : List Part) → bytes_then w [] ++ ps ≡ bytes_then w ps
+bytes-then [] ps = refl
+bytes-then (c ∷ w) ps = ap (λ (qs : List Part). byte c ∷ qs) (bytes-then w ps)
 
-stores-inside : (P : List ℤ → List ℕ → Type 0) (s : List ℕ) (a : ℕ) (old : List ℤ) (from : ℕ) (new : List ℤ) (q : Got) → StoresAt P as_read s a old from new q → InText s q
-stores-inside P s a old from new (At e) h = h.stops.within
-stores-inside P s a old from new (Bad p) h = tt
+module _ (w : List ℕ) (n : ℕ) (s : List ℕ) (i : ℕ) (old : List ℤ) (from : ℕ) where
+  pub fields-no-word : (p : ℕ) → Breaks (Exactly w) s i p → StoresAt (FieldsAfter w n) as_read s i old from old (Bad p)
+  fields-no-word p h =
+      let k = form-bad (bytes_then w []) (numbers_then n []) s i p (word-pattern w s i (Bad p) h) in
+      (refl, subst (λ (ps : List Part). Breaks (Pattern ps) s i p) (bytes-then w (numbers_then n [])) k)
 
-pub after-word : (s w : List ℕ) (r q : Got) (a : ℕ) → r ≡ At a → ReadAt (Exactly w) s a q → WordAfter w s r q
-after-word s w r q a e h = record { inside = read-inside (Exactly w) s a q h; is = rw e h }
-
-pub after-word-bad : (s w : List ℕ) (r : Got) (p : ℕ) → r ≡ Bad p → WordAfter w s r (Bad p)
-after-word-bad s w r p e = record { inside = tt; is = rw e refl }
-
-module _ (P : List ℤ → List ℕ → Type 0) (s : List ℕ) (r : Got) (old : List ℤ) (from : ℕ) where
-  pub after-numbers : (new : List ℤ) (q : Got) (a : ℕ) → r ≡ At a → StoresAt P as_read s a old from new q → NumbersAfter P s r old from new q
-  after-numbers new q a e h = record { inside = stores-inside P s a old from new q h; is = rw e h }
-
-  pub after-numbers-bad : (p : ℕ) → r ≡ Bad p → NumbersAfter P s r old from old (Bad p)
-  after-numbers-bad p e = record { inside = tt; is = rw e (refl, refl) }
+  pub fields-after :
+      (a : ℕ) → Stands (Exactly w) s i a → (new : List ℤ) (r : Got) → StoresAt (Fields n) as_read s a old from new r
+      → StoresAt (FieldsAfter w n) as_read s i old from new r
+  fields-after a h new (At e) t =
+      let u = form-values (bytes_then w []) (numbers_then n []) s i a e [] t.value h.stops.up t.stops.up (subst (Form (bytes_then w []) []) (sym h.is) (bytes-form w)) t.is in
+      let k = form-then-stops (bytes_then w []) (numbers_then n []) s i a (word-pattern w s i (At a) h) e (stored-stands t) in
+      record {
+        value = t.value;
+        is = subst (λ (ps : List Part). Form ps t.value (part s i e)) (bytes-then w (numbers_then n [])) u;
+        stops = subst (λ (ps : List Part). Stops (Pattern ps) s i e) (bytes-then w (numbers_then n [])) k;
+        stored = t.stored;
+      }
+  fields-after a h new (Bad p) t =
+      let k = form-then (bytes_then w []) (numbers_then n []) s i a (word-pattern w s i (At a) h) (Bad p) t.1 in
+      (t.0, subst (λ (ps : List Part). Breaks (Pattern ps) s i p) (bytes-then w (numbers_then n [])) k)
 
 -- one number and a space
 pub one-stored :
-    (s : List ℕ) (i : ℕ) (old : List ℤ) (from : ℕ) (z : ℤ) (e : ℕ) → NumAt (FieldOf false) s i (Value z e)
-    → StoresAt (Form (spaced ∷ [])) as_read s i old from (set old from z) (At e)
-one-stored s i old from z e f = record { value = z ∷ []; is = f.0; stops = (field-stands false s i z e f).stops; stored = refl }
+    {s : List ℕ} {i : ℕ} {old : List ℤ} {from : ℕ} {new : List ℤ} {z : ℤ} {e : ℕ} → NumAt (FieldOf false) s i (Value (z, e)) → new ≡ set old from z
+    → Stored (Form (spaced ∷ [])) as_read s i old from new e
+one-stored {s = s} {i = i} {z = z} {e = e} f w = record { value = z ∷ []; is = f.0; stops = (field-stands false s i z e f).stops; stored = w }
 
 -- ---- n + 1 numbers and a closing bracket, of which i are read and stand in words of the reader's own
 abbrev spaces : ℕ → List Part
@@ -243,7 +228,7 @@ module _ (s : List ℕ) (at n : ℕ) (own : List ℤ) (p i : ℕ) (h : Storing s
   grown : i < length own → (z : ℤ) → take i own ++ (z ∷ []) ≡ take (i + 1) (set own i z)
   grown l z = sym (ap (λ (j : ℕ). take j (set own i z)) (add-one i) ∙ take-suc-set own i z l)
 
-  pub storing-more : i < n → i < length own → (z : ℤ) (e : ℕ) → NumAt (FieldOf false) s p (Value z e) → Storing s at n (set own i z) e (i + 1)
+  pub storing-more : i < n → i < length own → (z : ℤ) (e : ℕ) → NumAt (FieldOf false) s p (Value (z, e)) → Storing s at n (set own i z) e (i + 1)
   storing-more q l z e f =
       let k = field-stands false s p z e f in
       record {
@@ -259,7 +244,7 @@ module _ (s : List ℕ) (at n : ℕ) (own : List ℤ) (p i : ℕ) (h : Storing s
       subst (λ (ps : List Part). ReadAt (Pattern ps) s at r) (sym (ap (λ (j : ℕ). numbers_then j []) (sym e) ∙ numbers-split i m))
       (form-then (spaces i) (numbers_then m []) s at p so_far r k)
 
-  pub storing-stuck : i < n → (out : List ℤ) (from e : ℕ) → NumAt (FieldOf false) s p (num.Bad e) → StoresAt (Fields n) as_read s at out from out (Bad e)
+  pub storing-stuck : i < n → (out : List ℤ) (from e : ℕ) → NumAt (FieldOf false) s p (Bad e) → StoresAt (Fields n) as_read s at out from out (Bad e)
   storing-stuck q out from e f =
       (refl, all-numbers (Bad e) (suc (n - (i + 1))) (omega arith) (form-bad (spaced ∷ []) (numbers_then (n - (i + 1)) []) s p e (field-breaks false s p e f)))
 
@@ -267,11 +252,11 @@ module _ (s : List ℕ) (at n : ℕ) (own : List ℤ) (p i : ℕ) (h : Storing s
     last : i ≡ n
     last = let m = h.most in omega arith
 
-    pub storing-cut : (out : List ℤ) (from e : ℕ) → NumAt (FieldOf true) s p (num.Bad e) → StoresAt (Fields n) as_read s at out from out (Bad e)
+    pub storing-cut : (out : List ℤ) (from e : ℕ) → NumAt (FieldOf true) s p (Bad e) → StoresAt (Fields n) as_read s at out from out (Bad e)
     storing-cut out from e f = (refl, all-numbers (Bad e) 0 (let m = last in omega arith) (field-breaks true s p e f))
 
     pub storing-done :
-        n < length own → (z : ℤ) (e : ℕ) → NumAt (FieldOf true) s p (Value z e) → (out : List ℤ) (from : ℕ) (new : List ℤ)
+        n < length own → (z : ℤ) (e : ℕ) → NumAt (FieldOf true) s p (Value (z, e)) → (out : List ℤ) (from : ℕ) (new : List ℤ)
         → new ≡ sets out from (take (n + 1) (set own n z)) → StoresAt (Fields n) as_read s at out from new (At e)
     storing-done l z e f out from new w =
         let m : i ≡ n = last in

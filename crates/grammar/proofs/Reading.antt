@@ -6,11 +6,16 @@ use mathlib.Core.List.{List, [], ◌∷◌, ◌++◌, append_assoc, append-nil, 
 use native.Mathlib.Omega.{arith}
 use native.Mathlib.Nat.{eq-or-lt_of_le}
 use lib.ListN.{length, get_or, drop}
-use Rattle.grammar.specs.declared.Got.{Got}
-use Rattle.grammar.specs.declared.Got.TheVariants.{At, Bad}
+use Rattle.grammar.specs.Found.{Got}
+use Rattle.std.specs.Prelude.{Result, Ok as At, Err as Bad, IsErrAnd}
+use Rattle.std.proofs.lemmas.Result.{err_from_is_err_and}
 use Rattle.grammar.specs.Readers.{part, Begins, Stops, Stands, Breaks, ReadAt}
 use Rattle.grammar.proofs.Cats.{Cat}
 use Rattle.grammar.proofs.Pieces.{lt-or-le, Compared, same, longer, shorter, compare, part_none, part_join, part-first, part-next, begin-part, part-begin, part-rest, part-past, drop-first}
+
+-- what is handed on by `?`: the error of the call
+pub handed_on : {T E : Type 0} {r : Result T E} {p : E} → IsErrAnd r (λ (q : E). q ≡ p) → r ≡ Bad p
+handed_on {r = r} h = let k = err_from_is_err_and r h in k.1 ∙ ap Bad k.2
 
 abbrev pub Bytes : Type 1
 Bytes = List ℕ → Type 0

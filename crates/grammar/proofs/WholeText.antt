@@ -12,9 +12,9 @@ use Rattle.definitions.specs.Record.{record_words}
 use Rattle.definitions.specs.Text.{Note, note, Notes, none, more, Part, byte, Form, is_byte, bytes_then, numbers_then, Kind, base_line, scaled_line, at_line, full_line, letter, tail_of, LineOf, Heads, no_head, head, RecordKind, intra, whole, mb, kind_of, Entry, Records, no_record, a_note, a_record, head_numbers, Belongs, BreaksAt, words_of, base_of, text_records}
 use Rattle.definitions.proofs.Parts.{stored-all, sets-append}
 use Rattle.definitions.proofs.RecordLists.{joined-each}
-use Rattle.grammar.specs.declared.Got.{Got}
-use Rattle.grammar.specs.declared.Got.TheVariants.{At, Bad}
-use Rattle.grammar.specs.Readers.{part, Begins, Stops, Stands, Breaks, Any, NoteTail, Stored, StoresAt, as_read, TailOf, EntryTail, HeadTail, HeadLine, head_line, NoNote, ThenStores, NumbersAfter, BreaksToEnd, LinesRead, TextIs}
+use Rattle.grammar.specs.Found.{Got}
+use Rattle.std.specs.Prelude.{Ok as At, Err as Bad}
+use Rattle.grammar.specs.Readers.{part, Begins, Stops, Stands, Breaks, Any, NoteTail, Stored, StoresAt, as_read, TailOf, EntryTail, HeadTail, HeadLine, head_line, NoNote, FieldsAfter, Exactly, BreaksToEnd, LinesRead, TextIs}
 use Rattle.grammar.proofs.Machine.{nums}
 use Rattle.grammar.proofs.Cats.{Cat, no-cons}
 use Rattle.grammar.proofs.Residue.{Seq}
@@ -24,7 +24,7 @@ use Rattle.grammar.proofs.Pieces.{lt-or-le, part_none, part_join, part-first, pa
 use Rattle.grammar.proofs.Reading.{bad-here, stops-after, breaks-after, stops-as-here, breaks-as-here, stops_as, breaks-as, Separate, breaks-first, cut-here, then-stops, then-stands, then-breaks}
 use Rattle.grammar.proofs.Alone.{End, alone, form-alone}
 use Rattle.grammar.proofs.Items.{note-tail-alone}
-use Rattle.grammar.proofs.Patterns.{form-some, Chain, entry-cons, entry-none, same_kind}
+use Rattle.grammar.proofs.Patterns.{Pattern, form-some, form-bad, bytes-then, chain-word, chain-word-bad, entry-cons, entry-none, same_kind}
 
 -- ---- notes, by their first two bytes
 note-separate : (Q : List ℕ → Type 0) → Separate NoteTail Q
@@ -201,22 +201,26 @@ module _ (w : List ℕ) (s : List ℕ) (p : ℕ) where
             (breaks-first NoteTail (Any (HeadLine w)) s (p + 1 + 1) (head-some w) q h))))
 
 -- the line's two numbers, read into words of the reader's own
-bytes-then : (w : List ℕ) (ps : List Part) → bytes_then w [] ++ ps ≡ bytes_then w ps
-bytes-then [] ps = refl
-bytes-then (c ∷ w) ps = ap (λ (qs : List Part). byte c ∷ qs) (bytes-then w ps)
-
 pub fields-bytes : (w : List ℕ) (ps : List Part) → fields_in (bytes_then w ps) ≡ fields_in ps
 fields-bytes [] ps = refl
 fields-bytes (c ∷ w) ps = fields-bytes w ps
 
-pub no_fields : (w : List ℕ) → 0 ≡ 0 + fields_in (bytes_then w [])
-no_fields w = let e = fields-bytes w [] in omega arith
+head-parts : (w : List ℕ) → bytes_then w (numbers_then 1 []) ++ (byte 10 ∷ []) ≡ bytes_then w (numbers_then 1 (byte 10 ∷ []))
+head-parts w =
+    sym (ap (λ (ps : List Part). ps ++ (byte 10 ∷ [])) (bytes-then w (numbers_then 1 [])))
+    ∙ append_assoc (bytes_then w []) (numbers_then 1 []) (byte 10 ∷ []) ∙ bytes-then w (numbers_then 1 (byte 10 ∷ []))
 
-pub head-tail-chain :
-    (w : List ℕ) {s : List ℕ} {i : ℕ} {old : List ℤ} {from : ℕ} {new : List ℤ} {r : Got} → Chain ((bytes_then w [] ++ numbers_then 1 []) ++ (byte 10 ∷ [])) s i old from new r
-    → Chain (bytes_then w (numbers_then 1 (byte 10 ∷ []))) s i old from new r
-head-tail-chain w {s} {i} {old} {from} {new} {r} h =
-    subst (λ (ps : List Part). Chain ps s i old from new r) (append_assoc (bytes_then w []) (numbers_then 1 []) (byte 10 ∷ []) ∙ bytes-then w (numbers_then 1 (byte 10 ∷ []))) h
+module _ (w s : List ℕ) (i : ℕ) where
+  pub head-no-numbers : {p : ℕ} → Breaks (Any (FieldsAfter w 1)) s i p → Breaks (Any (HeadTail w)) s i p
+  head-no-numbers {p} h = subst (λ (ps : List Part). Breaks (Pattern ps) s i p) (head-parts w) (form-bad (bytes_then w (numbers_then 1 [])) (byte 10 ∷ []) s i p h)
+
+  module _ {zeros two : List ℤ} {a : ℕ} (v : Stored (FieldsAfter w 1) as_read s i zeros 0 two a) where
+    pub head-no-end : {p : ℕ} → Breaks (Exactly (10 ∷ [])) s a p → Breaks (Any (HeadTail w)) s i p
+    head-no-end {p} h =
+        subst (λ (ps : List Part). Breaks (Pattern ps) s i p) (append-nil _ ∙ head-parts w) (chain-word-bad v (10 ∷ []) [] h)
+
+    pub head-read : {e : ℕ} → Stands (Exactly (10 ∷ [])) s a e → Stored (HeadTail w) as_read s i zeros 0 two e
+    head-read {e} h = subst (λ (ps : List Part). Stored (Form ps) as_read s i zeros 0 two e) (head-parts w) (chain-word v h)
 
 pub head-stored :
     (w s : List ℕ) (i : ℕ) (old : List ℤ) (from : ℕ) (new zeros two : List ℤ) (e : ℕ) → length zeros ≡ 2 → new ≡ sets old from two
@@ -579,64 +583,56 @@ heads-alone ks l c y p q = no-cons (sym (alone l (c ∷ y) (lines ks) (nums p.0 
 heads-separate : (ks : List Kind) (Q : List ℕ → Type 0) → Separate (Any (Heads ks)) Q
 heads-separate ks Q = record { apart = λ l c y r p q k. heads-alone ks l c y p q }
 
-abbrev HeadsTo : List Kind → List ℕ → List ℤ → List ℤ → Got → Type 0
-HeadsTo ks s old new (At e) = Stored (Heads ks) as_read s 0 old 0 new e
-HeadsTo ks s old new (Bad p) = Breaks (Any (Heads ks)) s 0 p
-
--- as a record, so that laws find its arguments
-pub record HeadsChain (ks : List Kind) (s : List ℕ) (old new : List ℤ) (r : Got) : Type 0 where
-  pub is : HeadsTo ks s old new r
-
-pub heads-first : (s : List ℕ) (old : List ℤ) → HeadsChain [] s old old (At 0)
+pub heads-first : (s : List ℕ) (old : List ℤ) → Stored (Heads []) as_read s 0 old 0 old 0
 heads-first s old =
     let e = part_none s 0 0 (omega arith) in
     record {
-      is = record {
-        value = [];
-        is = subst (Heads [] []) (sym e) no_head;
-        stops = record {
-          up = omega arith;
-          within = omega arith;
-          no-further = λ m h. no-head h.is.1 (ap (λ (w : List ℕ). w ++ h.rest) (part-first s 0 1 (omega arith) m));
-        };
-        stored = refl;
+      value = [];
+      is = subst (Heads [] []) (sym e) no_head;
+      stops = record {
+        up = omega arith;
+        within = omega arith;
+        no-further = λ m h. no-head h.is.1 (ap (λ (w : List ℕ). w ++ h.rest) (part-first s 0 1 (omega arith) m));
       };
+      stored = refl;
     }
   where
     no-head : {vs : List ℤ} {t : List ℕ} {c : ℕ} {y : List ℕ} → Heads [] vs t → t ≡ c ∷ y → ⊥
     no-head no_head e = no-cons e
 
-module _ (ks : List Kind) (k : Kind) (w s : List ℕ) (old : List ℤ) (q : HeadKind k w) where
+module _ (ks : List Kind) (k : Kind) (w s : List ℕ) (q : HeadKind k w) where
   heads-join : (u : List ℕ) → Cat (Any (Heads ks)) (Any (HeadLine w)) u → Any (Heads (ks ++ (k ∷ []))) u
   heads-join u h =
       (h.is.0 ++ h.then.0, subst (Heads (ks ++ (k ∷ [])) (h.is.0 ++ h.then.0)) (sym h.cut) (heads-append k w h.then.0 h.right q h.is.1 h.then.1))
 
-  first-bad : (p : ℕ) → Breaks (Any (Heads ks)) s 0 p → Breaks (Any (Heads (ks ++ (k ∷ [])))) s 0 p
-  first-bad p h =
+  -- the lines before it break
+  pub heads-broken : {p : ℕ} → Breaks (Any (Heads ks)) s 0 p → Breaks (Any (Heads (ks ++ (k ∷ [])))) s 0 p
+  heads-broken {p} h =
       breaks-as (Cat (Any (Heads ks)) (Any (HeadLine w))) (Any (Heads (ks ++ (k ∷ [])))) s 0 heads-join (heads-split ks k w q) p
       (breaks-first (Any (Heads ks)) (Any (HeadLine w)) s 0 (head-some w) p h)
 
-  head-next : (mid new : List ℤ) (r t : Got) → HeadsTo ks s old mid r → ThenStores (HeadLine w) as_read s r mid (fields_of ks) new t → HeadsTo (ks ++ (k ∷ [])) s old new t
-  head-next mid new (At a) (At e) v h =
-      let m = then-stands (Any (Heads ks)) (Any (HeadLine w)) s 0 (heads-separate ks (Any (HeadLine w))) a (record { is = (v.value, v.is); stops = v.stops }) e (record { is = (h.value, h.is); stops = h.stops }) in
-      record {
-        value = v.value ++ h.value;
-        is = subst (Heads (ks ++ (k ∷ [])) (v.value ++ h.value)) (sym (part_join s 0 a e v.stops.up h.stops.up)) (heads-append k w h.value (part s a e) q v.is h.is);
-        stops = stops_as (Cat (Any (Heads ks)) (Any (HeadLine w))) (Any (Heads (ks ++ (k ∷ [])))) s 0 heads-join (heads-split ks k w q) e m.stops;
-        stored = h.stored ∙ ap (λ (o : List ℤ). sets o (fields_of ks) h.value) v.stored
-            ∙ ap (λ (j : ℕ). sets (sets old 0 v.value) j h.value) (let j : fields_of ks ≡ 0 + length v.value = omega (arith, heads-count v.is) in j)
-            ∙ sym (sets-append old 0 v.value h.value);
-      }
-  head-next mid new (At a) (Bad p) v h =
-      breaks-as (Cat (Any (Heads ks)) (Any (HeadLine w))) (Any (Heads (ks ++ (k ∷ [])))) s 0 heads-join (heads-split ks k w q) p
-      (then-breaks (Any (Heads ks)) (Any (HeadLine w)) s 0 (heads-separate ks (Any (HeadLine w))) a (record { is = (v.value, v.is); stops = v.stops }) p h.1)
-  head-next mid new (Bad p) t v h = subst (λ (t : Got). HeadsTo (ks ++ (k ∷ [])) s old new t) (sym h.0) (first-bad p v)
+  module _ {old mid : List ℤ} {a : ℕ} (v : Stored (Heads ks) as_read s 0 old 0 mid a) where
+    before : Stands (Any (Heads ks)) s 0 a
+    before = record { is = (v.value, v.is); stops = v.stops }
 
-pub heads-next :
-    {ks : List Kind} (k : Kind) (w : List ℕ) {s : List ℕ} {old mid new : List ℤ} {next : ℕ} {r t : Got} → HeadKind k w → HeadsChain ks s old mid r
-    → NumbersAfter (HeadLine w) s r mid next new t → next ≡ fields_of ks → HeadsChain (ks ++ (k ∷ [])) s old new t
-heads-next {ks} k w {s} {old} {mid} {new} {next} {r} {t} q v h e =
-    record { is = head-next ks k w s old q mid new r t v.is (subst (λ (x : ℕ). ThenStores (HeadLine w) as_read s r mid x new t) e h.is) }
+    pub heads-next :
+        {next : ℕ} {new : List ℤ} {e : ℕ} → Stored (HeadLine w) as_read s a mid next new e → next ≡ fields_of ks → Stored (Heads (ks ++ (k ∷ []))) as_read s 0 old 0 new e
+    heads-next {next} {new} {e} h place =
+        let m = then-stands (Any (Heads ks)) (Any (HeadLine w)) s 0 (heads-separate ks (Any (HeadLine w))) a before e (record { is = (h.value, h.is); stops = h.stops }) in
+        record {
+          value = v.value ++ h.value;
+          is = subst (Heads (ks ++ (k ∷ [])) (v.value ++ h.value)) (sym (part_join s 0 a e v.stops.up h.stops.up)) (heads-append k w h.value (part s a e) q v.is h.is);
+          stops = stops_as (Cat (Any (Heads ks)) (Any (HeadLine w))) (Any (Heads (ks ++ (k ∷ [])))) s 0 heads-join (heads-split ks k w q) e m.stops;
+          stored = h.stored ∙ ap (λ (o : List ℤ). sets o next h.value) v.stored
+              ∙ ap (λ (j : ℕ). sets (sets old 0 v.value) j h.value) (let j : next ≡ 0 + length v.value = omega (arith, place, heads-count v.is) in j)
+              ∙ sym (sets-append old 0 v.value h.value);
+        }
+
+    -- the line itself breaks
+    pub heads-stuck : {p : ℕ} → Breaks (Any (HeadLine w)) s a p → Breaks (Any (Heads (ks ++ (k ∷ [])))) s 0 p
+    heads-stuck {p} h =
+        breaks-as (Cat (Any (Heads ks)) (Any (HeadLine w))) (Any (Heads (ks ++ (k ∷ [])))) s 0 heads-join (heads-split ks k w q) p
+        (then-breaks (Any (Heads ks)) (Any (HeadLine w)) s 0 (heads-separate ks (Any (HeadLine w))) a before p h)
 
 abbrev pub four_lines : List Kind
 four_lines = base_line ∷ scaled_line ∷ at_line ∷ full_line ∷ []

@@ -1,2 +1,3 @@
--- What the readers of the text promise, in the terms of the grammar.
+-- What the readers of the text hand back, and what they promise, in the terms of the grammar.
+pub mod Found
 pub mod Readers

@@ -2,24 +2,15 @@
 -- where the reader starts, whatever stands before them. One by ReadAt, NumAt or StoresAt allows one end or one place where it breaks, and not both (proofs/Reading:
 -- one_end, one-break, read-or-bad); what is read up to there is one too, for a number and a pattern of one line (proofs/Alone: one_number, one_form), and for a whole
 -- text (proofs/Runs: one-reading).
-use Rattle.std.specs.Prelude.{ℕ, ◌+◌, ◌-◌, ◌*◌, ◌≤◌, ◌<◌, ◌≡◌, Bool, true, false, cond, List, [], ◌∷◌, ◌++◌, leb, eqb, length, get_or, take, drop, ℤ}
+use Rattle.std.specs.Prelude.{ℕ, Result, ◌+◌, ◌-◌, ◌*◌, ◌≤◌, ◌<◌, ◌≡◌, Bool, true, false, cond, List, [], ◌∷◌, ◌++◌, leb, eqb, length, get_or, take, drop, ℤ}
 use Rattle.std.proofs.lemmas.List.Edits.{sets}
 use Rattle.definitions.specs.declared.Numbers.{Numbers}
 use Rattle.definitions.specs.Record.{record_words}
 use Rattle.definitions.specs.Text.{Digit, All, valued, Number, Listed, Item, Note, Notes, Part, byte, spaced, ended, Form, bytes_then, numbers_then, tail_of, LineOf, RecordKind, kind_of, Entry, Records, Text, BreaksAt, base_of, text_records}
 use Rattle.grammar.specs.declared.ByteClass.{ByteClass}
 use Rattle.grammar.specs.declared.ByteClass.TheVariants.{Alpha, Zero, Nonzero, Dash, Open, Close, Space, Other}
-use Rattle.grammar.specs.declared.Got.{Got}
-use Rattle.grammar.specs.declared.Got.TheVariants.{At, Bad}
-use Rattle.grammar.specs.declared.Num.{Num}
-use Rattle.grammar.specs.declared.Num.TheVariants.{Value}
-use Rattle.grammar.specs.declared.Num.TheVariants as num
-use Rattle.grammar.specs.declared.Lines.{Lines}
-use Rattle.grammar.specs.declared.Lines.TheVariants.{Count}
-use Rattle.grammar.specs.declared.Lines.TheVariants as lines
-use Rattle.grammar.specs.declared.TextParse.{TextParse}
-use Rattle.grammar.specs.declared.TextParse.TheVariants.{Parsed}
-use Rattle.grammar.specs.declared.TextParse.TheVariants as parse
+use Rattle.grammar.specs.Found.{Got, Num, Lines, TextParse}
+use Rattle.std.specs.Prelude.{Ok as At, Err as Bad, Ok as Value, Ok as Count, Ok as Parsed}
 
 -- what a byte is
 unfoldable pub byte_class_of : ℕ → ByteClass
@@ -31,6 +22,11 @@ byte_class_of b =
     (cond (eqb b 40) Open
     (cond (eqb b 41) Close
     (cond (eqb b 32) Space Other))))))
+
+-- the byte at i, or i itself, where s ends
+abbrev pub ByteAt : List ℕ → ℕ → Result ℕ ℕ → Type 0
+ByteAt s i (Value b) = (i < length s) × (b ≡ get_or s i 0)
+ByteAt s i (Bad p) = (length s ≤ i) × (p ≡ i)
 
 -- ---- What stands at a byte of s. P says of a list of bytes that it is such a thing.
 -- the bytes of s from byte i on, up to byte e
@@ -64,6 +60,11 @@ abbrev pub ReadAt : (List ℕ → Type 0) → List ℕ → ℕ → Got → Type 
 ReadAt P s i (At e) = Stands P s i e
 ReadAt P s i (Bad p) = Breaks P s i p
 
+-- a reader that moved on to e
+abbrev pub ends_at : ℕ → Result Unit ℕ → Got
+ends_at e (Value v) = At e
+ends_at e (Bad p) = Bad p
+
 -- things that hold a value: such a thing, with any value
 abbrev pub Any : {A : Type 0} → (A → List ℕ → Type 0) → List ℕ → Type 0
 Any {A} P w = (v : A) × P v w
@@ -80,8 +81,13 @@ pub record DigitsAt (s : List ℕ) (i a top n e : ℕ) : Type 0 where
 
 -- a number and where it ends; P says which numbers stand in which bytes
 abbrev pub NumAt : (ℤ → List ℕ → Type 0) → List ℕ → ℕ → Num → Type 0
-NumAt P s i (Value z e) = P z (part s i e) × Stops (Any P) s i e
-NumAt P s i (num.Bad p) = Breaks (Any P) s i p
+NumAt P s i (Value (z, e)) = P z (part s i e) × Stops (Any P) s i e
+NumAt P s i (Bad p) = Breaks (Any P) s i p
+
+-- a reader of a number that moved on to e
+abbrev pub up_to : ℕ → Result ℤ ℕ → Num
+up_to e (Value z) = Value (z, e)
+up_to e (Bad p) = Bad p
 
 -- a number after its minus
 abbrev pub AfterMinus : ℤ → List ℕ → Type 0
@@ -128,6 +134,10 @@ as_read vs = vs
 abbrev pub Fields : ℕ → List ℤ → List ℕ → Type 0
 Fields n = Form (numbers_then n [])
 
+-- the bytes of w, n + 1 numbers separated by one space, and the closing bracket
+abbrev pub FieldsAfter : List ℕ → ℕ → List ℤ → List ℕ → Type 0
+FieldsAfter w n = Form (bytes_then w (numbers_then n []))
+
 -- a record line after its letter, and after its bracket
 abbrev pub TailOf : RecordKind → List ℤ → List ℕ → Type 0
 TailOf r = Form (tail_of (kind_of r))
@@ -146,28 +156,6 @@ NoNote w = (0 < length w) × (get_or w 0 0 ≡ 110 → ⊥)
 -- notes, and a bracket with these bytes, numbers and end
 pub data HeadLine (w : List ℕ) : List ℤ → List ℕ → Type 0 where
   head_line : {vs : List ℤ} {n t : List ℕ} → Notes n → HeadTail w vs t → HeadLine w vs (n ++ (40 ∷ t))
-
--- ---- A reader after another. r is what the one before it handed back; where that is bad, so is what comes after it, and the words stay.
-abbrev pub InText : List ℕ → Got → Type 0
-InText s (At e) = e ≤ length s
-InText s (Bad p) = Unit {0}
-
-abbrev pub ThenReads : (List ℕ → Type 0) → List ℕ → Got → Got → Type 0
-ThenReads P s (At a) q = ReadAt P s a q
-ThenReads P s (Bad p) q = q ≡ Bad p
-
-abbrev pub ThenStores : {A : Type 0} → (A → List ℕ → Type 0) → (A → List ℤ) → List ℕ → Got → List ℤ → ℕ → List ℤ → Got → Type 0
-ThenStores P words s (At a) old from new q = StoresAt P words s a old from new q
-ThenStores P words s (Bad p) old from new q = (q ≡ Bad p) × (new ≡ old)
-
--- as records, each with where the text is read next
-pub record WordAfter (w s : List ℕ) (r q : Got) : Type 0 where
-  pub inside : InText s q
-  pub is : ThenReads (Exactly w) s r q
-
-pub record NumbersAfter (P : List ℤ → List ℕ → Type 0) (s : List ℕ) (r : Got) (old : List ℤ) (from : ℕ) (new : List ℤ) (q : Got) : Type 0 where
-  pub inside : InText s q
-  pub is : ThenStores P as_read s r old from new q
 
 -- ---- The text
 -- the words after a text with these record lines: theirs stand first, the rest unchanged; too many leave every word
@@ -190,7 +178,7 @@ pub record LinesRead (s : List ℕ) (i : ℕ) (old new : List ℤ) (n : ℕ) : T
 
 abbrev pub LinesAt : List ℕ → ℕ → List ℤ → List ℤ → Lines → Type 0
 LinesAt s i old new (Count n) = LinesRead s i old new n
-LinesAt s i old new (lines.Bad p) = (new ≡ old) × BreaksToEnd (Any Records) s i p
+LinesAt s i old new (Bad p) = (new ≡ old) × BreaksToEnd (Any Records) s i p
 
 -- the whole text
 pub record TextIs (s : List ℕ) (old new : List ℤ) (n : Numbers) (count : ℕ) : Type 0 where
@@ -200,5 +188,5 @@ pub record TextIs (s : List ℕ) (old new : List ℤ) (n : Numbers) (count : ℕ
   pub words : WordsOf entries old new
 
 abbrev pub ParsedAs : List ℕ → List ℤ → List ℤ → TextParse → Type 0
-ParsedAs s old new (Parsed n count) = TextIs s old new n count
-ParsedAs s old new (parse.Bad p) = (new ≡ old) × BreaksAt s p
+ParsedAs s old new (Parsed (n, count)) = TextIs s old new n count
+ParsedAs s old new (Bad p) = (new ≡ old) × BreaksAt s p

@@ -1,6 +1,9 @@
-// The types that the text's readers hand back. Each says where what was read ends, or, as Bad, the first byte at which it cannot go on. No function stands
-// here.
+// A text that is read from a place on, what a byte is, and what the text's readers hand back: what was read, or, as an Err, the first byte at which they
+// cannot go on.
 #![tactic(auto)]
+
+ghost use Rattle.std.specs.Prelude.{◌≤◌, length};
+ghost use Rattle.grammar.specs.Readers.{ByteAt};
 
 use definitions::Numbers;
 
@@ -17,30 +20,34 @@ pub enum ByteClass {
     Other,
 }
 
-// Where what was read ends.
-#[derive(Clone, Copy)]
-pub enum Got {
-    At(usize),
-    Bad(usize),
-}
+// What has no value to hand back.
+pub type Got = Result<(), usize>;
 
-// A number, and where it ends.
-#[derive(Clone, Copy)]
-pub enum Num {
-    Value(i16, usize),
-    Bad(usize),
-}
+// A number.
+pub type Num = Result<i16, usize>;
 
 // How many record lines there are, up to the end of the text.
-#[derive(Clone, Copy)]
-pub enum Lines {
-    Count(usize),
-    Bad(usize),
-}
+pub type Lines = Result<usize, usize>;
 
 // The whole text: the geometry's numbers, and how many record lines there are.
-#[derive(Clone, Copy)]
-pub enum TextParse {
-    Parsed(Numbers, usize),
-    Bad(usize),
+pub type TextParse = Result<(Numbers, usize), usize>;
+
+// A text, and the place up to which it is read.
+#[derive(Drop)]
+pub struct Text<'a> {
+    pub bytes: &'a [u8],
+    pub at: usize,
+    ghost within: { at ≤ length bytes.now },
+}
+
+impl<'a> Text<'a> {
+    // The byte to read next.
+    pub fn byte(&self) -> Result<u8, usize>
+        ensures { ByteAt self.now.bytes.now self.now.at result }
+    {
+        if self.at >= self.bytes.len() {
+            return Err(self.at);
+        }
+        Ok(self.bytes[self.at])
+    }
 }

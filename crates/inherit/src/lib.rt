@@ -16,7 +16,7 @@ const MOSTLY: u32 = 9;
 pub fn mostly_intra(set: u16) -> bool
     ensures { result ≡ mostly_intra set }
 {
-    u16::count_ones(set) >= MOSTLY
+    set.count_ones() >= MOSTLY
 }
 
 // Block i is in the set.
@@ -27,7 +27,7 @@ fn is_marked(set: u16, i: u32) -> bool
     (set >> i) & 1 == 1
 }
 
-// The first block of each quadrant.
+// The first block of each quadrant. (`writing` has it for slices; no crate is below both but those of motions and records.)
 const FIRST_BLOCK: [u32; 4] = [0, 2, 8, 10];
 
 // The blocks of quadrant q that read no intra macroblock.
@@ -48,16 +48,7 @@ pub fn clear_of(set: u16, q: usize) -> [bool; 4]
 fn some_of(b: [bool; 4]) -> bool
     ensures { result ≡ some_of b }
 {
-    if b[0] {
-        return true;
-    }
-    if b[1] {
-        return true;
-    }
-    if b[2] {
-        return true;
-    }
-    b[3]
+    b[0] | b[1] | b[2] | b[3]
 }
 
 // The quadrants that are not all intra.

@@ -1,17 +1,93 @@
-// The lines of a log, written into lent bytes from an offset on. Each function gives the offset after what it wrote.
+// The lines of a log, written into lent bytes.
 #![tactic(auto)]
 
 ghost use Rattle.definitions.specs.Log.{decimal, line_of};
 ghost use Rattle.log_lines.specs.Put.{Fits, Put, items_of};
-ghost use Rattle.std.specs.Prelude.{[], ◌∷◌, ◌≡◌, ◌+◌, ◌<◌};
+ghost use Rattle.std.specs.Prelude.{[], ◌∷◌, ◌≡◌, ◌+◌, ◌<◌, ◌≤◌, length};
 
-// One byte.
-fn put_byte(out: &mut [u8], at: usize, b: u8) -> usize
-    requires { Fits out.old at (b ∷ []) }
-    ensures { Put out.old at (b ∷ []) out.new result }
-{
-    out[at] = b;
-    at + 1
+// A log, written up to a place in the bytes that are lent for it.
+#[derive(Drop)]
+pub struct Log<'a> {
+    pub out: &'a mut [u8],
+    pub at: usize,
+    ghost within: { at ≤ length out.now },
+}
+
+impl<'a> Log<'a> {
+    // A log with no byte yet.
+    pub fn new(out: &'a mut [u8]) -> Log<'a>
+        ensures none { (result.out.now ≡ out.old) × (result.at ≡ 0) }
+        ensures same { result.out.ghost_name ≡ out.entry.ghost_name }
+    {
+        Log { out, at: 0 }
+    }
+
+    // How many bytes it has.
+    pub fn written(&self) -> usize
+        ensures { result ≡ self.now.at }
+    {
+        self.at
+    }
+
+    // One byte.
+    fn byte(&mut self, b: u8)
+        requires { Fits self.old.out.now self.old.at (b ∷ []) }
+        ensures bytes { Put self.old.out.now self.old.at (b ∷ []) self.new.out.now self.new.at }
+        ensures same { self.new.out.ghost_name ≡ self.old.out.ghost_name }
+    {
+        self.out[self.at] = b;
+        self.at += 1;
+    }
+
+    // A number in decimal.
+    fn number(&mut self, n: u32)
+        requires { Fits self.old.out.now self.old.at (decimal n) }
+        ensures bytes { Put self.old.out.now self.old.at (decimal n) self.new.out.now self.new.at }
+        ensures same { self.new.out.ghost_name ≡ self.old.out.ghost_name }
+    {
+        if n < 10 {
+            self.byte(digit(n));
+            return;
+        }
+        self.number(n / 10);
+        self.byte(digit(n % 10));
+    }
+
+    // The bytes of a word.
+    fn word(&mut self, word: &[u8])
+        requires { Fits self.old.out.now self.old.at word.now }
+        ensures bytes { Put self.old.out.now self.old.at word.now self.new.out.now self.new.at }
+        ensures same { self.new.out.ghost_name ≡ self.old.out.ghost_name }
+    {
+        for &b in word {
+            self.byte(b);
+        }
+    }
+
+    // A space and a number, for each.
+    fn items(&mut self, numbers: &[u32])
+        requires { Fits self.old.out.now self.old.at (items_of numbers.now) }
+        ensures bytes { Put self.old.out.now self.old.at (items_of numbers.now) self.new.out.now self.new.at }
+        ensures same { self.new.out.ghost_name ≡ self.old.out.ghost_name }
+    {
+        for &n in numbers {
+            self.byte(b' ');
+            self.number(n);
+        }
+    }
+
+    // A line: a word and numbers.
+    pub fn line(&mut self, word: &[u8], numbers: &[u32])
+        requires { Fits self.old.out.now self.old.at (line_of word.now numbers.now) }
+        ensures bytes { Put self.old.out.now self.old.at (line_of word.now numbers.now) self.new.out.now self.new.at }
+        ensures same { self.new.out.ghost_name ≡ self.old.out.ghost_name }
+    {
+        self.byte(b'(');
+        self.word(word);
+        self.items(numbers);
+        self.byte(b')');
+        self.byte(b'\n');
+    }
 }
 
 // A digit's byte.
@@ -20,57 +96,4 @@ fn digit(d: u32) -> u8
     ensures { result ≡ 48 + d }
 {
     b'0' + d as u8
-}
-
-// A number in decimal.
-fn put_number(out: &mut [u8], at: usize, n: u32) -> usize
-    requires { Fits out.old at (decimal n) }
-    ensures { Put out.old at (decimal n) out.new result }
-{
-    if n < 10 {
-        return put_byte(out, at, digit(n));
-    }
-    let next = put_number(out, at, n / 10);
-    put_byte(out, next, digit(n % 10))
-}
-
-// The bytes of a word.
-fn put_word(out: &mut [u8], at: usize, word: &[u8]) -> usize
-    requires { Fits out.old at word.now }
-    ensures { Put out.old at word.now out.new result }
-{
-    let mut next = at;
-    let mut k: usize = 0;
-    while k < word.len() {
-        next = put_byte(out, next, word[k]);
-        k += 1;
-    }
-    next
-}
-
-// A space and a number, for each.
-fn put_items(out: &mut [u8], at: usize, numbers: &[u32]) -> usize
-    requires { Fits out.old at (items_of numbers.now) }
-    ensures { Put out.old at (items_of numbers.now) out.new result }
-{
-    let mut next = at;
-    let mut k: usize = 0;
-    while k < numbers.len() {
-        let spaced = put_byte(out, next, b' ');
-        next = put_number(out, spaced, numbers[k]);
-        k += 1;
-    }
-    next
-}
-
-// A line: a word and numbers.
-pub fn put_line(out: &mut [u8], at: usize, word: &[u8], numbers: &[u32]) -> usize
-    requires { Fits out.old at (line_of word.now numbers.now) }
-    ensures { Put out.old at (line_of word.now numbers.now) out.new result }
-{
-    let opened = put_byte(out, at, b'(');
-    let named = put_word(out, opened, word);
-    let listed = put_items(out, named, numbers);
-    let closed = put_byte(out, listed, b')');
-    put_byte(out, closed, b'\n')
 }

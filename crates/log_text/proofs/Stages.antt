@@ -13,14 +13,14 @@ use borrow.Author.Tests.{ltb-true}
 use Rattle.definitions.specs.declared.Axes.{Axes}
 use Rattle.definitions.specs.declared.Numbers.{Numbers}
 use Rattle.definitions.specs.declared.Refusal.{Refusal}
-use Rattle.definitions.specs.declared.Verdict.{Verdict}
-use Rattle.definitions.specs.declared.Verdict.TheVariants.{Accepted, Refused}
+use Rattle.definitions.specs.Replies.{Verdict, Accepted}
+use Rattle.std.specs.Prelude.{Err as Refused}
 use Rattle.definitions.specs.declared.TextRead.{TextRead}
-use Rattle.definitions.specs.declared.TextReply.{TextReply}
-use Rattle.definitions.specs.declared.TextReply.TheVariants.{NoPicture, Read, Refused as NotRead}
+use Rattle.definitions.specs.Replies.{TextReply, NoPicture, Read}
+use Rattle.std.specs.Prelude.{Err as NotRead}
 use Rattle.definitions.specs.declared.Logged.{Logged}
-use Rattle.definitions.specs.declared.LogReply.{LogReply}
-use Rattle.definitions.specs.declared.LogReply.TheVariants.{Written, Refused as NotWritten}
+use Rattle.definitions.specs.Replies.{LogReply}
+use Rattle.std.specs.Prelude.{Ok as Written, Err as NotWritten}
 use Rattle.definitions.specs.Basics.{pick, all_of}
 use Rattle.definitions.specs.Geometry.{axes_of}
 use Rattle.definitions.specs.Record.{record_words, narrow}
@@ -38,9 +38,9 @@ use Rattle.definitions.specs.Accepted.{AcceptedAxes}
 use Rattle.definitions.specs.Raster.{base_count}
 use Rattle.log_lines.specs.Put.{Fits, Put}
 use Rattle.log_picture.proofs.Growing.{picture-short}
-use Rattle.log_text.specs.declared.Found.{Found}
-use Rattle.log_text.specs.declared.Found.TheVariants.{NoPicture as NoneFound, Made, Refused as Declined}
-use Rattle.log_text.specs.Given.{Given, nothing_found, kept, lines}
+use Rattle.std.specs.Prelude.{map, Err as Declined}
+use Rattle.std.proofs.lemmas.List.{map-id}
+use Rattle.log_text.specs.Given.{Found, NoneFound, Made, Given, nothing_found, kept, lines}
 use Rattle.log_text.specs.Promised.{AsJudged, LogPromised}
 
 -- ---- bytes put from the buffer's start on
@@ -92,6 +92,18 @@ module _ (n : Numbers) (count : ℕ) (base : List ℤ) (out : List ℕ) where
       right-records e a room k new p =
           let l = picture-short (axes_of n) base (subst AcceptedAxes is a) in
           given-lines out (picture_lines (axes_of n) base) all (of-records ∙ e) k new (omega arith) (subst (λ (g : Axes). Put out 0 (picture_lines g base) new k) is p)
+
+-- ---- words of a base, by their numbers
+-- what was judged of them
+pub judged-same : {w base : List ℤ} {a axes : Axes} {v : Verdict} → w ≡ base → a ≡ axes → verdict_of (record_tests narrow (map (λ x. x) w) (all_addresses a)) ≡ v
+    → verdict_of (record_tests narrow base (all_addresses axes)) ≡ v
+judged-same {w} {base} p q e =
+    let k : base ≡ map (λ x. x) w = sym (map-id w ∙ p) in
+    (λ i. verdict_of (record_tests narrow (k i) (all_addresses (sym q i)))) ∙ e
+
+-- and the lines that were put
+pub put-same : {w base : List ℤ} {a axes : Axes} {out new : List ℕ} {n : ℕ} → w ≡ base → a ≡ axes → Put out 0 (picture_lines a w) new n → Put out 0 (picture_lines axes base) new n
+put-same {out = out} {new} {n} p q = subst (λ (l : List ℕ). Put out 0 l new n) (λ i. picture_lines (q i) (p i))
 
 -- ---- what is given by the text call
 -- the words of the record lines are the first of those that were lent

@@ -2,10 +2,10 @@
 use Rattle.std.specs.Prelude.{ℕ, ◌≤◌, ◌<◌, ◌≡◌, Bool, true, ◌↔◌, List, length, take}
 use Rattle.definitions.specs.declared.Numbers.{Numbers}
 use Rattle.definitions.specs.declared.Refusal.{Refusal}
-use Rattle.definitions.specs.declared.Verdict.{Verdict}
-use Rattle.definitions.specs.declared.Verdict.TheVariants.{Refused}
-use Rattle.definitions.specs.declared.LogReply.{LogReply}
-use Rattle.definitions.specs.declared.LogReply.TheVariants.{Written, Refused as NotWritten}
+use Rattle.definitions.specs.Replies.{Verdict}
+use Rattle.std.specs.Prelude.{Err as Refused}
+use Rattle.definitions.specs.Replies.{LogReply}
+use Rattle.std.specs.Prelude.{Ok as Written, Err as NotWritten}
 use Rattle.definitions.specs.Refusals.{verdict_of}
 use Rattle.definitions.specs.Text.{Entry, Text, base_of, text_records, text_bytes}
 use Rattle.definitions.specs.Log.{program_tests, log_bytes, SaidByLog, RefusedOnly}

@@ -8,63 +8,42 @@ ghost use Rattle.log_lines.specs.Put.{Put};
 ghost use Rattle.log_text.specs.Given.{Given, LinesGiven};
 ghost use Rattle.log_text.specs.Promised.{LogPromised};
 
-use common::raster::base_count;
+use bases::Base;
 use common::refusals;
 use common::refusals::refused;
-use common::tests::base_right;
-use definitions::{LogReply, Logged, RECORD_WORDS, Refusal, TextRead, TextReply, Verdict};
-use geometry::{Checked, Geometry};
-use log_lines::put_line;
+use definitions::{LogReply, Logged, RECORD_WORDS, Refusal, TextRead};
+use geometry::Geometry;
+use log_lines::Log;
 use log_picture::picture_lines;
-use scan::check;
 use sync_text::{TEXT_WORDS, read_text};
 
-// The bytes that every log fits: 65,536 lines of at most 18, and a last one of at most 31.
+// The bytes that every log fits: 65,536 lines of at most 18, and a last one of at most 31. (The call tests it once; as a type it would be the lent slice with its length, no plainer.)
 pub const LOG_BYTES: usize = 1179679;
 
-// What is found of a text: that it means no picture; its picture, whose lines have so many bytes; or its refusal.
-#[derive(Clone, Copy)]
-enum Found {
-    NoPicture,
-    Made(usize),
-    Refused(Refusal),
-}
-
+// ---- What is found of a text: that it means no picture; its picture, whose lines have so many bytes; or its refusal
 // The text is read: refusals 1 to 5 and 8, or the lines.
-fn read_lines(t: TextRead, base: &[i16], out: &mut [u8]) -> Found
+fn read_lines(t: TextRead, base: &[i16], out: &mut [u8]) -> Result<Option<usize>, Refusal>
     requires { (length base.now ≡ record_words * t.lines) × (log_bytes ≤ length out.old) }
     ensures { Given out.old (judged t.numbers t.lines base.now) result out.new }
 {
-    let numbers = t.numbers;
-    match Geometry::new(numbers) {
-        Checked::Geometry(g) => {
-            let axes = g.axes();
-            if !base_right(axes, base.len()) {
-                return Found::Refused(refused(refusals::BASE_LENGTH));
-            }
-            let records = base_count(axes);
-            match check(base, 0, records) {
-                Verdict::Accepted => Found::Made(picture_lines(axes, base, out)),
-                Verdict::Refused(r) => Found::Refused(r),
-            }
-        }
-        Checked::Refused(r) => Found::Refused(r),
-    }
+    let g = Geometry::new(t.numbers)?;
+    let base = Base::new(g, base)?;
+    let formed = base.judged()?;
+    Ok(Some(picture_lines(formed, out)))
 }
 
 // The lines of a text's picture; or its refusal, or that it means none, and then no byte is written.
-fn text_lines(text: &[u8], out: &mut [u8]) -> Found
+fn text_lines(text: &[u8], out: &mut [u8]) -> Result<Option<usize>, Refusal>
     requires { log_bytes ≤ length out.old }
     ensures { LinesGiven text.now out.old result out.new }
 {
     let mut words = [0i16; TEXT_WORDS];
-    match read_text(text, &mut words) {
-        TextReply::NoPicture => Found::NoPicture,
-        TextReply::Read(t) => {
+    match read_text(text, &mut words)? {
+        None => Ok(None),
+        Some(t) => {
             let end = RECORD_WORDS * t.lines as usize;
             read_lines(t, &words[..end], out)
         }
-        TextReply::Refused(r) => Found::Refused(r),
     }
 }
 
@@ -74,7 +53,9 @@ fn refused_line(out: &mut [u8], r: Refusal) -> usize
     ensures { Put out.old 0 (refused_line r) out.new result }
 {
     let numbers = [r.number, r.place];
-    put_line(out, 0, b"refused", &numbers)
+    let mut log = Log::new(out);
+    log.line(b"refused", &numbers);
+    log.written()
 }
 
 // (sync 0 0 0 0)
@@ -83,7 +64,9 @@ fn no_picture_line(out: &mut [u8]) -> usize
     ensures { Put out.old 0 no_picture_line out.new result }
 {
     let numbers = [0; 4];
-    put_line(out, 0, b"sync", &numbers)
+    let mut log = Log::new(out);
+    log.line(b"sync", &numbers);
+    log.written()
 }
 
 // The log call: the bytes of a text, and bytes to write its log into. It gives the length of the log, and the refusal that the log says, with its rule, or none, and
@@ -93,22 +76,22 @@ pub fn log(text: &[u8], out: &mut [u8]) -> LogReply
     ensures demand2 { LogPromised text.now result out.new }
 {
     if out.len() < LOG_BYTES {
-        return LogReply::Refused(refused(refusals::OUTPUT_LENGTH));
+        return Err(refused(refusals::OUTPUT_LENGTH));
     }
     match text_lines(text, out) {
-        Found::NoPicture => LogReply::Written(Logged {
+        Ok(None) => Ok(Logged {
             bytes: no_picture_line(out),
-            verdict: Verdict::Accepted,
+            verdict: Ok(()),
             empty: true,
         }),
-        Found::Made(n) => LogReply::Written(Logged {
+        Ok(Some(n)) => Ok(Logged {
             bytes: n,
-            verdict: Verdict::Accepted,
+            verdict: Ok(()),
             empty: false,
         }),
-        Found::Refused(r) => LogReply::Written(Logged {
+        Err(r) => Ok(Logged {
             bytes: refused_line(out, r),
-            verdict: Verdict::Refused(r),
+            verdict: Err(r),
             empty: false,
         }),
     }

@@ -1,5 +1,5 @@
 -- The cases of what is made of a macroblock. Assumes nothing.
-use Prim.Native.Nat.{ℕ, ◌/◌, ◌%◌, ◌<◌}
+use Prim.Native.Nat.{ℕ, ◌/◌, ◌%◌, ◌<◌, ◌≤◌}
 use mathlib.Core.Path.{◌≡◌, refl, sym, ap, subst, ◌∙◌}
 use mathlib.Core.Bool.{Bool, true, false, true≢false, ◌&&◌, ◌||◌}
 use mathlib.Core.List.{List, []}
@@ -16,7 +16,7 @@ use Rattle.common.specs.declared.counts.Sort.{Sort}
 use Rattle.common.specs.declared.counts.Sort.TheVariants.{Inherited, Intra, Outside}
 use Rattle.definitions.specs.Basics.{between, four, pick}
 use Rattle.definitions.specs.Blocks.{raster_of}
-use Rattle.definitions.specs.Record.{all_one, detail_of, fits, laid_out, narrow, rule7, split_said}
+use Rattle.definitions.specs.Record.{all_one, detail_of, fits, laid_out, rule7, split_said}
 use Rattle.definitions.specs.Inheriting.{at, chosen, mostly_intra, motion_at, resolved, zero_motion}
 use Rattle.definitions.specs.Answer.{divided_by, unused_motion, without_motion}
 use Rattle.definitions.proofs.Choices.{and_intro, both_false, four-at, no, pick-cases, yes}
@@ -28,17 +28,15 @@ use Rattle.details.specs.Bits.{detail_by, quadrant_reads}
 use borrow.Author.Tests.{le-leb}
 use Rattle.definitions.proofs.Steps.{Both, resolved-keeps, resolved-settled}
 use Rattle.definitions.proofs.Written.{zero-between}
-use Rattle.motion.specs.ByValue.{AllWritable, InWords, Writable, motion_in, motions_in, quadrants_in, zero_block}
-use Rattle.motion.specs.declared.Scale.{Scale}
+use Rattle.motion.specs.ByValue.{AllWritable, Writable, motion_in, motions_in, quadrants_in, zero_block}
 use Rattle.motion.specs.declared.Scales.{Scales}
-use Rattle.motion.specs.Scales.{AcceptedScale, AcceptedScales, all_scaled, motion_scaled, scaled_with}
-use Rattle.writing.proofs.Rounded.{fitting, reference-fits}
+use Rattle.motion.specs.Scales.{AcceptedScales, all_scaled}
 use mir.Facts.{to_z_pos}
 use mir.Syntax.{w8, w16}
-use mir.Val.{Fits, SFits, to_z}
+use mir.Val.{Fits, to_z}
 use Rattle.gather.specs.Reads.{Readable, ReadableAt, Rising, beside, corners_by, gathered_by, motion_by, motion_read, set_among}
 use Rattle.gather.proofs.Sets.{set-corners}
-use Rattle.macroblock.specs.Made.{answer_by, answer_for, answer_said, basis_by, basis_with, detail_inside, inherited_inside, motions_inside, resolved_inside, said_by, set_inside, sort_by, sort_inside, split_in, within, written_by, written_inside}
+use Rattle.macroblock.specs.Made.{Ready, answer_by, answer_for, answer_said, basis_by, basis_with, detail_inside, fixed_with, inherited_inside, motions_inside, resolved_inside, said_by, set_inside, sort_by, sort_inside, split_in, within, written_by, written_inside}
 use Rattle.macroblock.proofs.Motions.{Kept, read_kept}
 use Rattle.macroblock.proofs.Single.{all-or-none}
 
@@ -84,10 +82,22 @@ pub detail-word : (n d : ℕ) → Fits w8 n → n ≡ d → to_z w16 n ≡ pos d
 detail-word n d fits e = to_z_pos w16 {n = n} (omega (arith, fits.fits)) ∙ ap pos e
 
 -- ---- inside
+pub inherited-written : (f : Fixed) (across down : List ℕ) (base : List ℤ) {set : ℕ} → set ≡ set_inside f across down base → {m : List (List Motion)} → m ≡ resolved set (gathered_by f.width across down base)
+    → laid_out (divided_by (chosen (all_scaled f.scales m)) (motion_at (all_scaled f.scales m)) (pos (detail_inside f across down base))) ≡ inherited_inside f across down base
+unfolding inherited_inside motions_inside resolved_inside
+inherited-written f across down base is e =
+    let p = e ∙ ap (λ (s : ℕ). resolved s (gathered_by f.width across down base)) is in
+    λ i. laid_out (divided_by (chosen (all_scaled f.scales (p i))) (motion_at (all_scaled f.scales (p i))) (pos (detail_inside f across down base)))
+
+-- what is read there, with accepted scales
+pub ready-with : {limit width : ℕ} {scales : Scales} {across down : List ℕ} {base : List ℤ} → AcceptedScales scales → Readable limit width across down base → width ≤ 256 → Rising across → Rising down
+    → Ready limit (fixed_with width scales) across down base
+ready-with s r w c d = record { scales = s; width = w; readable = r; columns = c; rows = d }
+
 none_beside : {t u : Bool} (x : List ℕ) (i : ℕ) → t ≡ false → u ≡ false → beside x i t u ≡ false
 none_beside x i p q = pick-cases (λ (b : Bool). b ≡ false) _ _ _ (λ t. p) (λ t. q)
 
-module _ (f : Fixed) (across down : List ℕ) (base : List ℤ) where
+module _ {limit : ℕ} {f : Fixed} {across down : List ℕ} {base : List ℤ} (ready : Ready limit f across down base) where
   -- what a function hands back and leaves in its words
   abbrev Gives : Sort → List ℤ → Type 0
   Gives s words = (s ≡ sort_inside f across down base) × (words ≡ written_inside f across down base)
@@ -101,17 +111,10 @@ module _ (f : Fixed) (across down : List ℕ) (base : List ℤ) where
     unfolding sort_inside written_inside
     made-inherited t w = let m = ap mostly_intra (sym is) ∙ t in (sym (no _ _ m), w ∙ sym (no _ _ m))
 
-    pub inherited-written : {m : List (List Motion)} → m ≡ resolved set (gathered_by f.width across down base)
-        → laid_out (divided_by (chosen (all_scaled f.scales m)) (motion_at (all_scaled f.scales m)) (pos (detail_inside f across down base))) ≡ inherited_inside f across down base
-    unfolding inherited_inside motions_inside resolved_inside
-    inherited-written e =
-        let p = e ∙ ap (λ (s : ℕ). resolved s (gathered_by f.width across down base)) is in
-        λ i. laid_out (divided_by (chosen (all_scaled f.scales (p i))) (motion_at (all_scaled f.scales (p i))) (pos (detail_inside f across down base)))
-
   -- the set by the corners
-  module _ (a : Rising across) (d : Rising down) {c : Corners} (corners : c ≡ corners_by f.width across down base) where
+  module _ {c : Corners} (corners : c ≡ corners_by f.width across down base) where
     pub set_is : {set : ℕ} → set ≡ set_among c across down → set ≡ set_inside f across down base
-    set_is e = e ∙ (ap (λ (k : Corners). set_among k across down) corners ∙ set-corners f.width across down base a d)
+    set_is e = e ∙ (ap (λ (k : Corners). set_among k across down) corners ∙ set-corners f.width across down base ready.columns ready.rows)
 
     -- no corner is intra, and so no block
     pub no-corner : (((c.first || c.right) || c.below) || c.diagonal) ≡ false → 0 ≡ set_inside f across down base
@@ -121,26 +124,6 @@ module _ (f : Fixed) (across down : List ℕ) (base : List ℤ) where
         let ab = both_false (c.first || c.right) c.below abc.0 in
         let a = both_false c.first c.right ab.0 in
         set_is (sym (set_same 16 _ (λ i. false) (λ i h. none_beside down (i / 4) (none_beside across (i % 4) a.0 a.1) (none_beside across (i % 4) ab.1 abc.1)) ∙ all-or-none false))
-
--- ---- a motion that is scaled fits its words
-module _ (s : Scales) (m r : BlockMotion) (accepted : AcceptedScales s) (writable-m : Writable narrow m) (is : motion_in r ≡ motion_scaled s (motion_in m)) where
-  word_fits : (t : Scale) (v : ℤ) → AcceptedScale t → fits narrow v ≡ true → SFits w16 (scaled_with t v)
-  word_fits t v a h = let p = fitting t v a h in subst (SFits w16) p.is p.fits
-
-  handed : (f : Motion → ℤ) → SFits w16 (f (motion_scaled s (motion_in m))) → SFits w16 (f (motion_in r))
-  handed f h = subst (SFits w16) (sym (ap f is)) h
-
-  pub scaled-words : InWords r
-  scaled-words =
-      let v = writable-m.vectors in
-      record {
-        r0 = handed (λ n. n.list0.reference) (reference-fits m.r0 writable-m.referring.0);
-        r1 = handed (λ n. n.list1.reference) (reference-fits m.r1 writable-m.referring.1);
-        x0 = handed (λ n. n.list0.x) (word_fits s.horizontal m.x0 accepted.horizontal v.0.x);
-        y0 = handed (λ n. n.list0.y) (word_fits s.vertical m.y0 accepted.vertical v.0.y);
-        x1 = handed (λ n. n.list1.x) (word_fits s.horizontal m.x1 accepted.horizontal v.1.x);
-        y1 = handed (λ n. n.list1.y) (word_fits s.vertical m.y1 accepted.vertical v.1.y);
-      }
 
 -- a block that is read can be written
 pub read-writable : {limit : ℕ} (width : ℕ) (base : List ℤ) (x y : ℕ) (m : BlockMotion) → ReadableAt limit width base x y → motion_in m ≡ motion_read width base x y → Writable limit m

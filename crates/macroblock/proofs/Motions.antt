@@ -171,6 +171,23 @@ pub record Spotted (limit width : ℕ) (across down : List ℕ) (base : List ℤ
   pub row-2 : y2 ≡ down_of width (get_or down 2 0)
   pub row-3 : y3 ≡ down_of width (get_or down 3 0)
 
+-- by what `across_of` and `down_of` give
+pub spots : {limit width : ℕ} {across down : List ℕ} {base : List ℤ} {x0 x1 x2 x3 y0 y1 y2 y3 : Spot} → Readable limit width across down base
+    → x0 ≡ across_of (get_or across 0 0) → x1 ≡ across_of (get_or across 1 0) → x2 ≡ across_of (get_or across 2 0) → x3 ≡ across_of (get_or across 3 0)
+    → y0 ≡ down_of width (get_or down 0 0) → y1 ≡ down_of width (get_or down 1 0) → y2 ≡ down_of width (get_or down 2 0) → y3 ≡ down_of width (get_or down 3 0)
+    → Spotted limit width across down base x0 x1 x2 x3 y0 y1 y2 y3
+spots r a b c d e f g h = record {
+  readable = r;
+  column-0 = a;
+  column-1 = b;
+  column-2 = c;
+  column-3 = d;
+  row-0 = e;
+  row-1 = f;
+  row-2 = g;
+  row-3 = h;
+}
+
 -- a quadrant can be merged, and what it reads
 pub record Placed (base : List ℤ) (left right upper lower : Spot) (m : List Motion) : Type 0 where
   pub mergeable : Mergeable base left right upper lower

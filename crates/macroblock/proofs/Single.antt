@@ -80,7 +80,7 @@ pub mostly-none : mostly_intra 0 ≡ false
 unfolding ones ones_in
 mostly-none = refl
 
-module _ {limit : ℕ} (f : Fixed) (across down : List ℕ) (base : List ℤ) (ready : Ready limit f across down base) (one : (one_part 4 across && one_part 4 down) ≡ true) where
+module _ {limit : ℕ} {f : Fixed} {across down : List ℕ} {base : List ℤ} (ready : Ready limit f across down base) (one : (one_part 4 across && one_part 4 down) ≡ true) where
   abbrev width : ℕ
   width = f.width
 

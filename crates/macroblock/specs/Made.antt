@@ -22,12 +22,16 @@ use Rattle.details.specs.Bits.{detail_by, halves_of}
 use Rattle.definitions.specs.Record.{detail_of, laid_out, split_said, sub_type_of, type_of}
 use Rattle.definitions.specs.Inheriting.{mostly_intra, motion_at, resolved, chosen}
 use Rattle.definitions.specs.Answer.{Made, divided_by, without_motion}
+use Rattle.motion.specs.declared.Scales.{Scales}
 use Rattle.motion.specs.Scales.{AcceptedScales, all_scaled, scales_of}
 use Rattle.gather.specs.Reads.{Readable, Rising, set_by, gathered_by}
 
 -- ---- What is fixed for a picture: the base's width in macroblocks, and the scales
 abbrev pub fixed_of : Axes → Fixed
 fixed_of g = record { width = macroblocks (base_size g.horizontal); scales = scales_of g }
+
+abbrev pub fixed_with : ℕ → Scales → Fixed
+fixed_with width scales = record { width = width; scales = scales }
 
 -- ---- An axis at a macroblock
 -- inside, of its step the coordinates that are read, the sets of base quadrants along it that the first two blocks and the last two read, and how many blocks fall in the first column (row)

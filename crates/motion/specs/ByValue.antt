@@ -1,6 +1,6 @@
 -- Motions as the code hands them on: each is one of the definitions', laid out flat.
 use Rattle.std.specs.Prelude.{ℕ, ◌<◌, ◌≡◌, Bool, true, ◌&&◌, List, [], ℤ, pos, get_or}
-use Rattle.std.specs.Int.{w16}
+use Rattle.std.specs.Int.{Width}
 use Rattle.std.proofs.Common.{SFits}
 use Rattle.definitions.specs.declared.Motion.{Motion}
 use Rattle.definitions.specs.Basics.{between, eq_z, four, minus}
@@ -39,14 +39,14 @@ AllReferring m = (k : ℕ) → k < 4 → Referring (get_or m k zero_block)
 abbrev pub OneReference : List BlockMotion → Type 0
 OneReference m = (k : ℕ) → k < 4 → ((get_or m k zero_block).r0 ≡ (get_or m 0 zero_block).r0) × ((get_or m k zero_block).r1 ≡ (get_or m 0 zero_block).r1)
 
--- its numbers fit sixteen bits
-pub record InWords (m : BlockMotion) : Type 0 where
-  pub r0 : SFits w16 m.r0
-  pub r1 : SFits w16 m.r1
-  pub x0 : SFits w16 m.x0
-  pub y0 : SFits w16 m.y0
-  pub x1 : SFits w16 m.x1
-  pub y1 : SFits w16 m.y1
+-- its numbers fit words of so many bits
+pub record InWords (bits : Width) (m : BlockMotion) : Type 0 where
+  pub r0 : SFits bits m.r0
+  pub r1 : SFits bits m.r1
+  pub x0 : SFits bits m.x0
+  pub y0 : SFits bits m.y0
+  pub x1 : SFits bits m.x1
+  pub y1 : SFits bits m.y1
 
 -- a motion, and a quadrant, that can be scaled and written into a record of the width whose limit it is
 pub record Writable (limit : ℕ) (m : BlockMotion) : Type 0 where

@@ -1,5 +1,5 @@
--- Step 4 of "Inheriting", as document 02's E3 has it, by the scales of both axes, which are made once and handed down in two parts. (The
--- narrow writer multiplies by each; the wide one joins them again.)
+-- Step 4 of "Inheriting", as document 02's E3 has it, by the scales of both axes, which are made once and handed down in two parts. (Words
+-- of sixteen bits are multiplied by each; for those of 32 they are joined again.)
 use Rattle.std.specs.Prelude.{ℕ, ◌+◌, ◌*◌, ◌/◌, ◌≤◌, ◌≡◌, List, ℤ, pos, ◌+ℤ◌, ◌*ℤ◌}
 use Rattle.std.proofs.Math.IntN.{sub_ℕ}
 use Rattle.definitions.specs.declared.Axes.{Axes}

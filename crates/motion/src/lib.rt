@@ -10,7 +10,7 @@ ghost use Rattle.std.specs.Prelude.{◌≡◌};
 use definitions::{Axes, Axis};
 
 // The references of both lists, -1 unused, and the vectors side by side, so that they are compared and scaled at once. In 32 bits, so that records of any width share it.
-#[derive(Clone, Copy)]
+#[derive(Clone, Copy, PartialEq, Eq)]
 pub struct BlockMotion {
     pub r0: i32,
     pub r1: i32,
@@ -27,7 +27,8 @@ pub struct Scale {
     pub part: i16,
 }
 
-// Both axes': made once a picture, or once a call, and handed down.
+// Both axes': made once a picture, or once a call, and handed down. (What is asked of them, AcceptedScales, was tried as a ghost field: it holds a number, and such a field takes a
+// proposition alone.)
 #[derive(Clone, Copy)]
 pub struct Scales {
     pub horizontal: Scale,

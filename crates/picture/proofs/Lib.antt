@@ -1,3 +1,4 @@
 pub mod Filling
 pub mod Stages
 pub mod Promises
+pub mod WideCases

@@ -7,9 +7,8 @@ use lib.ListN.{length-replicate}
 use Rattle.definitions.specs.declared.Numbers.{Numbers}
 use Rattle.definitions.specs.declared.Counts.{Counts}
 use Rattle.definitions.specs.declared.Refusal.{Refusal}
-use Rattle.definitions.specs.declared.MacroblockReply.{MacroblockReply}
-use Rattle.definitions.specs.declared.PictureReply.{PictureReply}
-use Rattle.definitions.specs.declared.PictureReply.TheVariants.{Counted, Refused as NotMade}
+use Rattle.definitions.specs.Replies.{MacroblockReply, PictureReply}
+use Rattle.std.specs.Prelude.{Ok as Counted, Err as NotMade}
 use Rattle.definitions.specs.Geometry.{axes_of}
 use Rattle.definitions.specs.Raster.{full_address}
 use Rattle.definitions.specs.Record.{record_words, record_at, narrow}
@@ -19,6 +18,7 @@ use Rattle.definitions.specs.Cases.{blank, three_counts}
 use Rattle.definitions.proofs.Demand.{demand3, passed, gives_made, counted-accepted, alone-accepted, case-counted}
 use Rattle.definitions.proofs.Singly.{picture-by-singly}
 use Rattle.definitions.proofs.Cases.{cases}
+use Rattle.upsample.proofs.Staging.{Handed}
 use Rattle.picture.specs.Promised.{PicturePromised, SinglyCounted}
 
 module _ (limit : ℕ) (n : Numbers) (base words : List ℤ) where
@@ -42,9 +42,14 @@ module _ (limit : ℕ) (n : Numbers) (base words : List ℤ) where
   picture-singly (NotMade r) out e w = tt
 
   -- the call's reply and words with the promises of them: the contract's four parts
-  pub picture-kept : (reply : PictureReply) (out : List ℤ) → reply ≡ (picture_call limit n base words).reply → out ≡ (picture_call limit n base words).words
+  picture-kept : (reply : PictureReply) (out : List ℤ) → reply ≡ (picture_call limit n base words).reply → out ≡ (picture_call limit n base words).words
       → (reply ≡ (picture_call limit n base words).reply) × ((out ≡ (picture_call limit n base words).words) × (PicturePromised limit n base words reply out × SinglyCounted limit n base reply out))
   picture-kept reply out r w = (r, (w, (picture-promised reply out r w, picture-singly reply out r w)))
+
+  -- of what is handed over as the call says, by a reply that is it
+  pub handed-kept : (reply said : PictureReply) (out : List ℤ) → reply ≡ said → Handed said out (picture_call limit n base words)
+      → (reply ≡ (picture_call limit n base words).reply) × ((out ≡ (picture_call limit n base words).words) × (PicturePromised limit n base words reply out × SinglyCounted limit n base reply out))
+  handed-kept reply said out e h = picture-kept reply out (e ∙ h.0) h.1
 
 -- The promise alone shuts refusals out: in document 01's whole case none keeps it.
 pub whole-counted : (r : Refusal) (out : List ℤ) → PicturePromised narrow whole_case whole_record (blank 6) (NotMade r) out → ⊥

@@ -2,9 +2,9 @@
 use Rattle.std.specs.Prelude.{ℕ, ◌<◌, ◌≡◌, List, ℤ, pos, length}
 use Rattle.definitions.specs.declared.Numbers.{Numbers}
 use Rattle.definitions.specs.declared.Answer.{Answer}
-use Rattle.definitions.specs.declared.MacroblockReply.TheVariants.{Answered}
-use Rattle.definitions.specs.declared.PictureReply.{PictureReply}
-use Rattle.definitions.specs.declared.PictureReply.TheVariants.{Counted, Refused as NotMade}
+use Rattle.std.specs.Prelude.{Ok as Answered}
+use Rattle.definitions.specs.Replies.{PictureReply}
+use Rattle.std.specs.Prelude.{Ok as Counted, Err as NotMade}
 use Rattle.definitions.specs.Geometry.{axes_of, full_size, macroblocks}
 use Rattle.definitions.specs.Raster.{full_address, full_count}
 use Rattle.definitions.specs.Record.{record_words, record_at}

@@ -1,169 +1,87 @@
-// The picture call of document 01: all base records are checked, then every macroblock is made in raster order.
+// The picture call of document 01, on records of 16-bit words, and on those of 32-bit words (document 02, E12): all base records are checked, then every macroblock is
+// made in raster order.
 #![tactic(auto)]
 
-ghost use Rattle.std.specs.Prelude.{◌*◌, ◌+◌, ◌<◌, ℤ, length, List, ◌≡◌};
-ghost use Rattle.definitions.specs.Accepted.{AcceptedAxes, AcceptedAxis};
+ghost use Rattle.std.specs.Prelude.{◌*◌, ◌+◌, ◌<◌, map, length, ◌≡◌};
 ghost use Rattle.definitions.specs.Calls.{counts_of, made_at, picture_call};
-ghost use Rattle.definitions.specs.Record.{record_words, narrow};
+ghost use Rattle.definitions.specs.Record.{record_words};
 ghost use Rattle.definitions.specs.Basics.{for_each, up_to};
 ghost use Rattle.definitions.specs.Geometry.{full_size, macroblocks};
 ghost use Rattle.definitions.specs.Raster.{full_count};
-ghost use Rattle.macroblock.specs.Made.{read_of};
-ghost use Rattle.picture.specs.Reads.{AxisReads};
-ghost use Rattle.common.specs.Bases.{BaseFormed, BaseRight};
 ghost use Rattle.picture.specs.Promised.{PicturePromised, SinglyCounted};
-ghost use Rattle.picture.specs.Staged.{length_tests, sized_of, sized_picture};
-ghost use Rattle.definitions.specs.Refusals.{verdict_of};
+ghost use Rattle.picture.specs.Reads.{AxisReads};
 
+use bases::{Base, Formed};
 use common::counts::{NO_COUNTS, count_sort};
-use common::raster::{base_count, full_count};
 use common::refusals;
-use common::refusals::refused;
-use common::tests::{base_right, output_right};
-use definitions::{Axes, Axis, Counts, Numbers, PictureReply, RECORD_WORDS, Verdict};
-use geometry::{Checked, Geometry};
+use common::refusals::unless;
+use definitions::{Counts, Numbers, PictureReply, RECORD_WORDS};
+use geometry::tests::output_right;
+use geometry::{CheckedAxis, Geometry};
 use macroblock::{AxisRead, axis_read, fixed_of, make, read_nowhere};
-use scan::check;
+use word::Word;
 
-// ---- Refusals 1 to 6, for records of both widths
-// The geometry is accepted: refusals 5 and 6, for a base of so many words and so many words to write.
-fn lengths_right(g: Axes, words: usize, lent: usize) -> Verdict
-    requires { AcceptedAxes g }
-    ensures { (base out : List ℤ) → length base ≡ words → length out ≡ lent → result ≡ verdict_of (length_tests g base out) }
-{
-    if !base_right(g, words) {
-        return Verdict::Refused(refused(refusals::BASE_LENGTH));
-    }
-    if !output_right(full_count(g), lent) {
-        return Verdict::Refused(refused(refusals::OUTPUT_LENGTH));
-    }
-    Verdict::Accepted
-}
-
-// Refusals 1 to 6: the geometry, or the first of them.
-pub fn sized(n: Numbers, words: usize, lent: usize) -> Checked
-    ensures { (base out : List ℤ) → length base ≡ words → length out ≡ lent → result ≡ sized_of n base out }
-{
-    match Geometry::new(n) {
-        Checked::Geometry(g) => match lengths_right(g.axes(), words, lent) {
-            Verdict::Accepted => Checked::Geometry(g),
-            Verdict::Refused(r) => Checked::Refused(r),
-        },
-        Checked::Refused(r) => Checked::Refused(r),
-    }
-}
-
-// ---- The axes, for records of both widths
+// ---- The axes
 // The horizontal axis at each column of the picture; 256 is the most. It is read into a table that is lent: of one that is handed back by value the compiler keeps
 // copies of 3 KB on the stack.
-pub fn read_columns(a: Axis, reads: &mut [AxisRead])
-    requires { AcceptedAxis a × AxisReads a 0 reads.old }
-    ensures { AxisReads a (macroblocks (full_size a)) reads.new }
+pub fn read_columns(a: CheckedAxis, reads: &mut [AxisRead])
+    requires { AxisReads a.axis 0 reads.old }
+    ensures { AxisReads a.axis (macroblocks (full_size a.axis)) reads.new }
 {
-    let width = a.full.0 / 16;
-    let mut x: u32 = 0;
-    while x < width {
+    let width = a.axis.full.0 / 16;
+    for x in 0..width {
         reads[x as usize] = axis_read(a, x);
-        x += 1;
     }
 }
 
-// The same by value.
-pub fn column_reads(a: Axis) -> [AxisRead; 256]
-    requires { AcceptedAxis a }
-    ensures { AxisReads a (macroblocks (full_size a)) result }
+// Those of a geometry.
+fn read_across(g: Geometry, reads: &mut [AxisRead])
+    requires { AxisReads g.axes.horizontal 0 reads.old }
+    ensures { AxisReads g.axes.horizontal (macroblocks (full_size g.axes.horizontal)) reads.new }
 {
-    let mut reads = [read_nowhere(); 256];
-    read_columns(a, &mut reads);
-    reads
-}
-
-// A macroblock's column and row.
-#[derive(Clone, Copy)]
-pub struct Position {
-    pub column: u32,
-    pub row: u32,
-}
-
-// The next in raster order.
-pub fn next(p: Position, width: u32) -> Position
-    requires { (p.column < width) × (p.row < 256) }
-    ensures address { result.row * width + result.column ≡ p.row * width + p.column + 1 }
-    ensures column { result.column < width }
-    ensures row { 0 < result.column → result.row ≡ p.row }
-{
-    let column = p.column + 1;
-    if column == width {
-        return Position {
-            column: 0,
-            row: p.row + 1,
-        };
-    }
-    Position { column, row: p.row }
-}
-
-// The vertical axis at a row: read at its first column, and kept.
-pub fn row_read(a: Axis, p: Position, kept: AxisRead) -> AxisRead
-    requires { AcceptedAxis a × (p.row < 256) × ((0 < p.column → kept ≡ read_of a p.row)) }
-    ensures { result ≡ read_of a p.row }
-{
-    if p.column == 0 {
-        return axis_read(a, p.row);
-    }
-    kept
+    let across = g.horizontal();
+    read_columns(across, reads);
 }
 
 // ---- The picture
 // Every macroblock, in raster order.
-fn fill(g: Axes, base: &[i16], out: &mut [i16]) -> Counts
-    requires { BaseFormed narrow g base.now × (length out.old ≡ record_words * full_count g) }
-    ensures counts { result ≡ counts_of (up_to (full_count g) (made_at g base.now)) }
-    ensures words { out.new ≡ for_each (up_to (full_count g) (made_at g base.now)) (λ m. m.written) }
+fn fill<W: Word>(base: Formed<W>, out: &mut [W]) -> Counts
+    requires { length out.old ≡ record_words * full_count base.geometry.axes }
+    ensures counts { result ≡ counts_of (up_to (full_count base.entry.geometry.axes) (made_at base.entry.geometry.axes (map W.value base.entry.words.now))) }
+    ensures words { map W.value out.new ≡ for_each (up_to (full_count base.entry.geometry.axes) (made_at base.entry.geometry.axes (map W.value base.entry.words.now))) (λ m. m.written) }
 {
-    let fixed = fixed_of(g);
+    let axes = base.geometry.axes();
+    let fixed = fixed_of(base.geometry);
+    let width = axes.horizontal.full.0 / 16;
+    let height = axes.vertical.full.0 / 16;
     let mut columns = [read_nowhere(); 256];
-    read_columns(g.horizontal, &mut columns);
-    let width = g.horizontal.full.0 / 16;
-    let total = full_count(g);
+    read_across(base.geometry, &mut columns);
     let mut counts = NO_COUNTS;
-    let mut at = Position { column: 0, row: 0 };
-    let mut v = read_nowhere();
-    let mut a: usize = 0;
-    while a < total {
-        let from = RECORD_WORDS * a;
-        let to = from + RECORD_WORDS;
-        let x = at.column as usize;
-        let h = columns[x];
-        v = row_read(g.vertical, at, v);
-        let sort = make(base, fixed, h, v, &mut out[from..to]);
-        counts = count_sort(counts, sort);
-        at = next(at, width);
-        a += 1;
+    for row in 0..height {
+        let v = axis_read(base.geometry.vertical(), row);
+        for column in 0..width {
+            let from = RECORD_WORDS * (row * width + column) as usize;
+            let to = from + RECORD_WORDS;
+            let h = columns[column as usize];
+            let sort = make(base.words, fixed, h, v, &mut out[from..to]);
+            counts = count_sort(counts, sort);
+        }
     }
     counts
 }
 
-// The lengths are right: refusal 8, or the picture.
-fn sized_picture(g: Axes, base: &[i16], out: &mut [i16]) -> PictureReply
-    requires { BaseRight g base.now × (length out.old ≡ record_words * full_count g) }
-    ensures reply { result ≡ (sized_picture narrow g base.now out.old).reply }
-    ensures words { out.new ≡ (sized_picture narrow g base.now out.old).words }
-{
-    match check(base, 0, base_count(g)) {
-        Verdict::Accepted => PictureReply::Counted(fill(g, base, out)),
-        Verdict::Refused(r) => PictureReply::Refused(r),
-    }
-}
-
 // The picture call: geometry, base, and the words of the whole picture to write.
-pub fn upsample_picture(n: Numbers, base: &[i16], out: &mut [i16]) -> PictureReply
-    ensures reply { result ≡ (picture_call narrow n base.now out.old).reply }
-    ensures words { out.new ≡ (picture_call narrow n base.now out.old).words }
-    ensures demand3 { PicturePromised narrow n base.now out.old result out.new }
-    ensures singly { SinglyCounted narrow n base.now result out.new }
+pub fn upsample_picture<W: Word>(n: Numbers, base: &[W], out: &mut [W]) -> PictureReply
+    ensures reply { result ≡ (picture_call W.LIMIT n (map W.value base.now) (map W.value out.old)).reply }
+    ensures words { map W.value out.new ≡ (picture_call W.LIMIT n (map W.value base.now) (map W.value out.old)).words }
+    ensures demand3 { PicturePromised W.LIMIT n (map W.value base.now) (map W.value out.old) result (map W.value out.new) }
+    ensures singly { SinglyCounted W.LIMIT n (map W.value base.now) result (map W.value out.new) }
 {
-    match sized(n, base.len(), out.len()) {
-        Checked::Geometry(g) => sized_picture(g.axes(), base, out),
-        Checked::Refused(r) => PictureReply::Refused(r),
-    }
+    let geometry = Geometry::new(n)?;
+    let base = Base::new(geometry, base)?;
+    unless(
+        output_right(geometry.full_count(), out.len()),
+        refusals::OUTPUT_LENGTH,
+    )?;
+    Ok(fill(base.judged()?, out))
 }

@@ -1,7 +1,7 @@
 // Steps 1 and 2 of "Inheriting", on one quadrant of four blocks in raster order, 0 1 above 2 3.
 #![tactic(auto)]
 
-ghost use Rattle.std.specs.Prelude.{◌≡◌, ◌<◌, nat_lt};
+ghost use Rattle.std.specs.Prelude.{◌≡◌, ◌<◌};
 ghost use Rattle.definitions.specs.Basics.{pick};
 ghost use Rattle.definitions.specs.Inheriting.{filled, merged, source};
 ghost use Rattle.motion.specs.ByValue.{AllReferring, Reference, motions_in};
@@ -57,13 +57,7 @@ fn rank_of(r: i32) -> u32
     requires { Reference r }
     ensures { result ≡ rank_of r }
 {
-    std::num::wrapping_sub_u32((r + 1) as u32, 1)
-}
-
-fn lower_rank(p: u32, q: u32) -> u32
-    ensures { result ≡ pick (nat_lt q p) q p }
-{
-    if q < p { q } else { p }
+    ((r + 1) as u32).wrapping_sub(1)
 }
 
 // The lowest used reference of the four, unused if none is used.
@@ -71,9 +65,9 @@ fn lowest_of(p: i32, q: i32, s: i32, t: i32) -> i32
     requires { Reference p × Reference q × Reference s × Reference t }
     ensures { result ≡ lowest_of p q s t }
 {
-    let above = lower_rank(rank_of(p), rank_of(q));
-    let below = lower_rank(rank_of(s), rank_of(t));
-    std::num::wrapping_add_u32(lower_rank(above, below), 1) as i32 - 1
+    let above = rank_of(p).min(rank_of(q));
+    let below = rank_of(s).min(rank_of(t));
+    above.min(below).wrapping_add(1) as i32 - 1
 }
 
 // Of one list: the lowest used reference, and the block whose vector each block takes with it.
@@ -86,6 +80,7 @@ struct Sources {
     d: usize,
 }
 
+#[tactic(auto, unfolding(definitions::specs::Basics::pick))]
 fn either(own: bool, one: usize, other: usize) -> usize
     ensures { result ≡ pick own one other }
 {
@@ -142,17 +137,9 @@ pub fn merge(m: [BlockMotion; 4]) -> [BlockMotion; 4]
     let t = m[3];
     let f = sources_of(p.r0, q.r0, s.r0, t.r0);
     let g = sources_of(p.r1, q.r1, s.r1, t.r1);
-    let a0 = f.a;
-    let a1 = g.a;
-    let b0 = f.b;
-    let b1 = g.b;
-    let c0 = f.c;
-    let c1 = g.c;
-    let d0 = f.d;
-    let d1 = g.d;
-    let a = joined(f.reference, g.reference, m[a0], m[a1]);
-    let b = joined(f.reference, g.reference, m[b0], m[b1]);
-    let c = joined(f.reference, g.reference, m[c0], m[c1]);
-    let d = joined(f.reference, g.reference, m[d0], m[d1]);
+    let a = joined(f.reference, g.reference, m[f.a], m[g.a]);
+    let b = joined(f.reference, g.reference, m[f.b], m[g.b]);
+    let c = joined(f.reference, g.reference, m[f.c], m[g.c]);
+    let d = joined(f.reference, g.reference, m[f.d], m[g.d]);
     [a, b, c, d]
 }

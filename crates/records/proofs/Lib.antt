@@ -4,6 +4,8 @@ pub mod Undivided
 pub mod Words
 pub mod Searches
 pub mod Ranges
+pub mod Limits
 pub mod FirstBlocks
 pub mod Verdicts
 mod Filled
+mod Parts

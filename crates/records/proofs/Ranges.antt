@@ -35,6 +35,11 @@ narrowed low high z holds = rw (one_number (pos 0) z) (by (eq_z z (pos 0)) refl)
     by true e = and-true (between low high z) ∙ (ap (between low high) (eq_z-true z (pos 0) e) ∙ holds)
     by false e = and-false (between low high z)
 
+-- a range that is given by its ends
+pub ends_are :
+    (r : List ℤ) (first count : ℕ) {t : Bool} {low high a b : ℤ} → t ≡ all_within r first count low high → (low ≡ a) × (high ≡ b) → t ≡ all_within r first count a b
+ends_are r first count e ends = e ∙ (λ i. all_within r first count (ends.0 i) (ends.1 i))
+
 -- ---- Rules 1 to 4
 -- the references of the quadrants are words 5 to 12
 pairs : (f : ℕ → Bool) → all_below 4 (λ q. all_below 2 (λ l. f (5 + 2 * q + l))) ≡ all_below 8 (λ k. f (5 + k))

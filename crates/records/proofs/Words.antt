@@ -1,6 +1,6 @@
 -- What the machine's comparisons of two words tell of the words, and numbers that are cut to words. Assumes nothing.
 use Prim.Native.Nat.{◌<◌}
-use mathlib.Core.Path.{◌≡◌, sym, ◌∙◌}
+use mathlib.Core.Path.{◌≡◌, sym, ap, ◌∙◌}
 use native.Mathlib.Omega.{arith}
 use mathlib.Core.Bool.{true, false, true≢false}
 use lib.Dec.{T, leb}
@@ -11,7 +11,7 @@ use mir.Facts.{sfits_widen, to_z-of_z}
 use mir.Syntax.{Width, w16, w32}
 use mir.Val.{SFits, of_z, to_z}
 use Rattle.definitions.specs.Basics.{between, eq_z}
-use Rattle.definitions.proofs.Choices.{both_true}
+use Rattle.definitions.proofs.Choices.{both_true, eq_z-true}
 use Rattle.definitions.proofs.Motions.{bits-same}
 
 module _ (w : Width) (a b : ℤ) (fa : SFits w a) (fb : SFits w b) where
@@ -20,6 +20,10 @@ module _ (w : Width) (a b : ℤ) (fa : SFits w a) (fb : SFits w b) where
 
   pub bits-are-not : (of_z w a ≡ of_z w b → ⊥) → eq_z a b ≡ false
   bits-are-not ne = sym (bits-same w a b fa fb) ∙ ne_eqb _ _ ne
+
+-- a word that is one number is no other
+pub other : (z a b : ℤ) → eq_z z a ≡ true → eq_z a b ≡ false → eq_z z b ≡ false
+other z a b is differ = ap (λ (y : ℤ). eq_z y b) (eq_z-true z a is) ∙ differ
 
 -- of sixteen bits
 pub word-is : (a b : ℤ) → SFits w16 a → SFits w16 b → of_z w16 a ≡ of_z w16 b → eq_z a b ≡ true

@@ -5,8 +5,8 @@ use Rattle.definitions.specs.declared.SubSplit.TheVariants.{S8x8, S8x4, S4x8, S4
 use Rattle.definitions.specs.declared.SubSplits.{SubSplits}
 use Rattle.definitions.specs.declared.Split.{Split}
 use Rattle.definitions.specs.declared.Split.TheVariants.{S16x16, S16x8, S8x16, S8x8 as Quarters}
-use Rattle.definitions.specs.declared.Verdict.{Verdict}
-use Rattle.definitions.specs.declared.Verdict.TheVariants.{Accepted, Refused}
+use Rattle.definitions.specs.Replies.{Verdict, Accepted}
+use Rattle.std.specs.Prelude.{Err as Refused}
 use Rattle.definitions.specs.Basics.{pick, eq_z, between, all_below, up_to}
 use Rattle.definitions.specs.Record.{word_of, reference_of, vector_x_of, vector_y_of, is_intra, used, split_said, vector_word}
 use Rattle.definitions.specs.Blocks.{quadrant_of, in_quadrant, raster_of}

@@ -1,95 +1,139 @@
-// The tests of 16-bit words by which the quick scan of records (the crate scan) goes. The rules themselves, for both widths, are the crate rules.
-ghost use Rattle.std.specs.Prelude.{◌≡◌, ◌+◌, ◌≤◌, ◌<◌, ℤ, length};
-ghost use Rattle.definitions.specs.Basics.{between, eq_z};
-ghost use Rattle.definitions.specs.Record.{narrow, record_words, rule7, used, vector_word, word_of};
+// The tests of words by which the quick scan of records (the crate scan) and the rules (the crate rules) go.
+ghost use Rattle.std.specs.Prelude.{◌≡◌, ◌+◌, ◌-◌, ◌≤◌, ◌<◌, ℤ, pos, map};
+ghost use Rattle.definitions.specs.Basics.{between, eq_z, minus};
+ghost use Rattle.definitions.specs.Record.{record_words, rule7, used, vector_word, word_of};
 ghost use Rattle.records.specs.Checking.{all_within, block_within, quadrant_used, same_references, same_vectors};
 
 use crate::layout;
 use crate::layout::UNUSED;
-use definitions::NARROW;
+use definitions::RECORD_WORDS;
+use word::Word;
 
 // low..high, both included
 #[derive(Clone, Copy)]
-pub struct Range {
-    low: i16,
-    high: i16,
+pub struct Range<W> {
+    pub low: W,
+    pub high: W,
 }
 
-pub const SUB_TYPES: Range = Range { low: 0, high: 3 };
+fn range_of<W: Word>(low: i16, high: i16) -> Range<W>
+    ensures { (W.value result.low ≡ low) × (W.value result.high ≡ high) }
+{
+    Range {
+        low: W::of(low as i32),
+        high: W::of(high as i32),
+    }
+}
 
-pub const REFERENCES: Range = Range {
-    low: UNUSED,
-    high: 31,
-};
+// Rule 1.
+pub fn types<W: Word>() -> Range<W>
+    ensures { (W.value result.low ≡ pos 0) × (W.value result.high ≡ pos 4) }
+{
+    range_of(0, 4)
+}
 
-const VECTORS: Range = Range {
-    low: -(NARROW as i16),
-    high: NARROW as i16 - 1,
-};
+pub fn sub_types<W: Word>() -> Range<W>
+    ensures { (W.value result.low ≡ pos 0) × (W.value result.high ≡ pos 3) }
+{
+    range_of(0, 3)
+}
+
+pub fn references<W: Word>() -> Range<W>
+    ensures { (W.value result.low ≡ minus 1) × (W.value result.high ≡ pos 31) }
+{
+    range_of(UNUSED, 31)
+}
+
+fn vectors<W: Word>() -> Range<W>
+    ensures { (W.value result.low ≡ minus W.LIMIT) × (W.value result.high ≡ pos (W.LIMIT - 1)) }
+{
+    let above = W::LIMIT as i32;
+    Range {
+        low: W::of(-above),
+        high: W::of(above - 1),
+    }
+}
 
 // Rule 7.
-const DETAILS: Range = Range { low: 0, high: 15 };
+fn details<W: Word>() -> Range<W>
+    ensures { (W.value result.low ≡ pos 0) × (W.value result.high ≡ pos 15) }
+{
+    range_of(0, 15)
+}
 
-pub const ONLY_UNUSED: Range = Range {
-    low: UNUSED,
-    high: UNUSED,
-};
+pub fn only_unused<W: Word>() -> Range<W>
+    ensures { (W.value result.low ≡ minus 1) × (W.value result.high ≡ minus 1) }
+{
+    range_of(UNUSED, UNUSED)
+}
 
-pub const ONLY_ZERO: Range = Range { low: 0, high: 0 };
+pub fn only_zero<W: Word>() -> Range<W>
+    ensures { (W.value result.low ≡ pos 0) × (W.value result.high ≡ pos 0) }
+{
+    range_of(0, 0)
+}
 
 // ---- Words in a range
 // Both tests are made: `&` has no branch. So it is wherever words are tested by `&` below, and the compiler takes several at once.
-fn word_within(words: &[i16], w: usize, range: Range) -> bool
-    requires { (length words.now ≡ record_words) × (w < record_words) }
-    ensures { result ≡ between range.low range.high (word_of words.now w) }
+fn word_within<W: Word>(words: &[W; RECORD_WORDS], w: usize, range: Range<W>) -> bool
+    requires { w < record_words }
+    ensures { result ≡ between (W.value range.low) (W.value range.high) (word_of (map W.value words.now) w) }
 {
     let word = words[w];
-    (range.low <= word) & (word <= range.high)
+    range.low.at_most(word) & word.at_most(range.high)
 }
 
 // Count words from the first on are in the range.
-pub fn all_within(words: &[i16], first: usize, count: usize, range: Range) -> bool
-    requires { (first + count ≤ length words.now) × (length words.now ≡ record_words) }
-    ensures { result ≡ all_within words.now first count range.low range.high }
+pub fn all_within<W: Word>(
+    words: &[W; RECORD_WORDS],
+    first: usize,
+    count: usize,
+    range: Range<W>,
+) -> bool
+    requires { first + count ≤ record_words }
+    ensures { result ≡ all_within (map W.value words.now) first count (W.value range.low) (W.value range.high) }
 {
     let mut right = true;
-    let mut k: usize = 0;
-    while k < count {
+    for k in 0..count {
         right = right & word_within(words, first + k, range);
-        k += 1;
     }
     right
 }
 
 // ---- Rule 4
 // Quadrant q has a used list.
-pub fn quadrant_used(words: &[i16], q: usize) -> bool
-    requires { (length words.now ≡ record_words) × (q < 4) }
-    ensures { result ≡ quadrant_used words.now q }
+pub fn quadrant_used<W: Word>(words: &[W; RECORD_WORDS], q: usize) -> bool
+    requires { q < 4 }
+    ensures { result ≡ quadrant_used (map W.value words.now) q }
 {
     let first = layout::REFERENCES + 2 * q;
-    if words[first] != UNUSED {
+    if words[first].get() != UNUSED as i32 {
         return true;
     }
-    words[first + 1] != UNUSED
+    words[first + 1].get() != UNUSED as i32
 }
 
 // ---- Rule 5
 // The range that the reference at word w allows its vector words.
-pub fn range_by(words: &[i16], w: usize) -> Range
-    requires { (length words.now ≡ record_words) × (w < record_words) }
-    ensures { (v : ℤ) → between result.low result.high v ≡ vector_word narrow (used (word_of words.now w)) v }
+pub fn range_by<W: Word>(words: &[W; RECORD_WORDS], w: usize) -> Range<W>
+    requires { w < record_words }
+    ensures { (v : ℤ) → between (W.value result.low) (W.value result.high) v ≡ vector_word W.LIMIT (used (word_of (map W.value words.now) w)) v }
 {
-    if words[w] == UNUSED {
-        return ONLY_ZERO;
+    if words[w].get() == UNUSED as i32 {
+        return only_zero();
     }
-    VECTORS
+    vectors()
 }
 
 // A block's four vector words, from the first on: those of list 0 are in range0, those of list 1 in range1.
-pub fn block_within(words: &[i16], first: usize, range0: Range, range1: Range) -> bool
-    requires { (length words.now ≡ record_words) × (first + 4 ≤ record_words) }
-    ensures { result ≡ block_within (between range0.low range0.high) (between range1.low range1.high) words.now first }
+pub fn block_within<W: Word>(
+    words: &[W; RECORD_WORDS],
+    first: usize,
+    range0: Range<W>,
+    range1: Range<W>,
+) -> bool
+    requires { first + 4 ≤ record_words }
+    ensures { result ≡ block_within (between (W.value range0.low) (W.value range0.high)) (between (W.value range1.low) (W.value range1.high)) (map W.value words.now) first }
 {
     word_within(words, first, range0)
         & word_within(words, first + 1, range0)
@@ -97,19 +141,19 @@ pub fn block_within(words: &[i16], first: usize, range0: Range, range1: Range) -
         & word_within(words, first + 3, range1)
 }
 
-// ---- Rule 6
+// ---- Rule 6 (the words of a record side by side are no structs, of which `==` could be derived)
 // Words v and w are the same.
-fn same_word(words: &[i16], v: usize, w: usize) -> bool
-    requires { (length words.now ≡ record_words) × (v < record_words) × (w < record_words) }
-    ensures { result ≡ eq_z (word_of words.now v) (word_of words.now w) }
+fn same_word<W: Word>(words: &[W; RECORD_WORDS], v: usize, w: usize) -> bool
+    requires { (v < record_words) × (w < record_words) }
+    ensures { result ≡ eq_z (word_of (map W.value words.now) v) (word_of (map W.value words.now) w) }
 {
-    words[v] == words[w]
+    words[v].get() == words[w].get()
 }
 
 // Quadrants q and e have the same references.
-pub fn same_references(words: &[i16], q: usize, e: usize) -> bool
-    requires { (length words.now ≡ record_words) × (q < 4) × (e < 4) }
-    ensures { result ≡ same_references words.now q e }
+pub fn same_references<W: Word>(words: &[W; RECORD_WORDS], q: usize, e: usize) -> bool
+    requires { (q < 4) × (e < 4) }
+    ensures { result ≡ same_references (map W.value words.now) q e }
 {
     let v = layout::REFERENCES + 2 * q;
     let w = layout::REFERENCES + 2 * e;
@@ -117,9 +161,9 @@ pub fn same_references(words: &[i16], q: usize, e: usize) -> bool
 }
 
 // Blocks b and d have the same vectors.
-pub fn same_vectors(words: &[i16], b: usize, d: usize) -> bool
-    requires { (length words.now ≡ record_words) × (b < 16) × (d < 16) }
-    ensures { result ≡ same_vectors words.now b d }
+pub fn same_vectors<W: Word>(words: &[W; RECORD_WORDS], b: usize, d: usize) -> bool
+    requires { (b < 16) × (d < 16) }
+    ensures { result ≡ same_vectors (map W.value words.now) b d }
 {
     let v = layout::VECTORS + 4 * b;
     let w = layout::VECTORS + 4 * d;
@@ -130,9 +174,8 @@ pub fn same_vectors(words: &[i16], b: usize, d: usize) -> bool
 }
 
 // ---- Rule 7
-pub fn detail_right(words: &[i16]) -> bool
-    requires { length words.now ≡ record_words }
-    ensures { result ≡ rule7 words.now }
+pub fn detail_right<W: Word>(words: &[W; RECORD_WORDS]) -> bool
+    ensures { result ≡ rule7 (map W.value words.now) }
 {
-    word_within(words, layout::DETAIL, DETAILS)
+    word_within(words, layout::DETAIL, details())
 }

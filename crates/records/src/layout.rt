@@ -1,9 +1,9 @@
 // The layout of a motion record: where its words stand, and the numbers of types and sub-types.
 ghost use Rattle.definitions.specs.Answer.{answer_type, sub_types};
-ghost use Rattle.definitions.specs.Record.{sub_type_number, type_number};
+ghost use Rattle.definitions.specs.Record.{type_number};
 ghost use Rattle.std.specs.Prelude.{◌≡◌};
 
-use definitions::{Answer, Split, SubSplit};
+use definitions::{Answer, Split};
 use motion::BlockMotion;
 
 // ---- Words
@@ -21,14 +21,14 @@ pub const VECTORS: usize = 13;
 // Bit q is quadrant q's (document 02, E7).
 pub const DETAIL: usize = 77;
 
-// ---- Types and sub-types
+// ---- Types and sub-types (numbers, since they are words: document 01 gives them)
 pub const INTRA: u8 = 0;
 
 pub const WHOLE: u8 = 1;
 
 pub const OUTSIDE: u8 = 5;
 
-// The number of a split's type.
+// The number of a split's type: no `as`, since a split may hold its sub-types.
 fn type_number(s: Split) -> u8
     ensures { result ≡ type_number s }
 {
@@ -40,37 +40,14 @@ fn type_number(s: Split) -> u8
     }
 }
 
-fn sub_type_number(s: SubSplit) -> u8
-    ensures { result ≡ sub_type_number s }
-{
-    match s {
-        SubSplit::S8x8 => 0,
-        SubSplit::S8x4 => 1,
-        SubSplit::S4x8 => 2,
-        SubSplit::S4x4 => 3,
-    }
-}
-
 // The sub-types of its quadrants: 0 unless it is 8×8.
 pub fn sub_types(s: Split) -> [u8; 4]
     ensures { result ≡ sub_types s }
 {
     match s {
-        Split::S16x16 => [0; 4],
-        Split::S16x8 => [0; 4],
-        Split::S8x16 => [0; 4],
-        Split::S8x8(t) => {
-            let a = t.a;
-            let b = t.b;
-            let c = t.c;
-            let d = t.d;
-            [
-                sub_type_number(a),
-                sub_type_number(b),
-                sub_type_number(c),
-                sub_type_number(d),
-            ]
-        }
+        Split::S16x16 | Split::S16x8 | Split::S8x16 => [0; 4],
+        // Their numbers are their places in the enum.
+        Split::S8x8(t) => [t.a as u8, t.b as u8, t.c as u8, t.d as u8],
     }
 }
 

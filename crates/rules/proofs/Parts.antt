@@ -1,31 +1,26 @@
 -- The parts of rules 4 to 6 as the functions test them. Assumes nothing.
-use Prim.Native.Nat.{ℕ, zero, suc, ◌+◌, ◌-◌, ◌*◌, ◌/◌, ◌%◌, ◌^◌, ◌<◌, ◌≤◌}
-use mathlib.Core.Path.{◌≡◌, refl, sym, ap, ◌∙◌, subst}
+use Prim.Native.Nat.{ℕ, zero, suc, ◌+◌, ◌-◌, ◌*◌, ◌/◌, ◌%◌, ◌<◌}
+use mathlib.Core.Path.{◌≡◌, refl, sym, ap, ◌∙◌}
 use mathlib.Core.Bool.{Bool, true, false, ◌&&◌, ◌||◌, and_assoc}
-use mathlib.Core.List.{List, [], ◌∷◌}
+use mathlib.Core.List.{List, [], ◌∷◌, map}
 use native.Mathlib.Nat.{add-zero}
 use native.Mathlib.Omega.{arith}
 use lib.Bits.{bit_and, and_zero_r, and_le_r}
 use lib.Dec.{eqb}
-use lib.IntN.{ℤ, pos, ◌-ℤ◌}
+use lib.IntN.{ℤ, pos}
 use lib.ListN.{get_or}
-use lib.Signed.{mag}
-use mir.Syntax.{w32}
-use mir.Val.{SFits, of_z, to_z}
-use mir.Facts.{to_z-of_z, to_z_pos}
 use borrow.Author.Tests.{eqb-true}
 use Rattle.definitions.specs.declared.SubSplit.{SubSplit}
 use Rattle.definitions.specs.declared.SubSplit.TheVariants.{S8x8, S8x4, S4x8, S4x4}
 use Rattle.definitions.specs.Basics.{minus, eq_z, all_below}
 use Rattle.definitions.specs.Blocks.{quadrant_of, raster_of}
-use Rattle.definitions.specs.Record.{wide, word_of, reference_of, vector_x_of, vector_y_of, used, fits, motion_of, sub_split_of, rule5, rule6}
+use Rattle.definitions.specs.Record.{record_at, word_of, reference_of, vector_x_of, vector_y_of, used, fits, motion_of, sub_split_of, rule1, rule3, rule5, rule6, rule7}
 use Rattle.definitions.specs.Splits.{same_motion}
 use Rattle.definitions.proofs.Choices.{each, below_true, below-same}
-use Rattle.definitions.proofs.Differences.{sub-pos, pos-minus, zero_minus}
 use Rattle.definitions.proofs.Records.{raster-quadrant, raster-below}
 use Rattle.records.specs.Checking.{all_within, quadrant_used, list_right, sub_first_block, first_block_of, same_references, same_vectors}
 use Rattle.records.proofs.FirstBlocks.{as_first, same-all, motion-parts}
-use Rattle.records.proofs.Ranges.{one_number}
+use Rattle.records.proofs.Ranges.{one_number, types, references}
 use Rattle.records.proofs.Searches.{and-swap, below_both, by-quadrants}
 use Rattle.rules.specs.Searching.{unused_zero}
 
@@ -33,10 +28,31 @@ use Rattle.rules.specs.Searching.{unused_zero}
 first-at : (q : ℕ) → q < 4 → 8 * (q / 2) + 2 * (q % 2) ≡ get_or (0 ∷ 2 ∷ 8 ∷ 10 ∷ []) q 0
 first-at = each (λ q. 8 * (q / 2) + 2 * (q % 2) ≡ get_or (0 ∷ 2 ∷ 8 ∷ 10 ∷ []) q 0) refl refl refl refl
 
--- ---- Rule 4
-pub used-either : (r : List ℤ) (q : ℕ) → (used (word_of r (5 + 2 * q)) || used (word_of r (5 + 2 * q + 1))) ≡ quadrant_used r q
-used-either r q = rw (add-zero (5 + 2 * q))
+-- ---- What the tests of words of either width say of words of 32 bits, which are their numbers
+pub numbers : (r : List ℤ) → map (λ z. z) r ≡ r
+numbers [] = refl
+numbers (z ∷ r) = ap (λ (t : List ℤ). z ∷ t) (numbers r)
 
+pub within :
+    (r : List ℤ) (first count : ℕ) {t : Bool} {low high a b : ℤ} → t ≡ all_within (map (λ z. z) r) first count low high → low ≡ a → high ≡ b → t ≡ all_within r first count a b
+within r first count e l h = e ∙ (λ i. all_within (numbers r i) first count (l i) (h i))
+
+pub zero_within : (r : List ℤ) (first : ℕ) {t : Bool} {low high : ℤ} → t ≡ all_within (map (λ z. z) r) first 2 low high → low ≡ pos 0 → high ≡ pos 0 → t ≡ all_within r first 2 (pos 0) (pos 0)
+zero_within r first e l h = within r first 2 e l h
+
+pub types-by : (r : List ℤ) {t : Bool} {low high : ℤ} → t ≡ all_within (map (λ z. z) r) 0 1 low high → (low ≡ pos 0) × (high ≡ pos 4) → rule1 r ≡ t
+types-by r e range = types r ∙ sym (within r 0 1 e range.0 range.1)
+
+pub references_by : (r : List ℤ) {t : Bool} {low high : ℤ} → t ≡ all_within (map (λ z. z) r) 5 8 low high → (low ≡ minus 1) × (high ≡ pos 31) → rule3 r ≡ t
+references_by r e range = references r ∙ sym (within r 5 8 e range.0 range.1)
+
+pub detail-by : (r : List ℤ) {t : Bool} → t ≡ rule7 (map (λ z. z) r) → rule7 r ≡ t
+detail-by r e = sym (e ∙ ap rule7 (numbers r))
+
+pub here : (base r : List ℤ) (a : ℕ) → map (λ z. z) r ≡ record_at (map (λ z. z) base) a → r ≡ record_at base a
+here base r a e = sym (numbers r) ∙ (e ∙ ap (λ (b : List ℤ). record_at b a) (numbers base))
+
+-- ---- Rule 4
 pub four-used :
     (r : List ℤ) {t0 t1 t2 t3 : Bool} → t0 ≡ quadrant_used r 0 → t1 ≡ quadrant_used r 1 → t2 ≡ quadrant_used r 2 → t3 ≡ quadrant_used r 3 →
     (((t0 && t1) && t2) && t3) ≡ all_below 4 (quadrant_used r)
@@ -44,37 +60,6 @@ unfolding all_below
 four-used r e0 e1 e2 e3 = λ i. ((e0 i && e1 i) && e2 i) && e3 i
 
 -- ---- Rule 5
--- −limit and limit − 1, as they are computed
-minus-size : (n m : ℕ) → n < m → mag (minus n) < m
-minus-size zero m h = h
-minus-size (suc n) m h = omega arith
-
-module _ (limit : ℕ) (most : limit ≤ wide) where
-  small : limit < 2 ^ 31
-  small = omega arith
-
-  low : to_z w32 0 -ℤ to_z w32 limit ≡ minus limit
-  low = ap (λ (z : ℤ). pos 0 -ℤ z) (to_z_pos w32 small) ∙ zero_minus limit
-
-  minus-fits : SFits w32 (minus limit)
-  minus-fits = record { sfits = minus-size limit (2 ^ 31) small }
-
-  pub low_fits : SFits w32 (to_z w32 0 -ℤ to_z w32 limit)
-  low_fits = subst (SFits w32) (sym low) minus-fits
-
-  pub low-is : to_z w32 (of_z w32 (to_z w32 0 -ℤ to_z w32 limit)) ≡ minus limit
-  low-is = to_z-of_z low_fits ∙ low
-
-  module _ (some : 0 < limit) where
-    high : to_z w32 limit -ℤ to_z w32 1 ≡ pos (limit - 1)
-    high = ap (λ (z : ℤ). z -ℤ pos 1) (to_z_pos w32 small) ∙ (pos-minus limit 1 ∙ sub-pos limit 1 (omega arith))
-
-    pub high_fits : SFits w32 (to_z w32 limit -ℤ to_z w32 1)
-    high_fits = subst (SFits w32) (sym high) (record { sfits = omega arith })
-
-    pub high_is : to_z w32 (of_z w32 (to_z w32 limit -ℤ to_z w32 1)) ≡ pos (limit - 1)
-    high_is = to_z-of_z high_fits ∙ high
-
 -- two words are 0
 zero-pair : (r : List ℤ) (w : ℕ) → all_within r w 2 (pos 0) (pos 0) ≡ (eq_z (word_of r w) (pos 0) && eq_z (word_of r (w + 1)) (pos 0))
 unfolding all_within all_below

@@ -1,5 +1,5 @@
 -- The first broken rule by its parts, and the verdict on the records from an address on by what the search has found there. Assumes nothing.
-use Prim.Native.Nat.{ℕ, ◌+◌, ◌<◌, ◌≤◌}
+use Prim.Native.Nat.{ℕ, zero, suc, ◌+◌, ◌<◌, ◌≤◌}
 use mathlib.Core.Path.{◌≡◌, refl, sym, ap, ◌∙◌}
 use mathlib.Core.Bool.{Bool, true, false, not}
 use mathlib.Core.List.{List}
@@ -7,13 +7,14 @@ use native.Mathlib.Omega.{arith}
 use lib.Dec.{eqb}
 use lib.IntN.{ℤ}
 use borrow.Author.Tests.{eq-eqb, ne_eqb}
+use Rattle.std.specs.Prelude.{Option, None, Some}
 use Rattle.definitions.specs.Basics.{pick, all_below}
 use Rattle.definitions.specs.Record.{record_at, rule1, rule2, rule3, rule4, rule5, rule6, rule7, first_broken}
 use Rattle.definitions.specs.Refusals.{verdict_of, record_tests}
 use Rattle.definitions.proofs.Choices.{yes, no}
 use Rattle.records.specs.Checking.{found_at, addresses}
 use Rattle.records.proofs.Searches.{search-end, search-fault}
-use Rattle.records.proofs.Verdicts.{verdict, verdict-end, verdict-here, verdict-more}
+use Rattle.records.proofs.Verdicts.{verdict, verdict-here, verdict-more}
 use Rattle.rules.specs.Searching.{head_broken, pieces_right}
 use Rattle.rules.proofs.Parts.{same-quadrants}
 
@@ -27,6 +28,59 @@ head_first false true c d rest = refl
 head_first false false true d rest = refl
 head_first false false false true rest = refl
 head_first false false false false rest = refl
+
+-- by the rules before it
+module _ (r : List ℤ) where
+  pub head_1 : rule1 r ≡ false → head_broken r ≡ 1
+  unfolding head_broken
+  head_1 e = yes _ _ (ap not e)
+
+  module _ (e1 : rule1 r ≡ true) where
+    pub head_2 : rule2 r ≡ false → head_broken r ≡ 2
+    unfolding head_broken
+    head_2 e = no _ _ (ap not e1) ∙ yes _ _ (ap not e)
+
+    module _ (e2 : rule2 r ≡ true) where
+      pub head_3 : rule3 r ≡ false → head_broken r ≡ 3
+      unfolding head_broken
+      head_3 e = no _ _ (ap not e1) ∙ (no _ _ (ap not e2) ∙ yes _ _ (ap not e))
+
+      module _ (e3 : rule3 r ≡ true) where
+        pub head_4 : rule4 r ≡ false → head_broken r ≡ 4
+        unfolding head_broken
+        head_4 e = no _ _ (ap not e1) ∙ (no _ _ (ap not e2) ∙ (no _ _ (ap not e3) ∙ yes _ _ (ap not e)))
+
+        pub head-none : rule4 r ≡ true → head_broken r ≡ 0
+        unfolding head_broken
+        head-none e = no _ _ (ap not e1) ∙ (no _ _ (ap not e2) ∙ (no _ _ (ap not e3) ∙ no _ _ (ap not e)))
+
+-- a number of a rule, or none for 0
+abbrev pub numbered : ℕ → Option ℕ
+numbered n = pick (eqb n 0) None (Some n)
+
+-- a number that is not 0
+numbered-further : (n : ℕ) → (n ≡ 0 → ⊥) → numbered n ≡ Some n
+numbered-further n h = no _ _ (ne_eqb n 0 h)
+
+pub some_number : (m n : ℕ) → m ≡ n → (n ≡ 0 → ⊥) → Some n ≡ numbered m
+some_number m n e h = sym (ap numbered e ∙ numbered-further n h)
+
+pub no_number : (m : ℕ) → m ≡ 0 → ◌≡◌ {A = Option ℕ} None (numbered m)
+no_number m e = sym (yes _ _ (eq-eqb m 0 e))
+
+further : Option ℕ → ℕ
+further None = 0
+further (Some n) = suc n
+
+pub number_of : (m n : ℕ) → Some n ≡ numbered m → (n ≡ m) × (0 < n)
+unfolding further
+number_of zero n e = let h : suc n ≡ 0 = ap further (e ∙ sym (no_number 0 refl)) in absurd (omega arith)
+number_of (suc m) n e = let h : suc n ≡ suc (suc m) = ap further (e ∙ numbered-further (suc m) (λ z. omega arith)) in (omega arith, omega arith)
+
+pub number-none : (m : ℕ) → ◌≡◌ {A = Option ℕ} None (numbered m) → m ≡ 0
+unfolding further
+number-none zero e = refl
+number-none (suc m) e = let h : 0 ≡ suc (suc m) = ap further (e ∙ numbered-further (suc m) (λ z. omega arith)) in absurd (omega arith)
 
 module _ (limit : ℕ) (r : List ℤ) where
   abbrev tail_broken : ℕ
@@ -57,10 +111,6 @@ module _ (limit : ℕ) (r : List ℤ) where
 
 -- ---- The verdict on the records from an address on
 module _ (limit : ℕ) (base : List ℤ) (a to : ℕ) where
-  pub found-end : to ≤ a → found_at a 0 ≡ verdict limit base a to
-  unfolding found_at
-  found-end h = yes _ _ refl ∙ verdict-end limit base a to h
-
   module _ (h : a < to) (r : List ℤ) (here : r ≡ record_at base a) where
     pub found-head : (n : ℕ) → n ≡ head_broken r → (n ≡ 0 → ⊥) → found_at a n ≡ verdict limit base a to
     found-head n e broken = verdict-here limit base a to h r here n (broken-head limit r n (sym e) broken) broken

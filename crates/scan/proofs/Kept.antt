@@ -21,8 +21,8 @@ rules-formed limit r k =
     ∙ (no _ _ (ap not k.sub-types) ∙ (no _ _ (ap not k.references) ∙ (no _ _ (ap not k.lists) ∙ (no _ _ (ap not k.vectors) ∙ (no _ _ (ap not k.pieces) ∙ no _ _ (ap not k.detail)))))))
 
 -- ---- Rule 7 broken
-pub detail-broken : (limit : ℕ) (r : List ℤ) → rule7 r ≡ false → well_formed limit r ≡ false
-detail-broken limit r e = by (well_formed limit r) refl
+pub detail_broken : (limit : ℕ) (r : List ℤ) → rule7 r ≡ false → well_formed limit r ≡ false
+detail_broken limit r e = by (well_formed limit r) refl
   where
     by : (t : Bool) → well_formed limit r ≡ t → t ≡ false
     by true f = absurd (true≢false (sym (rules-of limit r f).detail ∙ e))

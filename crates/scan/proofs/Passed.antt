@@ -11,8 +11,8 @@ use lib.ListN.{length}
 use lib.Seq.{take_all}
 use borrow.Author.Tests.{eqb-true, eqb-false}
 use Rattle.definitions.specs.declared.Refusal.{Refusal}
-use Rattle.definitions.specs.declared.Verdict.{Verdict}
-use Rattle.definitions.specs.declared.Verdict.TheVariants.{Accepted, Refused}
+use Rattle.definitions.specs.Replies.{Verdict, Accepted}
+use Rattle.std.specs.Prelude.{Err as Refused}
 use Rattle.definitions.specs.Record.{record_at, record_words, first_broken, well_formed}
 use Rattle.definitions.proofs.Choices.{no}
 use Rattle.records.specs.Checking.{found_at}
@@ -58,6 +58,10 @@ number_in (Refused r) = r.number
 rule_in : Verdict → ℕ
 rule_in Accepted = 0
 rule_in (Refused r) = r.rule
+
+-- the verdict for a limit by its value
+pub for-limit : (limit : ℕ) (r : List ℤ) {n : ℕ} {v : Verdict} → v ≡ verdict n r 0 1 → n ≡ limit → v ≡ verdict limit r 0 1
+for-limit limit r e same = e ∙ ap (λ (n : ℕ). verdict n r 0 1) same
 
 module _ (limit : ℕ) (r : List ℤ) (whole : length r ≡ record_words) (broken : well_formed limit r ≡ false) where
   found-alone : found_at 0 (first_broken limit r) ≡ verdict limit r 0 1

@@ -94,23 +94,25 @@ module _ (r : List ℤ) where
     abbrev pub again : ℕ → Bool
     again k = same_vectors r (first + k + step) (first + k)
 
-    -- so far: none, and one more
-    pub repeat-none : true ≡ all_below (first - first) again
+    -- so far, up to block b: none, and one more
+    pub repeat-none : true ≡ all_below (first + step - (first + step)) again
     unfolding all_below
-    repeat-none = let none : 0 ≡ first - first = omega arith in ap (λ (n : ℕ). all_below n again) none
+    repeat-none = let none : 0 ≡ first + step - (first + step) = omega arith in ap (λ (n : ℕ). all_below n again) none
 
     pub repeat-more :
-        (b : ℕ) → first ≤ b → {same here : Bool} → same ≡ all_below (b - first) again → here ≡ same_vectors r (b + step) b → (same && here) ≡ all_below (b + 1 - first) again
+        (b : ℕ) → first + step ≤ b → {same here : Bool} → same ≡ all_below (b - (first + step)) again → here ≡ same_vectors r b (b - step) →
+        (same && here) ≡ all_below (b + 1 - (first + step)) again
     repeat-more b low so_far next =
-        let at : b ≡ first + (b - first) = omega arith in
-        let more : b - first + 1 ≡ b + 1 - first = omega arith in
-        below_more again (b - first) so_far (next ∙ ap (λ (d : ℕ). same_vectors r (d + step) d) at) ∙ ap (λ (n : ℕ). all_below n again) more
+        let at : b ≡ first + (b - (first + step)) + step = omega arith in
+        let before : b - step ≡ first + (b - (first + step)) = omega arith in
+        let more : b - (first + step) + 1 ≡ b + 1 - (first + step) = omega arith in
+        below_more again (b - (first + step)) so_far (next ∙ (λ i. same_vectors r (at i) (before i))) ∙ ap (λ (n : ℕ). all_below n again) more
 
     module _ (end : ℕ) where
       pub repeat-end :
-          (b : ℕ) → b - first ≤ end - (first + step) → end ≤ b + step → {same : Bool} → same ≡ all_below (b - first) again → same ≡ vectors_repeat r first end step
+          (b : ℕ) → b - (first + step) ≤ end - (first + step) → end ≤ b → {same : Bool} → same ≡ all_below (b - (first + step)) again → same ≡ vectors_repeat r first end step
       unfolding vectors_repeat
-      repeat-end b low high so_far = let all : b - first ≡ end - (first + step) = omega arith in so_far ∙ ap (λ (n : ℕ). all_below n again) all
+      repeat-end b low high so_far = let all : b - (first + step) ≡ end - (first + step) = omega arith in so_far ∙ ap (λ (n : ℕ). all_below n again) all
 
       abbrev Repeated : Type 0
       Repeated = (b : ℕ) → first ≤ b → b + step < end → same_vectors r (b + step) b ≡ true

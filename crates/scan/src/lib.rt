@@ -1,34 +1,35 @@
-// A quick scan of motion records of 16-bit words, which passes those that are well formed and no other. Of the first that it does not pass the crate rules tells what it breaks.
+// A quick scan of motion records, which passes those that are well formed and no other. Of the first that it does not pass the crate rules tells what it breaks.
 // Tests joined by `&` and `|` have no branch between them, and the compiler takes several words at once.
 #![tactic(auto)]
 
-ghost use Rattle.std.specs.Prelude.{◌≡◌, true, false, ◌&&◌, ℕ, ◌*◌, ◌≤◌, ◌<◌, pos, length};
+ghost use Rattle.std.specs.Prelude.{◌≡◌, true, false, ◌&&◌, ℕ, ◌*◌, ◌≤◌, ◌<◌, pos, map, length};
 ghost use Rattle.definitions.specs.Basics.{all_below, eq_z};
-ghost use Rattle.definitions.specs.Record.{is_intra, narrow, record_at, record_words, rule2, rule3, rule4, rule7, type_of, well_formed};
+ghost use Rattle.definitions.specs.Record.{is_intra, record_at, record_words, rule2, rule3, rule4, rule7, type_of, well_formed};
 ghost use Rattle.definitions.specs.Refusals.{record_tests, verdict_of};
 ghost use Rattle.records.specs.Checking.{addresses, list_right};
 ghost use Rattle.scan.specs.Quick.{block_right, quadrant_right, sub_as_first, vectors_repeat};
 
-use definitions::{NARROW, RECORD_WORDS, Refusal, Verdict};
+use definitions::{RECORD_WORDS, Refusal, Verdict};
 use records::read::record_at;
 use records::{check, layout};
+use word::Word;
 
 // ---- Type 0, intra
 // No sub-type but 0, no reference but -1, no vector but 0.
-fn quick_intra(words: &[i16]) -> bool
-    requires { (length words.now ≡ record_words) × (is_intra words.now ≡ true) × (rule7 words.now ≡ true) }
-    ensures { result ≡ well_formed narrow words.now }
+fn quick_intra<W: Word>(words: &[W; RECORD_WORDS]) -> bool
+    requires { (is_intra (map W.value words.now) ≡ true) × (rule7 (map W.value words.now) ≡ true) }
+    ensures { result ≡ well_formed W.LIMIT (map W.value words.now) }
 {
-    check::all_within(words, layout::SUB_TYPES, 4, check::ONLY_ZERO)
-        & check::all_within(words, layout::REFERENCES, 8, check::ONLY_UNUSED)
-        & check::all_within(words, layout::VECTORS, 64, check::ONLY_ZERO)
+    check::all_within(words, layout::SUB_TYPES, 4, check::only_zero())
+        & check::all_within(words, layout::REFERENCES, 8, check::only_unused())
+        & check::all_within(words, layout::VECTORS, 64, check::only_zero())
 }
 
 // ---- Types 1 to 4
 // Rule 5 of block b: its vectors are as the references of its quadrant allow.
-fn block_vectors(words: &[i16], b: usize) -> bool
-    requires { (length words.now ≡ record_words) × (b < 16) }
-    ensures { result ≡ all_below 2 (list_right narrow words.now b) }
+fn block_vectors<W: Word>(words: &[W; RECORD_WORDS], b: usize) -> bool
+    requires { b < 16 }
+    ensures { result ≡ all_below 2 (list_right W.LIMIT (map W.value words.now) b) }
 {
     let reference = layout::REFERENCES + 2 * (2 * (b / 8) + b % 4 / 2);
     let range0 = check::range_by(words, reference);
@@ -38,42 +39,40 @@ fn block_vectors(words: &[i16], b: usize) -> bool
 
 // ---- Types 1 to 3: a few blocks are tested, and the others have their motion
 // Rules 2 and 3 of a type that has no sub-types.
-fn undivided_head(words: &[i16]) -> bool
-    requires { (length words.now ≡ record_words) × (eq_z (type_of words.now) (pos 4) ≡ false) }
-    ensures { result ≡ (rule2 words.now && rule3 words.now) }
+fn undivided_head<W: Word>(words: &[W; RECORD_WORDS]) -> bool
+    requires { eq_z (type_of (map W.value words.now)) (pos 4) ≡ false }
+    ensures { result ≡ (rule2 (map W.value words.now) && rule3 (map W.value words.now)) }
 {
-    if !check::all_within(words, layout::SUB_TYPES, 4, check::ONLY_ZERO) {
+    if !check::all_within(words, layout::SUB_TYPES, 4, check::only_zero()) {
         return false;
     }
-    check::all_within(words, layout::REFERENCES, 8, check::REFERENCES)
+    check::all_within(words, layout::REFERENCES, 8, check::references())
 }
 
 // Rules 4 and 5 of block b.
-fn block_right(words: &[i16], b: usize) -> bool
-    requires { (length words.now ≡ record_words) × (b < 16) }
-    ensures { result ≡ block_right narrow words.now b }
+fn block_right<W: Word>(words: &[W; RECORD_WORDS], b: usize) -> bool
+    requires { b < 16 }
+    ensures { result ≡ block_right W.LIMIT (map W.value words.now) b }
 {
     check::quadrant_used(words, 2 * (b / 8) + b % 4 / 2) & block_vectors(words, b)
 }
 
 // Of blocks first..end-1, each has the vectors of the one that is a step before it, if that is one of them.
-fn vectors_repeat(words: &[i16], first: usize, end: usize, step: usize) -> bool
-    requires { (length words.now ≡ record_words) × (first ≤ 16) × (end ≤ 16) × (step ≤ 16) }
-    ensures { result ≡ vectors_repeat words.now first end step }
+fn vectors_repeat<W: Word>(words: &[W; RECORD_WORDS], first: usize, end: usize, step: usize) -> bool
+    requires { (first ≤ 16) × (end ≤ 16) × (step ≤ 16) }
+    ensures { result ≡ vectors_repeat (map W.value words.now) first end step }
 {
     let mut same = true;
-    let mut b = first;
-    while b + step < end {
-        same = same & check::same_vectors(words, b + step, b);
-        b += 1;
+    for b in first + step..end {
+        same = same & check::same_vectors(words, b, b - step);
     }
     same
 }
 
 // Type 1, 16×16: all blocks as block 0.
-fn quick_whole(words: &[i16]) -> bool
-    requires { (length words.now ≡ record_words) × (eq_z (type_of words.now) (pos 1) ≡ true) × (rule7 words.now ≡ true) }
-    ensures { result ≡ well_formed narrow words.now }
+fn quick_whole<W: Word>(words: &[W; RECORD_WORDS]) -> bool
+    requires { (eq_z (type_of (map W.value words.now)) (pos 1) ≡ true) × (rule7 (map W.value words.now) ≡ true) }
+    ensures { result ≡ well_formed W.LIMIT (map W.value words.now) }
 {
     if !undivided_head(words) {
         return false;
@@ -87,9 +86,9 @@ fn quick_whole(words: &[i16]) -> bool
 }
 
 // Type 2, 16×8: the blocks of the upper half as block 0, those of the lower as block 8.
-fn quick_rows(words: &[i16]) -> bool
-    requires { (length words.now ≡ record_words) × (eq_z (type_of words.now) (pos 2) ≡ true) × (rule7 words.now ≡ true) }
-    ensures { result ≡ well_formed narrow words.now }
+fn quick_rows<W: Word>(words: &[W; RECORD_WORDS]) -> bool
+    requires { (eq_z (type_of (map W.value words.now)) (pos 2) ≡ true) × (rule7 (map W.value words.now) ≡ true) }
+    ensures { result ≡ well_formed W.LIMIT (map W.value words.now) }
 {
     if !undivided_head(words) {
         return false;
@@ -105,9 +104,9 @@ fn quick_rows(words: &[i16]) -> bool
 }
 
 // Type 3, 8×16: the blocks of the left half as block 0, those of the right as block 2.
-fn quick_columns(words: &[i16]) -> bool
-    requires { (length words.now ≡ record_words) × (eq_z (type_of words.now) (pos 3) ≡ true) × (rule7 words.now ≡ true) }
-    ensures { result ≡ well_formed narrow words.now }
+fn quick_columns<W: Word>(words: &[W; RECORD_WORDS]) -> bool
+    requires { (eq_z (type_of (map W.value words.now)) (pos 3) ≡ true) × (rule7 (map W.value words.now) ≡ true) }
+    ensures { result ≡ well_formed W.LIMIT (map W.value words.now) }
 {
     if !undivided_head(words) {
         return false;
@@ -123,21 +122,21 @@ fn quick_columns(words: &[i16]) -> bool
 
 // ---- Type 4, 8×8
 // The blocks of quadrant q, which are i, i + 1, i + 4 and i + 5, have the vectors of the first block of their sub-partition.
-fn same_in_quadrant(words: &[i16], q: usize) -> bool
-    requires { (length words.now ≡ record_words) × (q < 4) }
-    ensures { result ≡ sub_as_first words.now q }
+fn same_in_quadrant<W: Word>(words: &[W; RECORD_WORDS], q: usize) -> bool
+    requires { q < 4 }
+    ensures { result ≡ sub_as_first (map W.value words.now) q }
 {
     let i = 8 * (q / 2) + 2 * (q % 2);
-    let sub = words[layout::SUB_TYPES + q];
+    let sub = words[layout::SUB_TYPES + q].get();
     let rows = check::same_vectors(words, i, i + 1) & check::same_vectors(words, i + 4, i + 5);
     let columns = check::same_vectors(words, i, i + 4) & check::same_vectors(words, i + 1, i + 5);
     (rows | ((sub != 0) & (sub != 1))) & (columns | ((sub != 0) & (sub != 2)))
 }
 
 // Rules 5 and 6 of quadrant q.
-fn quick_quadrant(words: &[i16], q: usize) -> bool
-    requires { (length words.now ≡ record_words) × (q < 4) }
-    ensures { result ≡ quadrant_right narrow words.now q }
+fn quick_quadrant<W: Word>(words: &[W; RECORD_WORDS], q: usize) -> bool
+    requires { q < 4 }
+    ensures { result ≡ quadrant_right W.LIMIT (map W.value words.now) q }
 {
     let i = 8 * (q / 2) + 2 * (q % 2);
     block_vectors(words, i)
@@ -148,12 +147,12 @@ fn quick_quadrant(words: &[i16], q: usize) -> bool
 }
 
 // Rules 2 to 4.
-fn quarters_head(words: &[i16]) -> bool
-    requires { (length words.now ≡ record_words) × (eq_z (type_of words.now) (pos 4) ≡ true) }
-    ensures { result ≡ ((rule2 words.now && rule3 words.now) && rule4 words.now) }
+fn quarters_head<W: Word>(words: &[W; RECORD_WORDS]) -> bool
+    requires { eq_z (type_of (map W.value words.now)) (pos 4) ≡ true }
+    ensures { result ≡ ((rule2 (map W.value words.now) && rule3 (map W.value words.now)) && rule4 (map W.value words.now)) }
 {
-    check::all_within(words, layout::SUB_TYPES, 4, check::SUB_TYPES)
-        & check::all_within(words, layout::REFERENCES, 8, check::REFERENCES)
+    check::all_within(words, layout::SUB_TYPES, 4, check::sub_types())
+        & check::all_within(words, layout::REFERENCES, 8, check::references())
         & (check::quadrant_used(words, 0)
             & check::quadrant_used(words, 1)
             & check::quadrant_used(words, 2)
@@ -161,106 +160,86 @@ fn quarters_head(words: &[i16]) -> bool
 }
 
 // They, and each quadrant.
-fn quick_quarters(words: &[i16]) -> bool
-    requires { (length words.now ≡ record_words) × (eq_z (type_of words.now) (pos 4) ≡ true) × (rule7 words.now ≡ true) }
-    ensures { result ≡ well_formed narrow words.now }
+fn quick_quarters<W: Word>(words: &[W; RECORD_WORDS]) -> bool
+    requires { (eq_z (type_of (map W.value words.now)) (pos 4) ≡ true) × (rule7 (map W.value words.now) ≡ true) }
+    ensures { result ≡ well_formed W.LIMIT (map W.value words.now) }
 {
     if !quarters_head(words) {
         return false;
     }
-    let mut q: usize = 0;
-    while q < 4 {
+    for q in 0..4usize {
         if !quick_quadrant(words, q) {
             return false;
         }
-        q += 1;
     }
     true
 }
 
 // ---- The scan
 // Whether a record that keeps rule 7 is well formed: by its type.
-fn quick_by_type(words: &[i16]) -> bool
-    requires { (length words.now ≡ record_words) × (rule7 words.now ≡ true) }
-    ensures { result ≡ well_formed narrow words.now }
+fn quick_by_type<W: Word>(words: &[W; RECORD_WORDS]) -> bool
+    requires { rule7 (map W.value words.now) ≡ true }
+    ensures { result ≡ well_formed W.LIMIT (map W.value words.now) }
 {
-    let kind = words[layout::TYPE];
-    if kind == 0 {
-        return quick_intra(words);
+    match words[layout::TYPE].get() {
+        0 => quick_intra(words),
+        1 => quick_whole(words),
+        2 => quick_rows(words),
+        3 => quick_columns(words),
+        4 => quick_quarters(words),
+        _ => false,
     }
-    if kind == 1 {
-        return quick_whole(words);
-    }
-    if kind == 2 {
-        return quick_rows(words);
-    }
-    if kind == 3 {
-        return quick_columns(words);
-    }
-    if kind == 4 {
-        return quick_quarters(words);
-    }
-    false
 }
 
 // The record is well formed.
-fn quick(words: &[i16]) -> bool
-    requires { length words.now ≡ record_words }
-    ensures { result ≡ well_formed narrow words.now }
+#[tactic(auto, using(crate::proofs::Kept::detail_broken))]
+fn quick<W: Word>(words: &[W; RECORD_WORDS]) -> bool
+    ensures { result ≡ well_formed W.LIMIT (map W.value words.now) }
 {
-    if !check::detail_right(words) {
-        return false;
-    }
-    quick_by_type(words)
+    check::detail_right(words) && quick_by_type(words)
 }
 
 // The first of records from..to-1 that is malformed, or to.
-fn first_not_quick(base: &[i16], from: usize, to: usize) -> usize
+fn first_not_quick<W: Word>(base: &[W], from: usize, to: usize) -> usize
     requires { (to * record_words ≤ length base.now) × (from ≤ to) × (to ≤ 65536) }
-    ensures { (from ≤ result) × (result ≤ to) × ((k : ℕ) → from ≤ k → k < result → well_formed narrow (record_at base.now k) ≡ true) × (result < to → well_formed narrow (record_at base.now result) ≡ false) }
+    ensures { (from ≤ result) × (result ≤ to) × ((k : ℕ) → from ≤ k → k < result → well_formed W.LIMIT (record_at (map W.value base.now) k) ≡ true) × (result < to → well_formed W.LIMIT (record_at (map W.value base.now) result) ≡ false) }
 {
-    let mut a = from;
-    while a < to {
-        let words = record_at(base, a);
-        if !quick(words) {
+    for a in from..to {
+        if !quick(record_at(base, a)) {
             return a;
         }
-        a += 1;
     }
-    a
+    to
 }
 
-// The words of a record in 32 bits each, for the rules.
-fn widened(words: &[i16]) -> [i32; RECORD_WORDS]
-    requires { length words.now ≡ record_words }
-    ensures { result ≡ words.now }
+// The numbers of a record's words, for the rules.
+fn widened<W: Word>(words: &[W; RECORD_WORDS]) -> [i32; RECORD_WORDS]
+    ensures { result ≡ map W.value words.now }
 {
     let mut copy = [0i32; RECORD_WORDS];
-    let mut w: usize = 0;
-    while w < RECORD_WORDS {
-        copy[w] = words[w] as i32;
-        w += 1;
+    for w in 0..RECORD_WORDS {
+        copy[w] = words[w].get();
     }
     copy
 }
 
 // Records from..to-1 are well formed, or refusal 8 at the lowest that is not, with its first broken rule. Records that are well formed leave it to those after them (`verdict-from`);
 // of the first that is not, the rules are asked, as of a base of that record alone (`verdict-at`).
-pub fn check(base: &[i16], from: usize, to: usize) -> Verdict
+pub fn check<W: Word>(base: &[W], from: usize, to: usize) -> Verdict
     requires { (to * record_words ≤ length base.now) × (from ≤ to) × (to ≤ 65536) }
-    ensures { result ≡ verdict_of (record_tests narrow base.now (addresses from to)) }
+    ensures { result ≡ verdict_of (record_tests W.LIMIT (map W.value base.now) (addresses from to)) }
 {
     let a = first_not_quick(base, from, to);
     if a == to {
-        return Verdict::Accepted;
+        return Ok(());
     }
     let copy = widened(record_at(base, a));
-    match rules::check(&copy, 0, 1, NARROW) {
-        Verdict::Accepted => Verdict::Accepted,
-        Verdict::Refused(r) => Verdict::Refused(Refusal {
-            number: r.number,
+    // a match: `map_err` was tried, and the proof of its closure did not close
+    match rules::check(&copy, 0, 1, W::LIMIT) {
+        Ok(()) => Ok(()),
+        Err(r) => Err(Refusal {
             place: a as u32,
-            rule: r.rule,
+            ..r
         }),
     }
 }

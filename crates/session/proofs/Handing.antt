@@ -1,8 +1,12 @@
 -- What each call gives and hands back, stage by stage. Assumes nothing.
-use Prim.Native.Nat.{ℕ, ◌<◌}
+use Prim.Native.Nat.{ℕ, ◌<◌, ◌^◌}
 use mathlib.Core.Path.{◌≡◌, refl, sym, ap, subst, ◌∙◌}
 use mathlib.Core.Bool.{true, false, not}
-use mathlib.Core.List.{List}
+use mathlib.Core.List.{List, map}
+use Rattle.std.proofs.lemmas.List.{map-id}
+use mir.Facts.{to_z_pos}
+use mir.Syntax.{w32}
+use mir.Val.{to_z}
 use native.Mathlib.Nat.{div-le_self, mod-le}
 use native.Mathlib.Omega.{arith}
 use lib.IntN.{ℤ, pos}
@@ -10,10 +14,10 @@ use borrow.Author.Tests.{eqb-false}
 use Rattle.definitions.specs.declared.Numbers.{Numbers}
 use Rattle.definitions.specs.declared.Counts.{Counts}
 use Rattle.definitions.specs.declared.Refusal.{Refusal}
-use Rattle.definitions.specs.declared.Verdict.{Verdict}
-use Rattle.definitions.specs.declared.Verdict.TheVariants.{Accepted, Refused}
-use Rattle.definitions.specs.declared.MacroblockReply.{MacroblockReply}
-use Rattle.definitions.specs.declared.MacroblockReply.TheVariants.{Answered, Refused as Declined}
+use Rattle.definitions.specs.Replies.{Verdict, Accepted}
+use Rattle.std.specs.Prelude.{Err as Refused}
+use Rattle.definitions.specs.Replies.{MacroblockReply}
+use Rattle.std.specs.Prelude.{Ok as Answered, Err as Declined}
 use Rattle.definitions.specs.Record.{narrow}
 use Rattle.definitions.specs.Basics.{pick}
 use Rattle.definitions.specs.Geometry.{axes_of, full_size, macroblocks}
@@ -26,13 +30,14 @@ use Rattle.definitions.proofs.Accepted.{accepted-axes}
 use Rattle.definitions.proofs.Sessions.{next-going, next-over, sound-parts}
 use Rattle.common.proofs.Sizes.{full-small}
 use Rattle.session.specs.declared.Session.{Session}
-use Rattle.session.specs.declared.Stage.TheVariants.{Nothing}
+use Rattle.session.specs.declared.Stage.{Stage}
+use Rattle.session.specs.declared.Stage.TheVariants.{Nothing, Unfinished, Finished}
 use Rattle.session.specs.Values.{fresh_session, value_of, state_of, handed_by, HandsBack, advanced_by}
 use Rattle.session.specs.Stage.{stage_of}
 use Rattle.session.specs.Promised.{NextPromised, TotalsPromised}
 use Rattle.session.proofs.Values.{state-sound, hands-back}
 use Rattle.session.proofs.Promises.{next-promised, totals-promised}
-use Rattle.session.proofs.Stages.{nothing-begun, Going, Over}
+use Rattle.session.proofs.Stages.{nothing-begun, Going, going, Over, over-of}
 
 module _ (v : Session) where
   -- ---- begin
@@ -43,10 +48,9 @@ module _ (v : Session) where
   unfolding exchange handed_by pick
   begin-refused n r e = (sym e, hands-back v (begin n) v (sym (ap (λ (x : Verdict). handed_by v (begin_gave n x)) e)))
 
-  begin-accepted : (n : Numbers) (c : Counts) → c ≡ no_counts → begin_verdict (state_of v) n ≡ Accepted → Began n Accepted (record { begun = true; numbers = n; counts = c })
+  begin-accepted : (n : Numbers) → begin_verdict (state_of v) n ≡ Accepted → Began n Accepted (record { begun = true; numbers = n; counts = no_counts })
   unfolding exchange handed_by pick
-  begin-accepted n c z e =
-      (sym e, hands-back v (begin n) _ ((λ i. record { begun = true; numbers = n; counts = z i }) ∙ sym (ap (λ (x : Verdict). handed_by v (begin_gave n x)) e)))
+  begin-accepted n e = (sym e, hands-back v (begin n) _ (sym (ap (λ (x : Verdict). handed_by v (begin_gave n x)) e)))
 
   module _ (n : Numbers) (free : unfinished (state_of v) ≡ false) where
     free-verdict : begin_verdict (state_of v) n ≡ geometry_verdict n
@@ -57,17 +61,7 @@ module _ (v : Session) where
     begin-wrong r e = begin-refused n r (free-verdict ∙ e)
 
     pub begin-right : geometry_verdict n ≡ Accepted → Began n Accepted (record { begun = true; numbers = n; counts = no_counts })
-    begin-right e = begin-accepted n no_counts refl (free-verdict ∙ e)
-
-  pub free-nothing : stage_of (state_of v) ≡ Nothing → unfinished (state_of v) ≡ false
-  free-nothing e = ap unfinished (nothing-begun (state_of v) e)
-
-  pub free-over : Over v → unfinished (state_of v) ≡ false
-  free-over o = ap unfinished o.state ∙ ap not o.over
-
-  pub begin-busy : {x y : ℕ} → Going v x y → (n : Numbers) (r : Refusal) → r ≡ refusal 22 → Began n (Refused r) v
-  unfolding begin_verdict
-  begin-busy g n r e = begin-refused n r (yes _ _ (ap unfinished g.state ∙ ap not g.on) ∙ ap Refused (sym e))
+    begin-right e = begin-accepted n (free-verdict ∙ e)
 
   -- ---- abandon
   abbrev Left : Verdict → Session → Type 0
@@ -77,20 +71,6 @@ module _ (v : Session) where
   unfolding exchange handed_by pick
   abandon-refused r e = (sym e, hands-back v abandon v (sym (ap (λ (x : Verdict). handed_by v (abandon_gave x)) e)))
 
-  pub abandon-nothing : stage_of (state_of v) ≡ Nothing → (r : Refusal) → r ≡ refusal 20 → Left (Refused r) v
-  unfolding abandon_verdict pick
-  abandon-nothing s r e = abandon-refused r (ap abandon_verdict (nothing-begun (state_of v) s) ∙ ap Refused (sym e))
-
-  pub abandon-over : Over v → (r : Refusal) → r ≡ refusal 21 → Left (Refused r) v
-  unfolding abandon_verdict pick
-  abandon-over o r e = abandon-refused r (ap abandon_verdict o.state ∙ (yes _ _ o.over ∙ ap Refused (sym e)))
-
-  pub abandon-going : {x y : ℕ} → Going v x y → (w : Session) → w ≡ fresh_session → Left Accepted w
-  unfolding abandon_verdict exchange handed_by pick
-  abandon-going g w z =
-      let e : abandon_verdict (state_of v) ≡ Accepted = ap abandon_verdict g.state ∙ no _ _ g.on in
-      (sym e, hands-back v abandon w (z ∙ sym (ap (λ (x : Verdict). handed_by v (abandon_gave x)) e)))
-
   -- ---- totals
   totals-keep : HandsBack v totals v
   unfolding exchange handed_by pick
@@ -99,10 +79,7 @@ module _ (v : Session) where
   abbrev Totals : Counts → Session → Type 0
   Totals c w = (c ≡ totals_of (state_of v)) × (HandsBack v totals w × TotalsPromised v c)
 
-  pub totals-nothing : stage_of (state_of v) ≡ Nothing → Totals no_counts v
-  totals-nothing s = let e = sym (ap totals_of (nothing-begun (state_of v) s)) in (e, (totals-keep, totals-promised v no_counts e))
-
-  pub totals-begun : state_of v ≡ begun v.numbers v.counts → Totals v.counts v
+  totals-begun : state_of v ≡ begun v.numbers v.counts → Totals v.counts v
   totals-begun s = let e = sym (ap totals_of s) in (e, (totals-keep, totals-promised v v.counts e))
 
   -- ---- next
@@ -122,15 +99,6 @@ module _ (v : Session) where
         gone (Declined r) words v (sym (ap (λ (o : Outcome MacroblockReply). o.reply) e)) (sym (ap (λ (o : Outcome MacroblockReply). o.words) e))
         (hands-back v (next base words) v (sym (ap (λ (o : Outcome MacroblockReply). handed_by v (next_gave base words o)) e)))
 
-    pub next-nothing : stage_of (state_of v) ≡ Nothing → (r : Refusal) → r ≡ refusal 20 → Gone (Declined r) words v
-    unfolding next_call pick
-    next-nothing s r e =
-        next-refused r (ap (λ (t : State). next_call t base words) (nothing-begun (state_of v) s) ∙ (λ i. record { reply = Declined (sym e i); words = words }))
-
-    pub next-after : Over v → (r : Refusal) → r ≡ refusal 21 → Gone (Declined r) words v
-    next-after o r e =
-        next-refused r (ap (λ (t : State). next_call t base words) o.state ∙ (next-over v.numbers v.counts base words o.over ∙ (λ i. record { reply = Declined (sym e i); words = words })))
-
     module _ {x y : ℕ} (g : Going v x y) where
       at_next : next_call (state_of v) base words ≡ macroblock_call narrow v.numbers base (pos x) (pos y) words
       at_next =
@@ -145,7 +113,7 @@ module _ (v : Session) where
           by (Answered a) = ap (λ (t : State). value_of (advanced (Answered a) t)) (sym g.state)
           by (Declined r) = refl
 
-      pub next-done : (reply : MacroblockReply) (after : List ℤ) (w : Session) → reply ≡ (macroblock_call narrow v.numbers base (pos x) (pos y) words).reply
+      next-done : (reply : MacroblockReply) (after : List ℤ) (w : Session) → reply ≡ (macroblock_call narrow v.numbers base (pos x) (pos y) words).reply
           → after ≡ (macroblock_call narrow v.numbers base (pos x) (pos y) words).words → w ≡ advanced_by reply v → Gone reply after w
       unfolding exchange
       next-done reply after w a b e =
@@ -153,8 +121,8 @@ module _ (v : Session) where
           gone reply after w p (b ∙ sym (ap (λ (o : Outcome MacroblockReply). o.words) at_next)) (hands-back v (next base words) w (e ∙ handed-next (next_call (state_of v) base words) reply (sym p)))
 
   -- what is counted, and the next macroblock's column and row, are small
-  pub going-small : {x y : ℕ} → Going v x y → (sum_of v.counts < 65536) × (x < 65536) × (y < 65536)
-  going-small g =
+  small-of : {x y : ℕ} → Going v x y → (sum_of v.counts < 65536) × (x < 65536) × (y < 65536)
+  small-of g =
       let s = sound-parts v.numbers v.counts (subst (λ (t : State). sound t ≡ true) g.state (state-sound v)) in
       let axes = accepted-axes v.numbers s.0 in
       let few = full-small (axes_of v.numbers) axes in
@@ -162,3 +130,79 @@ module _ (v : Session) where
       let made : sum_of v.counts < 65536 = omega (arith, few, s.1) in
       let width = macroblocks (full_size (axes_of v.numbers).horizontal) in
       (made, omega (arith, mod-le (sum_of v.counts) width, g.column-is), omega (arith, div-le_self (sum_of v.counts) width, g.row_is))
+
+  -- ---- the calls, by the stage that is found
+  module _ {s : Stage} (found : s ≡ stage_of (state_of v)) where
+    nothing : s ≡ Nothing → stage_of (state_of v) ≡ Nothing
+    nothing is = sym found ∙ is
+
+    on : {x y : ℕ} → s ≡ Unfinished x y → Going v x y
+    on is = going v _ _ (sym found ∙ is)
+
+    over : s ≡ Finished → Over v
+    over is = over-of v (sym found ∙ is)
+
+    pub free-nothing : s ≡ Nothing → unfinished (state_of v) ≡ false
+    free-nothing is = ap unfinished (nothing-begun (state_of v) (nothing is))
+
+    pub free-over : s ≡ Finished → unfinished (state_of v) ≡ false
+    free-over is = ap unfinished (over is).state ∙ ap not (over is).over
+
+    pub begin-busy : {x y : ℕ} → s ≡ Unfinished x y → (n : Numbers) (r : Refusal) → r ≡ refusal 22 → Began n (Refused r) v
+    unfolding begin_verdict
+    begin-busy is n r e = begin-refused n r (yes _ _ (ap unfinished (on is).state ∙ ap not (on is).on) ∙ ap Refused (sym e))
+
+    pub abandon-nothing : s ≡ Nothing → (r : Refusal) → r ≡ refusal 20 → Left (Refused r) v
+    unfolding abandon_verdict pick
+    abandon-nothing is r e = abandon-refused r (ap abandon_verdict (nothing-begun (state_of v) (nothing is)) ∙ ap Refused (sym e))
+
+    pub abandon-over : s ≡ Finished → (r : Refusal) → r ≡ refusal 21 → Left (Refused r) v
+    unfolding abandon_verdict pick
+    abandon-over is r e = abandon-refused r (ap abandon_verdict (over is).state ∙ (yes _ _ (over is).over ∙ ap Refused (sym e)))
+
+    pub abandon-going : {x y : ℕ} → s ≡ Unfinished x y → (w : Session) → w ≡ fresh_session → Left Accepted w
+    unfolding abandon_verdict exchange handed_by pick
+    abandon-going is w z =
+        let e : abandon_verdict (state_of v) ≡ Accepted = ap abandon_verdict (on is).state ∙ no _ _ (on is).on in
+        (sym e, hands-back v abandon w (z ∙ sym (ap (λ (x : Verdict). handed_by v (abandon_gave x)) e)))
+
+    pub totals-nothing : s ≡ Nothing → Totals no_counts v
+    totals-nothing is = let e = sym (ap totals_of (nothing-begun (state_of v) (nothing is))) in (e, (totals-keep, totals-promised v no_counts e))
+
+    pub totals-going : {x y : ℕ} → s ≡ Unfinished x y → Totals v.counts v
+    totals-going is = totals-begun (on is).state
+
+    pub totals-over : s ≡ Finished → Totals v.counts v
+    totals-over is = totals-begun (over is).state
+
+    pub next_small : {x y : ℕ} → s ≡ Unfinished x y → (sum_of v.counts < 65536) × (x < 65536) × (y < 65536)
+    next_small is = small-of (on is)
+
+    module _ (base words : List ℤ) where
+      pub next-nothing : s ≡ Nothing → (r : Refusal) → r ≡ refusal 20 → Gone base words (Declined r) words v
+      unfolding next_call pick
+      next-nothing is r e =
+          next-refused base words r
+          (ap (λ (t : State). next_call t base words) (nothing-begun (state_of v) (nothing is)) ∙ (λ i. record { reply = Declined (sym e i); words = words }))
+
+      pub next-after : s ≡ Finished → (r : Refusal) → r ≡ refusal 21 → Gone base words (Declined r) words v
+      next-after is r e =
+          next-refused base words r
+          (ap (λ (t : State). next_call t base words) (over is).state
+          ∙ (next-over v.numbers v.counts base words (over is).over ∙ (λ i. record { reply = Declined (sym e i); words = words })))
+
+      -- what the one-macroblock call gives at 16 bits, whose words are their own numbers
+      pub next-on : {x y : ℕ} → s ≡ Unfinished x y → (reply : MacroblockReply) (after : List ℤ) (w : Session)
+          → reply ≡ (macroblock_call narrow v.numbers (map (λ z. z) base) (to_z w32 x) (to_z w32 y) (map (λ z. z) words)).reply
+          → map (λ z. z) after ≡ (macroblock_call narrow v.numbers (map (λ z. z) base) (to_z w32 x) (to_z w32 y) (map (λ z. z) words)).words
+          → w ≡ advanced_by reply v → Gone base words reply after w
+      next-on {x} {y} is reply after w a b e =
+          let small = next_small is in
+          let low : x < 2 ^ 31 = omega (arith, small.1) in
+          let high : y < 2 ^ 31 = omega (arith, small.2) in
+          let p = to_z_pos w32 low in
+          let q = to_z_pos w32 high in
+          let same : macroblock_call narrow v.numbers (map (λ z. z) base) (to_z w32 x) (to_z w32 y) (map (λ z. z) words) ≡ macroblock_call narrow v.numbers base (pos x) (pos y) words =
+          λ i. macroblock_call narrow v.numbers (map-id base i) (p i) (q i) (map-id words i) in
+          next-done base words (on is) reply after w (a ∙ ap (λ (o : Outcome MacroblockReply). o.reply) same)
+          (sym (map-id after) ∙ (b ∙ ap (λ (o : Outcome MacroblockReply). o.words) same)) e

@@ -5,7 +5,7 @@ use mathlib.Core.List.{List}
 use lib.IntN.{ℤ, pos}
 use Rattle.definitions.specs.declared.Numbers.{Numbers}
 use Rattle.definitions.specs.declared.Counts.{Counts}
-use Rattle.definitions.specs.declared.MacroblockReply.{MacroblockReply}
+use Rattle.definitions.specs.Replies.{MacroblockReply}
 use Rattle.definitions.specs.Geometry.{axes_of}
 use Rattle.definitions.specs.Raster.{column_at, row_at}
 use Rattle.definitions.specs.Record.{narrow}

@@ -1,16 +1,14 @@
 -- Where a session stands (specs/Stage): what the code finds, and what each stage says of the state. Assumes nothing.
-use Prim.Native.Nat.{ℕ, ◌-◌, ◌≤◌, ◌<◌}
-use mathlib.Core.Logic.{⊎_elim}
-use native.Mathlib.Nat.{eq-or-lt_of_le}
+use Prim.Native.Nat.{ℕ}
 use mathlib.Core.Path.{◌≡◌, refl, sym, ap, ◌∙◌}
 use mathlib.Core.Bool.{Bool, true, false, ◌&&◌}
 use native.Mathlib.Omega.{arith}
 use lib.Dec.{leb, ltb}
-use borrow.Author.Tests.{ltb-true, ltb-false, lt-ltb, le-ltb, le-leb, lt-leb, eq-eqb, ne_eqb}
+use borrow.Author.Tests.{ltb-true, ltb-false, le-leb, lt-leb}
 use Rattle.definitions.specs.declared.Axes.{Axes}
 use Rattle.definitions.specs.declared.Refusal.{Refusal}
-use Rattle.definitions.specs.declared.Verdict.{Verdict}
-use Rattle.definitions.specs.declared.Verdict.TheVariants.{Accepted, Refused}
+use Rattle.definitions.specs.Replies.{Verdict, Accepted}
+use Rattle.std.specs.Prelude.{Err as Refused}
 use Rattle.definitions.specs.Basics.{pick}
 use Rattle.definitions.specs.Geometry.{axes_of}
 use Rattle.definitions.specs.Refusals.{geometry_verdict}
@@ -99,23 +97,3 @@ over-of v e =
         → pick b Finished (Unfinished (column_at (axes_of v.numbers) (sum_of v.counts)) (row_at (axes_of v.numbers) (sum_of v.counts))) ≡ Finished → Over v
     by s true p q = record { state = s; over = p }
     by s false p q = absurd (let z : ◌≡◌ {A = ℕ} 0 1 = cc in omega arith)
-
--- ---- the code's tests: total is the picture's number of macroblocks, at how many are made
-module _ (g : Axes) (made total at : ℕ) (t : total ≡ full_count g) (a : at ≡ made) where
-  pub stage-many : total < at → Nothing ≡ stage_in g made
-  unfolding stage_in
-  stage-many h = sym (yes _ _ (lt-ltb (full_count g) made (omega arith)))
-
-  pub stage-last : at ≤ total → total - at ≡ 0 → Finished ≡ stage_in g made
-  unfolding stage_in
-  stage-last h e = sym (no _ _ (le-ltb (full_count g) made (omega arith)) ∙ yes _ _ (eq-eqb made (full_count g) (omega arith)))
-
-  -- a macroblock is left
-  pub still-below : at ≤ total → (total - at ≡ 0 → ⊥) → at < full_count g
-  still-below h n = ⊎_elim (λ e. absurd (n (omega arith))) (λ l. omega arith) (eq-or-lt_of_le h)
-
-  pub stage-on : at ≤ total → (total - at ≡ 0 → ⊥) → Unfinished (column_at g at) (row_at g at) ≡ stage_in g made
-  unfolding stage_in
-  stage-on h n =
-      (λ i. Unfinished (column_at g (a i)) (row_at g (a i)))
-      ∙ sym (no _ _ (le-ltb (full_count g) made (omega arith)) ∙ no _ _ (ne_eqb made (full_count g) (λ e. n (omega arith))))

@@ -2,10 +2,10 @@
 use mathlib.Core.Path.{◌≡◌, refl, sym, ap, ◌∙◌}
 use mathlib.Core.Bool.{true, false, ◌&&◌}
 use mathlib.Core.List.{List, [], ◌∷◌}
-use Rattle.definitions.specs.declared.Verdict.{Verdict}
-use Rattle.definitions.specs.declared.Verdict.TheVariants.{Accepted, Refused}
-use Rattle.definitions.specs.declared.MacroblockReply.{MacroblockReply}
-use Rattle.definitions.specs.declared.MacroblockReply.TheVariants.{Answered, Refused as Declined}
+use Rattle.definitions.specs.Replies.{Verdict, Accepted}
+use Rattle.std.specs.Prelude.{Err as Refused}
+use Rattle.definitions.specs.Replies.{MacroblockReply}
+use Rattle.std.specs.Prelude.{Ok as Answered, Err as Declined}
 use Rattle.definitions.specs.Basics.{pick}
 use Rattle.definitions.specs.Calls.{no_counts}
 use Rattle.definitions.specs.Session.{Call, State, fresh, begun, totals_of, Exchange, begin_gave, next_gave, abandon_gave, totals_gave, exchange, if_accepted, advanced, state_by, state_next, state_after, accepts, sound}

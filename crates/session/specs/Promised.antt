@@ -5,8 +5,8 @@ use Rattle.definitions.specs.Record.{narrow}
 use Rattle.definitions.specs.declared.Numbers.{Numbers}
 use Rattle.definitions.specs.declared.Counts.{Counts}
 use Rattle.definitions.specs.declared.Refusal.{Refusal}
-use Rattle.definitions.specs.declared.MacroblockReply.{MacroblockReply}
-use Rattle.definitions.specs.declared.MacroblockReply.TheVariants.{Refused as Declined}
+use Rattle.definitions.specs.Replies.{MacroblockReply}
+use Rattle.std.specs.Prelude.{Err as Declined}
 use Rattle.definitions.specs.Geometry.{axes_of}
 use Rattle.definitions.specs.Raster.{column_at, row_at}
 use Rattle.definitions.specs.Calls.{sum_of, counts_of}

@@ -1,8 +1,8 @@
 -- Session values, and the states of document 01's session that they stand for.
 use Rattle.std.specs.Prelude.{◌≡◌, Bool, true, false, ◌&&◌, List, [], ◌∷◌, pos}
 use Rattle.definitions.specs.declared.AxisNumbers.{AxisNumbers}
-use Rattle.definitions.specs.declared.MacroblockReply.{MacroblockReply}
-use Rattle.definitions.specs.declared.MacroblockReply.TheVariants.{Answered, Refused as Declined}
+use Rattle.definitions.specs.Replies.{MacroblockReply}
+use Rattle.std.specs.Prelude.{Ok as Answered, Err as Declined}
 use Rattle.definitions.specs.Basics.{pick}
 use Rattle.definitions.specs.Calls.{counted, no_counts, counts_of}
 use Rattle.definitions.specs.Session.{Call, State, fresh, begun, totals_of, Exchange, begin_gave, next_gave, abandon_gave, totals_gave, exchange, state_by, state_next, state_after, accepts, made_since, sound}

@@ -2,7 +2,6 @@
 #![tactic(auto)]
 
 ghost use Rattle.std.specs.Prelude.{◌<◌, false, ◌≡◌};
-ghost use Rattle.definitions.specs.Accepted.{AcceptedAxes};
 ghost use Rattle.definitions.specs.Calls.{sum_of};
 ghost use Rattle.definitions.specs.Session.{abandon, abandon_verdict, begin, begin_verdict, fresh, next, next_call, totals, totals_of, unfinished};
 ghost use Rattle.session.specs.Promised.{NextPromised, TotalsPromised};
@@ -10,15 +9,15 @@ ghost use Rattle.session.specs.Stage.{stage_in, stage_of};
 ghost use Rattle.session.specs.Values.{HandsBack, advanced_by, fresh_session, state_of};
 
 use common::counts::{NO_COUNTS, count, sum};
-use common::raster::{column_at, full_count, row_at};
 use common::refusals;
 use common::refusals::refused;
-use definitions::{Axes, AxisNumbers, Counts, MacroblockReply, Numbers, Verdict};
-use geometry::{Checked, Geometry};
+use definitions::{AxisNumbers, Counts, MacroblockReply, Numbers, Verdict};
+use geometry::Geometry;
 use upsample::upsample_macroblock;
 
 // Nothing begun; or the geometry's numbers, and the counts of the accepted next calls. Any value can be handed over: one that no list of calls
 // makes is answered as a fresh one.
+// (A flag beside the numbers: the C interface hands over any numbers with it, and a refused call hands back the very value, HandsBack.)
 #[derive(Clone, Copy)]
 pub struct Session {
     pub begun: bool,
@@ -55,12 +54,12 @@ pub enum Stage {
     Finished,
 }
 
-// The geometry is accepted.
-fn stage_in(g: Axes, c: Counts) -> Stage
-    requires { AcceptedAxes g }
-    ensures { result ≡ stage_in g (sum_of c) }
+// By a geometry, and the macroblocks counted.
+#[tactic(auto, unfolding(crate::specs::Stage::stage_in, definitions::specs::Basics::pick))]
+fn stage_in(g: Geometry, c: Counts) -> Stage
+    ensures { result ≡ stage_in g.axes (sum_of c) }
 {
-    let total = full_count(g) as u64;
+    let total = g.full_count() as u64;
     let at = sum(c);
     if total < at {
         return Stage::Nothing;
@@ -70,7 +69,7 @@ fn stage_in(g: Axes, c: Counts) -> Stage
         return Stage::Finished;
     }
     let address = at as usize;
-    Stage::Unfinished(column_at(g, address), row_at(g, address))
+    Stage::Unfinished(g.column_at(address), g.row_at(address))
 }
 
 // Where a session value stands; one that no list of calls makes stands at nothing.
@@ -81,8 +80,8 @@ fn stage_of(s: Session) -> Stage
     let counts = s.counts;
     if s.begun {
         return match Geometry::new(numbers) {
-            Checked::Geometry(g) => stage_in(g.axes(), counts),
-            Checked::Refused(_) => Stage::Nothing,
+            Ok(g) => stage_in(g, counts),
+            Err(_) => Stage::Nothing,
         };
     }
     Stage::Nothing
@@ -96,17 +95,17 @@ fn begin_anew(s: Session, n: Numbers) -> Judged
 {
     let counts = NO_COUNTS;
     match Geometry::new(n) {
-        Checked::Geometry(_) => Judged {
+        Ok(_) => Judged {
             session: Session {
                 begun: true,
                 numbers: n,
                 counts,
             },
-            verdict: Verdict::Accepted,
+            verdict: Ok(()),
         },
-        Checked::Refused(r) => Judged {
+        Err(r) => Judged {
             session: s,
-            verdict: Verdict::Refused(r),
+            verdict: Err(r),
         },
     }
 }
@@ -119,12 +118,12 @@ fn advance(s: Session, reply: MacroblockReply) -> Session
     let numbers = s.numbers;
     let counts = s.counts;
     match reply {
-        MacroblockReply::Answered(a) => Session {
+        Ok(a) => Session {
             begun: true,
             numbers,
             counts: count(counts, a),
         },
-        MacroblockReply::Refused(_) => s,
+        Err(_) => s,
     }
 }
 
@@ -159,13 +158,14 @@ impl Session {
             Stage::Nothing => begin_anew(self, n),
             Stage::Unfinished(_, _) => Judged {
                 session: self,
-                verdict: Verdict::Refused(refused(refusals::UNFINISHED)),
+                verdict: Err(refused(refusals::UNFINISHED)),
             },
             Stage::Finished => begin_anew(self, n),
         }
     }
 
     // The next macroblock in raster order: refusals 20 and 21, and those of the one-macroblock call.
+    #[tactic(auto, using(crate::proofs::Handing::next_small))]
     pub fn next(self, base: &[i16], out: &mut [i16]) -> Advanced
         ensures reply { result.reply ≡ (next_call (state_of self) base.now out.old).reply }
         ensures words { out.new ≡ (next_call (state_of self) base.now out.old).words }
@@ -176,7 +176,7 @@ impl Session {
         match stage_of(self) {
             Stage::Nothing => Advanced {
                 session: self,
-                reply: MacroblockReply::Refused(refused(refusals::NOTHING_BEGUN)),
+                reply: Err(refused(refusals::NOTHING_BEGUN)),
             },
             Stage::Unfinished(column, row) => {
                 let reply = upsample_macroblock(numbers, base, column as i32, row as i32, out);
@@ -187,7 +187,7 @@ impl Session {
             }
             Stage::Finished => Advanced {
                 session: self,
-                reply: MacroblockReply::Refused(refused(refusals::FINISHED)),
+                reply: Err(refused(refusals::FINISHED)),
             },
         }
     }
@@ -201,15 +201,15 @@ impl Session {
         match stage_of(self) {
             Stage::Nothing => Judged {
                 session: self,
-                verdict: Verdict::Refused(refused(refusals::NOTHING_BEGUN)),
+                verdict: Err(refused(refusals::NOTHING_BEGUN)),
             },
             Stage::Unfinished(_, _) => Judged {
                 session: anew,
-                verdict: Verdict::Accepted,
+                verdict: Ok(()),
             },
             Stage::Finished => Judged {
                 session: self,
-                verdict: Verdict::Refused(refused(refusals::FINISHED)),
+                verdict: Err(refused(refusals::FINISHED)),
             },
         }
     }

@@ -1,8 +1,7 @@
 -- One macroblock, the picture (each at the limit of its width) and a session's next, as the C interface hands them over: the numbers of the call's reply, with demand 3 of it.
 use Rattle.std.specs.Prelude.{ℕ, ◌≡◌, List, ℤ}
 use Rattle.definitions.specs.declared.Numbers.{Numbers}
-use Rattle.definitions.specs.declared.MacroblockReply.{MacroblockReply}
-use Rattle.definitions.specs.declared.PictureReply.{PictureReply}
+use Rattle.definitions.specs.Replies.{MacroblockReply, PictureReply}
 use Rattle.definitions.specs.Calls.{macroblock_call, picture_call}
 use Rattle.definitions.specs.Session.{next_call}
 use Rattle.upsample.specs.Promised.{SinglyPromised}

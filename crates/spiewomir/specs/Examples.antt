@@ -10,11 +10,13 @@ use Rattle.definitions.specs.declared.Basis.{Basis}
 use Rattle.definitions.specs.declared.Answer.TheVariants.{Outside, Intra, Inherited}
 use Rattle.definitions.specs.declared.Counts.{Counts}
 use Rattle.definitions.specs.declared.Refusal.{Refusal}
-use Rattle.definitions.specs.declared.Verdict.TheVariants.{Accepted, Refused}
-use Rattle.definitions.specs.declared.MacroblockReply.TheVariants.{Answered, Refused as Declined}
-use Rattle.definitions.specs.declared.PictureReply.TheVariants.{Counted, Refused as NotMade}
-use Rattle.definitions.specs.declared.TextReply.TheVariants.{NoPicture, Read, Refused as NotRead}
-use Rattle.definitions.specs.declared.LogReply.TheVariants.{Written, Refused as NotWritten}
+use Rattle.definitions.specs.Replies.{Accepted}
+use Rattle.std.specs.Prelude.{Err as Refused}
+use Rattle.std.specs.Prelude.{Ok as Answered, Err as Declined}
+use Rattle.std.specs.Prelude.{Ok as Counted, Err as NotMade}
+use Rattle.definitions.specs.Replies.{NoPicture, Read}
+use Rattle.std.specs.Prelude.{Err as NotRead}
+use Rattle.std.specs.Prelude.{Ok as Written, Err as NotWritten}
 use Rattle.session.specs.declared.Session.{Session}
 use Rattle.spiewomir.specs.declared.GeometryNumbers.{GeometryNumbers}
 use Rattle.spiewomir.specs.declared.MacroblockResult.{MacroblockResult}

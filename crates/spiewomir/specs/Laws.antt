@@ -6,15 +6,15 @@ use Rattle.definitions.specs.declared.Class.{Class}
 use Rattle.definitions.specs.declared.Answer.{Answer}
 use Rattle.definitions.specs.declared.Counts.{Counts}
 use Rattle.definitions.specs.declared.Refusal.{Refusal}
-use Rattle.definitions.specs.declared.Verdict.TheVariants.{Accepted, Refused}
-use Rattle.definitions.specs.declared.MacroblockReply.TheVariants.{Answered}
-use Rattle.definitions.specs.declared.PictureReply.TheVariants.{Counted}
+use Rattle.definitions.specs.Replies.{Accepted}
+use Rattle.std.specs.Prelude.{Err as Refused}
+use Rattle.std.specs.Prelude.{Ok as Answered}
+use Rattle.std.specs.Prelude.{Ok as Counted}
 use Rattle.definitions.specs.declared.TextRead.{TextRead}
-use Rattle.definitions.specs.declared.TextReply.{TextReply}
-use Rattle.definitions.specs.declared.TextReply.TheVariants.{NoPicture, Read}
+use Rattle.definitions.specs.Replies.{TextReply, NoPicture, Read}
 use Rattle.definitions.specs.declared.Logged.{Logged}
-use Rattle.definitions.specs.declared.LogReply.{LogReply}
-use Rattle.definitions.specs.declared.LogReply.TheVariants.{Written}
+use Rattle.definitions.specs.Replies.{LogReply}
+use Rattle.std.specs.Prelude.{Ok as Written}
 use Rattle.definitions.specs.Calls.{macroblock_call, picture_call, counts_of, sum_of}
 use Rattle.definitions.specs.Session.{Call, begin, next, abandon, totals, State, fresh, Exchange, begin_gave, next_gave, abandon_gave, totals_gave, begin_verdict, abandon_verdict, next_call, exchange, state_next, state_after, made_since}
 use Rattle.definitions.specs.Text.{TextAnswer}

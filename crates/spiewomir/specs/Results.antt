@@ -5,10 +5,10 @@ use Rattle.definitions.specs.declared.Class.{Class}
 use Rattle.definitions.specs.declared.Class.TheVariants.{Corner, Vert, Hori, Center}
 use Rattle.definitions.specs.declared.Answer.{Answer}
 use Rattle.definitions.specs.declared.Answer.TheVariants.{Outside, Intra, Inherited}
-use Rattle.definitions.specs.declared.MacroblockReply.{MacroblockReply}
-use Rattle.definitions.specs.declared.MacroblockReply.TheVariants.{Answered, Refused as Declined}
-use Rattle.definitions.specs.declared.PictureReply.{PictureReply}
-use Rattle.definitions.specs.declared.PictureReply.TheVariants.{Counted, Refused as NotMade}
+use Rattle.definitions.specs.Replies.{MacroblockReply}
+use Rattle.std.specs.Prelude.{Ok as Answered, Err as Declined}
+use Rattle.definitions.specs.Replies.{PictureReply}
+use Rattle.std.specs.Prelude.{Ok as Counted, Err as NotMade}
 use Rattle.definitions.specs.Answer.{answer_type, answer_origin, answer_detail, answer_fed, sub_types}
 use Rattle.spiewomir.specs.declared.GeometryNumbers.{GeometryNumbers}
 use Rattle.spiewomir.specs.declared.MacroblockResult.{MacroblockResult}

@@ -1,11 +1,11 @@
 -- The sync text and its log, as the C interface hands them over: the numbers of a reply that the call's definition allows, with demand 2 of it.
 use Rattle.std.specs.Prelude.{ℕ, ◌≡◌, Bool, List, ℤ, pos}
-use Rattle.definitions.specs.declared.Verdict.{Verdict}
-use Rattle.definitions.specs.declared.Verdict.TheVariants.{Accepted, Refused as RefusedBy}
-use Rattle.definitions.specs.declared.TextReply.{TextReply}
-use Rattle.definitions.specs.declared.TextReply.TheVariants.{NoPicture, Read, Refused}
-use Rattle.definitions.specs.declared.LogReply.{LogReply}
-use Rattle.definitions.specs.declared.LogReply.TheVariants.{Written, Refused as NotWritten}
+use Rattle.definitions.specs.Replies.{Verdict, Accepted}
+use Rattle.std.specs.Prelude.{Err as RefusedBy}
+use Rattle.definitions.specs.Replies.{TextReply, NoPicture, Read}
+use Rattle.std.specs.Prelude.{Err as Refused}
+use Rattle.definitions.specs.Replies.{LogReply}
+use Rattle.std.specs.Prelude.{Ok as Written, Err as NotWritten}
 use Rattle.definitions.specs.Text.{TextAnswer}
 use Rattle.definitions.specs.Log.{LogAnswer}
 use Rattle.sync_text.specs.Promised.{TextPromised}

@@ -7,8 +7,8 @@ ghost use Rattle.definitions.specs.Calls.{macroblock_call, picture_call};
 ghost use Rattle.definitions.specs.Session.{next_call};
 ghost use Rattle.spiewomir.specs.Demands.{MacroblockGiven, NextGiven, PictureGiven};
 ghost use Rattle.spiewomir.specs.Results.{answer_result, answer_sub_types, class_number, macroblock_result, numbers_from_c, picture_result};
-ghost use Rattle.spiewomir.specs.Sessions.{abandon_gives, advanced_result, begin_gives, flag, judged_result, next_gives, numbers_to_c, session_from_c, session_to_c, totals_gives};
-ghost use Rattle.spiewomir.specs.Texts.{LogGiven, TextGiven, written_result};
+ghost use Rattle.spiewomir.specs.Sessions.{abandon_gives, advanced_result, begin_gives, judged_result, next_gives, numbers_to_c, session_from_c, session_to_c, totals_gives};
+ghost use Rattle.spiewomir.specs.Texts.{LogGiven, TextGiven, log_result, text_result, written_result};
 ghost use Rattle.spiewomir.specs.Version.{version};
 ghost use Rattle.session.specs.Values.{fresh_session, state_of};
 ghost use Rattle.std.specs.Prelude.{◌≡◌};
@@ -18,12 +18,10 @@ use definitions::{
     PictureReply, TextReply, Verdict,
 };
 use picture::upsample_picture;
-use picture_wide::upsample_picture_wide;
 use records::layout::{answer_type, sub_types};
 use session::{Advanced, Judged, Session};
 use sync_text::read_text;
 use upsample::upsample_macroblock;
-use upsample_wide::upsample_macroblock_wide;
 
 // Width and height of the base, the scaled base, the window's offset, and the full picture: any numbers.
 #[repr(C)]
@@ -134,26 +132,29 @@ pub struct LogResult {
 }
 
 // The numbers of the axes.
-fn numbers_from_c(g: GeometryNumbers) -> Numbers
-    ensures { result ≡ numbers_from_c g }
-{
-    Numbers {
-        horizontal: AxisNumbers {
-            base: g.bw,
-            scaled: g.sw,
-            offset: g.x,
-            full: g.fw,
-        },
-        vertical: AxisNumbers {
-            base: g.bh,
-            scaled: g.sh,
-            offset: g.y,
-            full: g.fh,
-        },
+impl From<GeometryNumbers> for Numbers {
+    ghost from_gives = { λ g n. n ≡ numbers_from_c g };
+
+    fn from(g: GeometryNumbers) -> Numbers {
+        Numbers {
+            horizontal: AxisNumbers {
+                base: g.bw,
+                scaled: g.sw,
+                offset: g.x,
+                full: g.fw,
+            },
+            vertical: AxisNumbers {
+                base: g.bh,
+                scaled: g.sh,
+                offset: g.y,
+                full: g.fh,
+            },
+        }
     }
 }
 
 // The header's numbers of the classes.
+// (A match and no cast: the must-fail edit classes_alike changes one number here and in the definition alike.)
 fn class_number(c: Class) -> u32
     ensures { result ≡ class_number c }
 {
@@ -163,13 +164,6 @@ fn class_number(c: Class) -> u32
         Class::Hori => 2,
         Class::Center => 3,
     }
-}
-
-// A small number, as C is handed it.
-fn as_number(n: u8) -> u32
-    ensures { result ≡ n }
-{
-    n as u32
 }
 
 // Outside as document 01 has it, and fed by nothing.
@@ -209,57 +203,61 @@ fn sub_types_of(a: Answer) -> [u8; 4]
 }
 
 // An answer as its numbers.
-fn answer_result(a: Answer) -> MacroblockResult
-    ensures { result ≡ answer_result a }
-{
-    let sub = sub_types_of(a);
-    let basis = basis_of(a);
-    let origin = basis.origin;
-    let class = origin.class;
-    MacroblockResult {
-        refusal: 0,
-        place: 0,
-        rule: 0,
-        kind: as_number(answer_type(a)),
-        sub0: as_number(sub[0]),
-        sub1: as_number(sub[1]),
-        sub2: as_number(sub[2]),
-        sub3: as_number(sub[3]),
-        class: class_number(class),
-        column: origin.column,
-        row: origin.row,
-        detail: as_number(basis.detail),
-        first: as_number(basis.first),
-        right: as_number(basis.right),
-        below: as_number(basis.below),
-        diagonal: as_number(basis.diagonal),
+impl From<Answer> for MacroblockResult {
+    ghost from_gives = { λ a n. n ≡ answer_result a };
+
+    fn from(a: Answer) -> MacroblockResult {
+        let sub = sub_types_of(a);
+        let basis = basis_of(a);
+        let origin = basis.origin;
+        let class = origin.class;
+        MacroblockResult {
+            refusal: 0,
+            place: 0,
+            rule: 0,
+            kind: answer_type(a) as u32,
+            sub0: sub[0] as u32,
+            sub1: sub[1] as u32,
+            sub2: sub[2] as u32,
+            sub3: sub[3] as u32,
+            class: class_number(class),
+            column: origin.column,
+            row: origin.row,
+            detail: basis.detail as u32,
+            first: basis.first as u32,
+            right: basis.right as u32,
+            below: basis.below as u32,
+            diagonal: basis.diagonal as u32,
+        }
     }
 }
 
 // A reply as its numbers: a refusal gives no answer.
-fn reply_result(r: MacroblockReply) -> MacroblockResult
-    ensures { result ≡ macroblock_result r }
-{
-    match r {
-        MacroblockReply::Answered(a) => answer_result(a),
-        MacroblockReply::Refused(r) => MacroblockResult {
-            refusal: r.number,
-            place: r.place,
-            rule: r.rule,
-            kind: 0,
-            sub0: 0,
-            sub1: 0,
-            sub2: 0,
-            sub3: 0,
-            class: 0,
-            column: 0,
-            row: 0,
-            detail: 0,
-            first: 0,
-            right: 0,
-            below: 0,
-            diagonal: 0,
-        },
+impl From<MacroblockReply> for MacroblockResult {
+    ghost from_gives = { λ r n. n ≡ macroblock_result r };
+
+    fn from(r: MacroblockReply) -> MacroblockResult {
+        match r {
+            Ok(a) => a.into(),
+            Err(r) => MacroblockResult {
+                refusal: r.number,
+                place: r.place,
+                rule: r.rule,
+                kind: 0,
+                sub0: 0,
+                sub1: 0,
+                sub2: 0,
+                sub3: 0,
+                class: 0,
+                column: 0,
+                row: 0,
+                detail: 0,
+                first: 0,
+                right: 0,
+                below: 0,
+                diagonal: 0,
+            },
+        }
     }
 }
 
@@ -276,30 +274,32 @@ pub extern "C" fn spiewomir_macroblock(
     ensures words { out.new ≡ (macroblock_call narrow (numbers_from_c g) base.now column row out.old).words }
     ensures demand3 { MacroblockGiven narrow (numbers_from_c g) base.now column row out.old result out.new }
 {
-    reply_result(upsample_macroblock(numbers_from_c(g), base, column, row, out))
+    upsample_macroblock::<i16>(g.into(), base, column, row, out).into()
 }
 
 // The picture call's reply.
-fn picture_reply(reply: PictureReply) -> PictureResult
-    ensures { result ≡ picture_result reply }
-{
-    match reply {
-        PictureReply::Counted(c) => PictureResult {
-            refusal: 0,
-            place: 0,
-            rule: 0,
-            inherited: c.inherited,
-            intra: c.intra,
-            outside: c.outside,
-        },
-        PictureReply::Refused(r) => PictureResult {
-            refusal: r.number,
-            place: r.place,
-            rule: r.rule,
-            inherited: 0,
-            intra: 0,
-            outside: 0,
-        },
+impl From<PictureReply> for PictureResult {
+    ghost from_gives = { λ reply n. n ≡ picture_result reply };
+
+    fn from(reply: PictureReply) -> PictureResult {
+        match reply {
+            Ok(c) => PictureResult {
+                refusal: 0,
+                place: 0,
+                rule: 0,
+                inherited: c.inherited,
+                intra: c.intra,
+                outside: c.outside,
+            },
+            Err(r) => PictureResult {
+                refusal: r.number,
+                place: r.place,
+                rule: r.rule,
+                inherited: 0,
+                intra: 0,
+                outside: 0,
+            },
+        }
     }
 }
 
@@ -314,7 +314,7 @@ pub extern "C" fn spiewomir_picture(
     ensures words { out.new ≡ (picture_call narrow (numbers_from_c g) base.now out.old).words }
     ensures demand3 { PictureGiven narrow (numbers_from_c g) base.now out.old result out.new }
 {
-    picture_reply(upsample_picture(numbers_from_c(g), base, out))
+    upsample_picture::<i16>(g.into(), base, out).into()
 }
 
 // The one-macroblock call on records of 32-bit words (document 02, E12).
@@ -330,7 +330,7 @@ pub extern "C" fn spiewomir_macroblock_wide(
     ensures words { out.new ≡ (macroblock_call wide (numbers_from_c g) base.now column row out.old).words }
     ensures demand3 { MacroblockGiven wide (numbers_from_c g) base.now column row out.old result out.new }
 {
-    reply_result(upsample_macroblock_wide(numbers_from_c(g), base, column, row, out))
+    upsample_macroblock::<i32>(g.into(), base, column, row, out).into()
 }
 
 // The picture call on them.
@@ -344,76 +344,75 @@ pub extern "C" fn spiewomir_picture_wide(
     ensures words { out.new ≡ (picture_call wide (numbers_from_c g) base.now out.old).words }
     ensures demand3 { PictureGiven wide (numbers_from_c g) base.now out.old result out.new }
 {
-    picture_reply(upsample_picture_wide(numbers_from_c(g), base, out))
+    upsample_picture::<i32>(g.into(), base, out).into()
 }
 
 // ---- The session. A refused call hands back the very numbers that it was handed.
-fn numbers_to_c(n: Numbers) -> GeometryNumbers
-    ensures { result ≡ numbers_to_c n }
-{
-    GeometryNumbers {
-        bw: n.horizontal.base,
-        bh: n.vertical.base,
-        sw: n.horizontal.scaled,
-        sh: n.vertical.scaled,
-        x: n.horizontal.offset,
-        y: n.vertical.offset,
-        fw: n.horizontal.full,
-        fh: n.vertical.full,
+impl From<Numbers> for GeometryNumbers {
+    ghost from_gives = { λ n g. g ≡ numbers_to_c n };
+
+    fn from(n: Numbers) -> GeometryNumbers {
+        GeometryNumbers {
+            bw: n.horizontal.base,
+            bh: n.vertical.base,
+            sw: n.horizontal.scaled,
+            sh: n.vertical.scaled,
+            x: n.horizontal.offset,
+            y: n.vertical.offset,
+            fw: n.horizontal.full,
+            fh: n.vertical.full,
+        }
     }
 }
 
-// 1 for true.
-fn flag_of(b: bool) -> u32
-    ensures { result ≡ flag b }
-{
-    if b { 1 } else { 0 }
-}
-
 // The session that the numbers stand for.
-fn session_from_c(s: SessionNumbers) -> Session
-    ensures { result ≡ session_from_c s }
-{
-    let geometry = s.geometry;
-    Session {
-        begun: s.begun == 1,
-        numbers: numbers_from_c(geometry),
-        counts: Counts {
-            inherited: s.inherited,
-            intra: s.intra,
-            outside: s.outside,
-        },
+impl From<SessionNumbers> for Session {
+    ghost from_gives = { λ s n. n ≡ session_from_c s };
+
+    fn from(s: SessionNumbers) -> Session {
+        let geometry = s.geometry;
+        Session {
+            begun: s.begun == 1,
+            numbers: geometry.into(),
+            counts: Counts {
+                inherited: s.inherited,
+                intra: s.intra,
+                outside: s.outside,
+            },
+        }
     }
 }
 
 // The numbers of a session.
-fn session_to_c(v: Session) -> SessionNumbers
-    ensures { result ≡ session_to_c v }
-{
-    let numbers = v.numbers;
-    SessionNumbers {
-        begun: flag_of(v.begun),
-        geometry: numbers_to_c(numbers),
-        inherited: v.counts.inherited,
-        intra: v.counts.intra,
-        outside: v.counts.outside,
+impl From<Session> for SessionNumbers {
+    ghost from_gives = { λ v n. n ≡ session_to_c v };
+
+    fn from(v: Session) -> SessionNumbers {
+        let numbers = v.numbers;
+        SessionNumbers {
+            begun: v.begun as u32,
+            geometry: numbers.into(),
+            inherited: v.counts.inherited,
+            intra: v.counts.intra,
+            outside: v.counts.outside,
+        }
     }
 }
 
-// What begin and abandon give.
+// What begin and abandon give. (This and the next are no From: the numbers that were handed over are needed too.)
 fn judged_result(s: SessionNumbers, j: Judged) -> JudgedResult
     ensures { result ≡ judged_result s j.verdict j.session }
 {
     let verdict = j.verdict;
     let after = j.session;
     match verdict {
-        Verdict::Accepted => JudgedResult {
-            session: session_to_c(after),
+        Ok(()) => JudgedResult {
+            session: after.into(),
             refusal: 0,
             place: 0,
             rule: 0,
         },
-        Verdict::Refused(r) => JudgedResult {
+        Err(r) => JudgedResult {
             session: s,
             refusal: r.number,
             place: r.place,
@@ -428,13 +427,13 @@ fn advanced_result(s: SessionNumbers, a: Advanced) -> AdvancedResult
 {
     let reply = a.reply;
     let after = a.session;
-    let macroblock = reply_result(reply);
+    let macroblock: MacroblockResult = reply.into();
     match reply {
-        MacroblockReply::Answered(_) => AdvancedResult {
-            session: session_to_c(after),
+        Ok(_) => AdvancedResult {
+            session: after.into(),
             macroblock,
         },
-        MacroblockReply::Refused(_) => AdvancedResult {
+        Err(_) => AdvancedResult {
             session: s,
             macroblock,
         },
@@ -446,7 +445,7 @@ fn advanced_result(s: SessionNumbers, a: Advanced) -> AdvancedResult
 pub extern "C" fn spiewomir_session_fresh() -> SessionNumbers
     ensures { result ≡ session_to_c fresh_session }
 {
-    session_to_c(Session::fresh())
+    Session::fresh().into()
 }
 
 // Begins a picture.
@@ -454,8 +453,8 @@ pub extern "C" fn spiewomir_session_fresh() -> SessionNumbers
 pub extern "C" fn spiewomir_session_begin(s: SessionNumbers, g: GeometryNumbers) -> JudgedResult
     ensures { result ≡ begin_gives s g }
 {
-    let v = session_from_c(s);
-    judged_result(s, v.begin(numbers_from_c(g)))
+    let v: Session = s.into();
+    judged_result(s, v.begin(g.into()))
 }
 
 // Makes the next macroblock.
@@ -469,7 +468,7 @@ pub extern "C" fn spiewomir_session_next(
     ensures words { out.new ≡ (next_call (state_of (session_from_c s)) base.now out.old).words }
     ensures demand3 { NextGiven s base.now out.old result out.new }
 {
-    let v = session_from_c(s);
+    let v: Session = s.into();
     advanced_result(s, v.next(base, out))
 }
 
@@ -478,7 +477,7 @@ pub extern "C" fn spiewomir_session_next(
 pub extern "C" fn spiewomir_session_abandon(s: SessionNumbers) -> JudgedResult
     ensures { result ≡ abandon_gives s }
 {
-    let v = session_from_c(s);
+    let v: Session = s.into();
     judged_result(s, v.abandon())
 }
 
@@ -487,7 +486,7 @@ pub extern "C" fn spiewomir_session_abandon(s: SessionNumbers) -> JudgedResult
 pub extern "C" fn spiewomir_session_totals(s: SessionNumbers) -> TotalsResult
     ensures { result ≡ totals_gives s }
 {
-    let v = session_from_c(s);
+    let v: Session = s.into();
     let t = v.totals();
     TotalsResult {
         session: s,
@@ -509,83 +508,105 @@ const NO_GEOMETRY: GeometryNumbers = GeometryNumbers {
     fh: 0,
 };
 
+// A text's reply as its numbers.
+impl From<TextReply> for TextResult {
+    ghost from_gives = { λ reply n. n ≡ text_result reply };
+
+    fn from(reply: TextReply) -> TextResult {
+        match reply {
+            Ok(None) => TextResult {
+                refusal: 0,
+                place: 0,
+                rule: 0,
+                geometry: NO_GEOMETRY,
+                lines: 0,
+                empty: 1,
+            },
+            Ok(Some(t)) => {
+                let numbers = t.numbers;
+                TextResult {
+                    refusal: 0,
+                    place: 0,
+                    rule: 0,
+                    geometry: numbers.into(),
+                    lines: t.lines,
+                    empty: 0,
+                }
+            }
+            Err(r) => TextResult {
+                refusal: r.number,
+                place: r.place,
+                rule: r.rule,
+                geometry: NO_GEOMETRY,
+                lines: 0,
+                empty: 0,
+            },
+        }
+    }
+}
+
+// Reads a sync text.
 #[unsafe(no_mangle)]
 pub extern "C" fn spiewomir_text(text: &[u8], words: &mut [i16]) -> TextResult
     ensures { TextGiven text.now words.old result words.new }
 {
-    match read_text(text, words) {
-        TextReply::NoPicture => TextResult {
-            refusal: 0,
-            place: 0,
-            rule: 0,
-            geometry: NO_GEOMETRY,
-            lines: 0,
-            empty: 1,
-        },
-        TextReply::Read(t) => {
-            let numbers = t.numbers;
-            TextResult {
-                refusal: 0,
-                place: 0,
-                rule: 0,
-                geometry: numbers_to_c(numbers),
-                lines: t.lines,
-                empty: 0,
-            }
-        }
-        TextReply::Refused(r) => TextResult {
-            refusal: r.number,
-            place: r.place,
-            rule: r.rule,
-            geometry: NO_GEOMETRY,
-            lines: 0,
-            empty: 0,
-        },
-    }
+    read_text(text, words).into()
 }
 
 // A written log, with the text's refusal, and whether there is no picture.
-fn written_result(l: Logged) -> LogResult
-    ensures { result ≡ written_result l.bytes l.verdict l.empty }
-{
-    let bytes = l.bytes;
-    let empty = flag_of(l.empty);
-    let verdict = l.verdict;
-    match verdict {
-        Verdict::Accepted => LogResult {
-            refusal: 0,
-            text: 0,
-            place: 0,
-            rule: 0,
-            bytes,
-            empty,
-        },
-        Verdict::Refused(r) => LogResult {
-            refusal: 0,
-            text: r.number,
-            place: r.place,
-            rule: r.rule,
-            bytes,
-            empty,
-        },
+impl From<Logged> for LogResult {
+    ghost from_gives = { λ l n. n ≡ written_result l.bytes l.verdict l.empty };
+
+    fn from(l: Logged) -> LogResult {
+        let bytes = l.bytes;
+        let empty = l.empty as u32;
+        let verdict = l.verdict;
+        match verdict {
+            Ok(()) => LogResult {
+                refusal: 0,
+                text: 0,
+                place: 0,
+                rule: 0,
+                bytes,
+                empty,
+            },
+            Err(r) => LogResult {
+                refusal: 0,
+                text: r.number,
+                place: r.place,
+                rule: r.rule,
+                bytes,
+                empty,
+            },
+        }
     }
 }
 
+// The log call's reply as its numbers.
+impl From<LogReply> for LogResult {
+    ghost from_gives = { λ reply n. n ≡ log_result reply };
+
+    fn from(reply: LogReply) -> LogResult {
+        match reply {
+            Ok(l) => l.into(),
+            Err(r) => LogResult {
+                refusal: r.number,
+                text: 0,
+                place: 0,
+                rule: 0,
+                bytes: 0,
+                empty: 0,
+            },
+        }
+    }
+}
+
+// The log of a sync text.
 #[unsafe(no_mangle)]
 pub extern "C" fn spiewomir_log(text: &[u8], out: &mut [u8]) -> LogResult
     ensures { LogGiven text.now out.old result out.new }
 {
-    match log_text::log(text, out) {
-        LogReply::Written(l) => written_result(l),
-        LogReply::Refused(r) => LogResult {
-            refusal: r.number,
-            text: 0,
-            place: 0,
-            rule: 0,
-            bytes: 0,
-            empty: 0,
-        },
-    }
+    log_text::log(text, out).into()
 }
 
 // ---- The version: major · 10,000 + minor · 100 + patch

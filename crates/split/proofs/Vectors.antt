@@ -2,7 +2,7 @@
 -- type of four, by rows and columns. Assumes nothing.
 use Prim.Native.Nat.{ℕ, ◌+◌, ◌*◌, ◌-◌, ◌≤◌, ◌<◌}
 use mathlib.Core.Path.{◌≡◌, refl, sym, ap, ◌∙◌}
-use mathlib.Core.Bool.{Bool, true, false, ◌&&◌}
+use mathlib.Core.Bool.{Bool, true, false, ◌&&◌, and-false}
 use mathlib.Core.List.{List, [], ◌∷◌}
 use native.Mathlib.Omega.{arith}
 use lib.ListN.{get_or}
@@ -12,7 +12,9 @@ use Rattle.definitions.specs.declared.Motion.{Motion}
 use Rattle.definitions.specs.Basics.{eq_z}
 use Rattle.definitions.specs.Record.{sub_type_number}
 use Rattle.definitions.specs.Splits.{same_motion, same_prediction}
-use Rattle.definitions.proofs.Choices.{eq_z-refl}
+use Rattle.std.specs.Ordering.{int_eq}
+use Rattle.std.proofs.lemmas.Bool.Decides.{Decides-int_eq, same_from_decides}
+use Rattle.definitions.proofs.Choices.{eq_z-refl, eq_z-true}
 use Rattle.definitions.proofs.Shapes.{cut, quadrant_shape, same_pairs, shape_of}
 use Rattle.motion.specs.declared.BlockMotion.{BlockMotion}
 use Rattle.motion.specs.ByValue.{OneReference, motion_in, motions_in, same_vectors_in, zero_block}
@@ -53,16 +55,22 @@ module _ (m : List BlockMotion) (one : OneReference m) where
       (number_is (a && b) (c && d) ∙ ((λ i. sub_type_number (cut (ra i && rb i) (ca i && cb i))) ∙ ap sub_type_number (sym (sub-chosen-is (motions_in m)))), omega arith)
 
 -- ---- the type
-by-lists : (a b v w : Bool) → ((a && b) && (v && w)) ≡ ((a && v) && (b && w))
-by-lists false b v w = refl
-by-lists true true v w = refl
-by-lists true false true w = refl
-by-lists true false false w = refl
+-- by fields in turn, as `==` compares them, or list by list
+by-lists : (a b c d e f : Bool) → (a && (b && (c && (d && (e && f))))) ≡ ((a && (c && d)) && (b && (e && f)))
+by-lists false b c d e f = refl
+by-lists true b false d e f = and-false b
+by-lists true b true false e f = and-false b
+by-lists true b true true e f = refl
 
-pub same-both : (p q : BlockMotion) → ((eq_z p.r0 q.r0 && eq_z p.r1 q.r1) && same_vectors_in p q) ≡ same_motion (motion_in p) (motion_in q)
-unfolding same_motion same_prediction same_vectors_in
-same-both p q =
-    by-lists (eq_z p.r0 q.r0) (eq_z p.r1 q.r1) (eq_z p.x0 q.x0 && eq_z p.y0 q.y0) (eq_z p.x1 q.x1 && eq_z p.y1 q.y1)
+int-same : (x y : ℤ) → int_eq x y ≡ eq_z x y
+int-same x y = same_from_decides (int_eq x y) (eq_z x y) (Decides-int_eq x y) (eq_z-true x y, λ e. equal x y y e refl)
+
+pub same_both : (p q : BlockMotion)
+    → (int_eq p.r0 q.r0 && (int_eq p.r1 q.r1 && (int_eq p.x0 q.x0 && (int_eq p.y0 q.y0 && (int_eq p.x1 q.x1 && int_eq p.y1 q.y1))))) ≡ same_motion (motion_in p) (motion_in q)
+unfolding same_motion same_prediction
+same_both p q =
+    rw (int-same p.r0 q.r0, int-same p.r1 q.r1, int-same p.x0 q.x0, int-same p.y0 q.y0, int-same p.x1 q.x1, int-same p.y1 q.y1)
+    (by-lists (eq_z p.r0 q.r0) (eq_z p.r1 q.r1) (eq_z p.x0 q.x0) (eq_z p.y0 q.y0) (eq_z p.x1 q.x1) (eq_z p.y1 q.y1))
 
 pub type-is : (k l m n : Motion) (a b c d : Bool) → a ≡ same_motion k l → b ≡ same_motion m n → c ≡ same_motion k m → d ≡ same_motion l n
     → (4 - 2 * bool_byte (a && b) - bool_byte (c && d) ≡ type_among (k ∷ l ∷ m ∷ n ∷ [])) × (4 - 2 * bool_byte (a && b) - bool_byte (c && d) ≤ 4)

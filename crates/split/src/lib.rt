@@ -12,7 +12,7 @@ ghost use Rattle.split.specs.Types.{OneReferenceEach, type_among, types_of};
 use definitions::{Split, SubSplit};
 use motion::BlockMotion;
 
-// Two blocks have the same vectors: all four words are compared, and none by a branch.
+// Two blocks have the same vectors: all four words are compared, and none by a branch. (`==` would compare the references too, which are one here: six words in place of four.)
 fn same_vectors(p: BlockMotion, q: BlockMotion) -> bool
     ensures { result ≡ same_vectors_in p q }
 {
@@ -31,11 +31,12 @@ pub fn sub_type_of(m: [BlockMotion; 4]) -> u8
 }
 
 // ---- The type
-// Two blocks have the same motion: references and vectors are compared, and none by a branch.
+// Two blocks have the same motion: references and vectors.
+#[tactic(auto, using(crate::proofs::Vectors::same_both))]
 fn same_motion(p: BlockMotion, q: BlockMotion) -> bool
     ensures { result ≡ same_motion (motion_in p) (motion_in q) }
 {
-    (p.r0 == q.r0) & (p.r1 == q.r1) & same_vectors(p, q)
+    p == q
 }
 
 // The type where no quadrant is divided, by the motions of the quadrants' first blocks: which rows and columns of quadrants have one motion.
@@ -47,7 +48,7 @@ fn type_of(a: BlockMotion, b: BlockMotion, c: BlockMotion, d: BlockMotion) -> u8
     4 - 2 * (rows as u8) - columns as u8
 }
 
-// The type of a split, and the sub-types of quadrants 0 to 3.
+// The type of a split, and the sub-types of quadrants 0 to 3: as numbers, since rows and columns give the number without a branch, and it is the number that is written.
 #[derive(Clone, Copy)]
 pub struct Types {
     pub kind: u8,
@@ -95,12 +96,6 @@ pub fn pieces_of(s: Split) -> u32
         Split::S16x16 => 1,
         Split::S16x8 => 2,
         Split::S8x16 => 2,
-        Split::S8x8(t) => {
-            let a = t.a;
-            let b = t.b;
-            let c = t.c;
-            let d = t.d;
-            sub_pieces(a) + sub_pieces(b) + sub_pieces(c) + sub_pieces(d)
-        }
+        Split::S8x8(t) => { sub_pieces(t.a) + sub_pieces(t.b) + sub_pieces(t.c) + sub_pieces(t.d) }
     }
 }

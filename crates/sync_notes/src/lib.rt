@@ -1,147 +1,122 @@
 // Reading the notes of a text, and the fixed bytes of its lines.
 #![tactic(auto)]
 
-ghost use Rattle.std.specs.Prelude.{◌≤◌, length};
+ghost use Rattle.std.specs.Prelude.{◌≡◌, ◌≤◌, length};
 ghost use Rattle.definitions.specs.Text.{All, Letter, Item, Rest};
-ghost use Rattle.grammar.specs.Readers.{Exactly, Items, NoteTail, ReadAt, Stands};
+ghost use Rattle.grammar.specs.Readers.{Exactly, Items, NoteTail, ReadAt, Stands, ends_at};
 
-use grammar::{ByteClass, Got, Num};
+use grammar::{ByteClass, Got, Text};
 use sync_numbers::{class_of, number};
 
-// Where the letters that start at `at` end.
-fn letters(s: &[u8], at: usize) -> usize
-    requires { at ≤ length s.now }
-    ensures { Stands (All Letter) s.now at result }
+// The letters.
+fn letters(t: &mut Text)
+    ensures read { Stands (All Letter) t.old.bytes.now t.old.at t.new.at }
+    ensures kept { t.new.bytes.now ≡ t.old.bytes.now }
 {
-    let mut p = at;
-    while p < s.len() {
-        let c = class_of(s[p]);
+    // a while: it stops at the first byte that is no letter
+    while let Ok(b) = t.byte() {
+        let c = class_of(b);
         if let ByteClass::Alpha = c {
-            p += 1;
+            t.at += 1;
         } else {
-            return p;
+            return;
         }
     }
-    p
 }
 
 // A word, a number or a list. Lists nest `depth` deep at the most, and what remains of the depth falls with each.
 #[cycle(item_list)]
-fn item(s: &[u8], at: usize, depth: usize) -> Got
-    requires { at ≤ length s.now }
-    ensures { ReadAt (Item depth) s.now at result }
+fn item(t: &mut Text, depth: usize) -> Got
+    ensures read { ReadAt (Item depth) t.old.bytes.now t.old.at (ends_at t.new.at result) }
+    ensures kept { t.new.bytes.now ≡ t.old.bytes.now }
 {
-    if at >= s.len() {
-        return Got::Bad(at);
-    }
-    let b = s[at];
-    let c = class_of(b);
+    let c = class_of(t.byte()?);
     match c {
-        ByteClass::Alpha => Got::At(letters(s, at + 1)),
+        ByteClass::Alpha => {
+            t.at += 1;
+            letters(t);
+            Ok(())
+        }
         ByteClass::Zero | ByteClass::Nonzero | ByteClass::Dash => {
-            let n = number(s, at);
-            match n {
-                Num::Value(_, e) => Got::At(e),
-                Num::Bad(p) => Got::Bad(p),
-            }
+            number(t)?;
+            Ok(())
         }
         ByteClass::Open => {
             if depth == 0 {
-                return Got::Bad(at);
+                return Err(t.at);
             }
-            list(s, at + 1, depth - 1)
+            t.at += 1;
+            list(t, depth - 1)
         }
-        _ => Got::Bad(at), // so no list is empty
+        _ => Err(t.at), // so no list is empty
     }
 }
 
 // The items of a list after its bracket, one or more, each but the first after a space, and the closing bracket.
 #[cycle(item_list)]
-fn list(s: &[u8], at: usize, depth: usize) -> Got
-    requires { at ≤ length s.now }
-    ensures { ReadAt (Items depth) s.now at result }
+fn list(t: &mut Text, depth: usize) -> Got
+    ensures read { ReadAt (Items depth) t.old.bytes.now t.old.at (ends_at t.new.at result) }
+    ensures kept { t.new.bytes.now ≡ t.old.bytes.now }
 {
-    let mut p = at;
-    while p < s.len() {
-        let i = item(s, p, depth);
-        match i {
-            Got::At(e) => {
-                if e >= s.len() {
-                    return Got::Bad(e);
-                }
-                let b = s[e];
-                let c = class_of(b);
-                match c {
-                    ByteClass::Close => {
-                        return Got::At(e + 1);
-                    }
-                    ByteClass::Space => {
-                        p = e + 1;
-                    }
-                    _ => {
-                        return Got::Bad(e);
-                    }
-                }
+    // a loop: it steps by what it reads
+    loop {
+        item(t, depth)?;
+        let c = class_of(t.byte()?);
+        match c {
+            ByteClass::Close => {
+                t.at += 1;
+                return Ok(());
             }
-            Got::Bad(q) => {
-                return Got::Bad(q);
+            ByteClass::Space => {
+                t.at += 1;
+            }
+            _ => {
+                return Err(t.at);
             }
         }
     }
-    Got::Bad(p)
 }
 
 // The bytes of w.
-pub fn word_at(s: &[u8], at: usize, w: &[u8]) -> Got
-    requires { at ≤ length s.now }
-    ensures { ReadAt (Exactly w.now) s.now at result }
+pub fn word_at(t: &mut Text, w: &[u8]) -> Got
+    ensures read { ReadAt (Exactly w.now) t.old.bytes.now t.old.at (ends_at t.new.at result) }
+    ensures kept { t.new.bytes.now ≡ t.old.bytes.now }
 {
-    let mut p = at;
-    let mut j = 0;
-    while j < w.len() {
-        if p >= s.len() {
-            return Got::Bad(p);
+    for b in w {
+        if t.byte()? != *b {
+            return Err(t.at);
         }
-        if s[p] != w[j] {
-            return Got::Bad(p);
-        }
-        p += 1;
-        j += 1;
+        t.at += 1;
     }
-    Got::At(p)
+    Ok(()) // t stands behind w
 }
 
 // More items or none, each after a space, and the closing bracket.
-fn rest_of(s: &[u8], at: usize, depth: usize) -> Got
-    requires { at ≤ length s.now }
-    ensures { ReadAt (Rest (Item depth)) s.now at result }
+fn rest_of(t: &mut Text, depth: usize) -> Got
+    ensures read { ReadAt (Rest (Item depth)) t.old.bytes.now t.old.at (ends_at t.new.at result) }
+    ensures kept { t.new.bytes.now ≡ t.old.bytes.now }
 {
-    if at >= s.len() {
-        return Got::Bad(at);
-    }
-    let b = s[at];
-    let c = class_of(b);
+    let c = class_of(t.byte()?);
     match c {
-        ByteClass::Close => Got::At(at + 1),
-        ByteClass::Space => list(s, at + 1, depth),
-        _ => Got::Bad(at),
+        ByteClass::Close => {
+            t.at += 1;
+            Ok(()) // no more items
+        }
+        ByteClass::Space => {
+            t.at += 1;
+            list(t, depth)
+        }
+        _ => Err(t.at),
     }
 }
 
 // A note after its bracket and its n. To depth 8 with the note at 1: lists nest 7 deep in it.
-pub fn note(s: &[u8], at: usize) -> Got
-    requires { at ≤ length s.now }
-    ensures { ReadAt NoteTail s.now at result }
+#[inline] // a call for each note is 5 % of the text call's instructions
+pub fn note(t: &mut Text) -> Got
+    ensures read { ReadAt NoteTail t.old.bytes.now t.old.at (ends_at t.new.at result) }
+    ensures kept { t.new.bytes.now ≡ t.old.bytes.now }
 {
-    let o = word_at(s, at, b"ote");
-    match o {
-        Got::At(a) => {
-            let t = rest_of(s, a, 7);
-            match t {
-                Got::At(e) => word_at(s, e, b"\n"),
-                Got::Bad(p) => Got::Bad(p),
-            }
-        }
-        Got::Bad(p) => Got::Bad(p),
-    }
+    word_at(t, b"ote")?;
+    rest_of(t, 7)?;
+    word_at(t, b"\n")
 }

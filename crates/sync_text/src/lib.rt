@@ -5,9 +5,8 @@ ghost use Rattle.definitions.specs.Text.{TextAnswer};
 ghost use Rattle.sync_text.specs.Promised.{TextPromised};
 
 use common::refusals;
-use common::refusals::{refused, refused_at};
+use common::refusals::{refused_at, unless};
 use definitions::{TextRead, TextReply};
-use grammar::TextParse;
 use sync_read::{RECORDS, parse};
 
 // The words that are lent, and the bytes of the longest text.
@@ -21,27 +20,20 @@ pub fn read_text(bytes: &[u8], words: &mut [i16]) -> TextReply
     ensures answer { TextAnswer bytes.now words.old result words.new }
     ensures demand2 { TextPromised bytes.now words.old result words.new }
 {
-    if words.len() != TEXT_WORDS {
-        return TextReply::Refused(refused(refusals::OUTPUT_LENGTH));
-    }
+    unless(words.len() == TEXT_WORDS, refusals::OUTPUT_LENGTH)?;
     if bytes.len() == 0 {
-        return TextReply::NoPicture;
+        return Ok(None);
     }
-    if bytes.len() > BYTES {
-        return TextReply::Refused(refused(refusals::TEXT_SIZE));
-    }
-    let t = parse(bytes, words);
-    match t {
-        TextParse::Parsed(numbers, lines) => {
-            if lines > RECORDS {
-                return TextReply::Refused(refused(refusals::TEXT_SIZE));
-            }
+    unless(bytes.len() <= BYTES, refusals::TEXT_SIZE)?;
+    match parse(bytes, words) {
+        Ok((numbers, lines)) => {
+            unless(lines <= RECORDS, refusals::TEXT_SIZE)?;
             let count = lines as u32;
-            TextReply::Read(TextRead {
+            Ok(Some(TextRead {
                 numbers,
                 lines: count,
-            })
+            }))
         }
-        TextParse::Bad(p) => TextReply::Refused(refused_at(refusals::GRAMMAR, p as u32)),
+        Err(p) => Err(refused_at(refusals::GRAMMAR, p as u32)),
     }
 }

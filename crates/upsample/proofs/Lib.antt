@@ -4,3 +4,4 @@ pub mod Staging
 pub mod Within
 pub mod Promises
 pub mod Addresses
+pub mod Kept

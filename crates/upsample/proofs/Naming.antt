@@ -10,8 +10,8 @@ use lib.ListN.{length}
 use Rattle.definitions.specs.declared.Axes.{Axes}
 use Rattle.macroblock.specs.declared.AxisRead.{AxisRead}
 use Rattle.definitions.specs.declared.Refusal.{Refusal}
-use Rattle.definitions.specs.declared.Verdict.{Verdict}
-use Rattle.definitions.specs.declared.Verdict.TheVariants.{Accepted, Refused}
+use Rattle.definitions.specs.Replies.{Verdict, Accepted}
+use Rattle.std.specs.Prelude.{Err as Refused}
 use Rattle.definitions.specs.Basics.{for_each, pick}
 use Rattle.definitions.specs.Geometry.{base_size, columns_read, macroblocks}
 use Rattle.definitions.specs.Record.{record_words}
@@ -25,10 +25,9 @@ use Rattle.records.specs.Checking.{addresses}
 use Rattle.records.proofs.Addresses.{addresses-more, addresses-end, addresses-one}
 use Rattle.macroblock.specs.declared.Fixed.{Fixed}
 use Rattle.macroblock.specs.Made.{first_of, fixed_of, origin_by, read_of, two_read}
-use Rattle.upsample.specs.declared.site.Place.{Place}
 use Rattle.upsample.specs.declared.site.Run.{Run}
 use Rattle.upsample.specs.declared.site.Site.{Site}
-use Rattle.upsample.specs.Sited.{RunIn, run_of, runs_of, site_by, site_of}
+use Rattle.upsample.specs.Sited.{Placed, RunIn, run_of, runs_of, site_by, site_of}
 
 -- the base macroblocks of one row that are read
 abbrev pub row_addresses : Axes → ℕ → Bool → ℕ → List ℕ
@@ -185,7 +184,7 @@ module _ (g : Axes) (h v : AxisRead) where
         n b.0 a (subst (Memᴰ a) (sym (named-two b.1)) (Memᴰ.append_right (row_of g h (first_of v)) m)))
 
 -- a site as it is made
-pub site-made : (p : Place) {fixed : Fixed} {h v : AxisRead} {two : Bool} {upper lower : Run}
+pub site-made : (p : Placed) {fixed : Fixed} {h v : AxisRead} {two : Bool} {upper lower : Run}
     → fixed ≡ fixed_of p.axes → h ≡ read_of p.axes.horizontal p.column → v ≡ read_of p.axes.vertical p.row → two ≡ two_read v
     → upper ≡ run_of fixed.width h (first_of v) (h.inside && v.inside) → lower ≡ run_of fixed.width h (first_of v + 1) ((h.inside && v.inside) && two)
     → record { fixed = fixed; h = h; v = v; upper = upper; lower = lower } ≡ site_of p

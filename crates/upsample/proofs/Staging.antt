@@ -4,17 +4,20 @@ use mathlib.Core.Path.{◌≡◌, refl, sym, ap, subst, ◌∙◌}
 use mathlib.Core.Bool.{Bool, true, false, not, ◌&&◌}
 use mathlib.Core.List.{List, [], ◌∷◌, ◌++◌, append_assoc}
 use native.Mathlib.Omega.{arith}
-use lib.Dec.{eqb}
+use lib.Dec.{T, eqb}
 use lib.IntN.{ℤ, nat_abs}
 use lib.ListN.{length}
+use lib.Signed.{non_neg}
+use mir.Syntax.{w32}
+use mir.Val.{Fits}
 use borrow.Author.Tests.{eqb-true, not-false}
 use Rattle.definitions.specs.declared.Axes.{Axes}
 use Rattle.definitions.specs.declared.Numbers.{Numbers}
 use Rattle.definitions.specs.declared.Refusal.{Refusal}
-use Rattle.definitions.specs.declared.Verdict.{Verdict}
-use Rattle.definitions.specs.declared.Verdict.TheVariants.{Accepted, Refused}
-use Rattle.definitions.specs.declared.MacroblockReply.{MacroblockReply}
-use Rattle.definitions.specs.declared.MacroblockReply.TheVariants.{Answered, Refused as Declined}
+use Rattle.definitions.specs.Replies.{Verdict, Accepted}
+use Rattle.std.specs.Prelude.{Err as Refused}
+use Rattle.definitions.specs.Replies.{MacroblockReply}
+use Rattle.std.specs.Prelude.{Ok as Answered, Err as Declined}
 use Rattle.definitions.specs.Accepted.{AcceptedAxes}
 use Rattle.definitions.specs.Geometry.{axes_of, full_size}
 use Rattle.definitions.specs.Record.{record_words}
@@ -32,12 +35,11 @@ use Rattle.macroblock.specs.declared.AxisRead.{AxisRead}
 use Rattle.macroblock.specs.Made.{answer_by, fixed_of, made_by, read_of, written_by}
 use Rattle.macroblock.proofs.Paper.{placed_by}
 use Rattle.upsample.specs.declared.site.Site.{Site}
-use Rattle.upsample.specs.declared.site.Place.{Place}
-use Rattle.upsample.specs.declared.site.Placing.{Placing}
-use Rattle.upsample.specs.declared.site.Placing.TheVariants.{Place as At, Refused as Wrong}
-use Rattle.upsample.specs.Sited.{Callable, place_tests, placing_by, placing_in, placing_of, runs_of, site_by, site_call, site_of}
+use Rattle.std.specs.Prelude.{Ok as At, Err as Wrong}
+use Rattle.upsample.specs.Sited.{Callable, Placed, Placing, place_tests, placing_by, placing_in, placing_of, runs_of, site_by, site_call, site_of}
 use Rattle.upsample.proofs.Naming.{runs-inside, runs-outside, upper_in, lower_in}
 use Rattle.upsample.proofs.Readiness.{Known, known_of}
+use Rattle.upsample.proofs.Within.{within-natural}
 
 -- what a call hands back and leaves, as an outcome says
 abbrev pub Handed : {Reply : Type 0} → Reply → List ℤ → Outcome Reply → Type 0
@@ -103,6 +105,29 @@ module _ (g : Axes) (base : List ℤ) (right : BaseRight g base) (column row : �
         let m : made ≡ made_by (fixed_of g) h v base = placed_by g right.axes column row base in
         λ i. by_verdict (verdict_of (record_tests limit base (runs-read i))) Declined words (record { reply = Answered (m i).answer; words = (m i).written })
 
+-- ---- a column and row that 7 passes
+pub record There (column row : ℤ) : Type 0 where
+  pub column-natural : T (non_neg column)
+  pub column-low : nat_abs column < 256
+  pub column-fits : Fits w32 (nat_abs column)
+  pub row_natural : T (non_neg row)
+  pub row_low : nat_abs row < 256
+  pub row_fits : Fits w32 (nat_abs row)
+
+pub place-there : (g : Axes) → AcceptedAxes g → (column row : ℤ) → (within_axis (full_size g.horizontal) column && within_axis (full_size g.vertical) row) ≡ true → There column row
+place-there g a column row e =
+    let within = both_true (within_axis (full_size g.horizontal) column) (within_axis (full_size g.vertical) row) e in
+    let x = within_low (full_size g.horizontal) column within.0 in
+    let y = within_low (full_size g.vertical) row within.1 in
+    record {
+      column-natural = within-natural (full_size g.horizontal) column within.0;
+      column-low = omega (arith, x, a.horizontal.full-high);
+      column-fits = record { fits = omega (arith, x, a.horizontal.full-high) };
+      row_natural = within-natural (full_size g.vertical) row within.1;
+      row_low = omega (arith, y, a.vertical.full-high);
+      row_fits = record { fits = omega (arith, y, a.vertical.full-high) };
+    }
+
 -- ---- refusals 5 to 7
 module _ (g : Axes) (base : List ℤ) (column row : ℤ) (words : List ℤ) where
   abbrev placed : Placing
@@ -144,7 +169,7 @@ module _ (n : Numbers) (base : List ℤ) (column row : ℤ) (words : List ℤ) w
   abbrev places : List Test
   places = place_tests g base column row words
 
-  abbrev place : Place
+  abbrev place : Placed
   place = record { axes = g; column = nat_abs column; row = nat_abs row }
 
   abbrev placing : Placing
@@ -159,7 +184,7 @@ module _ (n : Numbers) (base : List ℤ) (column row : ℤ) (words : List ℤ) w
   right-geometry e = sym (ap (λ (u : Verdict). placing_by u g column row) (then-verdict (geometry_tests n) places e))
 
   -- ---- the call, by what 1 to 7 gave
-  given : (p : Place) → placing ≡ At p → (verdict_of (geometry_tests n ++ places) ≡ Accepted) × (place ≡ p)
+  given : (p : Placed) → placing ≡ At p → (verdict_of (geometry_tests n ++ places) ≡ Accepted) × (place ≡ p)
   unfolding placing_of
   given p = by (verdict_of (geometry_tests n ++ places))
     where
@@ -175,7 +200,7 @@ module _ (n : Numbers) (base : List ℤ) (column row : ℤ) (words : List ℤ) w
       by Accepted e = cc
       by (Refused q) e = cc
 
-  pub place-low : (p : Place) → placing ≡ At p → AcceptedAxes p.axes × (p.column < 256) × (p.row < 256)
+  pub place-low : (p : Placed) → placing ≡ At p → AcceptedAxes p.axes × (p.column < 256) × (p.row < 256)
   unfolding place_tests
   place-low p e =
       let k = given p e in
@@ -187,7 +212,7 @@ module _ (n : Numbers) (base : List ℤ) (column row : ℤ) (words : List ℤ) w
       let a = accepted-axes n passed.0 in
       let x = within_low (full_size g.horizontal) column within.0 in
       let y = within_low (full_size g.vertical) row within.1 in
-      subst (λ (q : Place). AcceptedAxes q.axes × (q.column < 256) × (q.row < 256)) k.1 (a, omega (arith, a.horizontal.full-high), omega (arith, a.vertical.full-high))
+      subst (λ (q : Placed). AcceptedAxes q.axes × (q.column < 256) × (q.row < 256)) k.1 (a, omega (arith, a.horizontal.full-high), omega (arith, a.vertical.full-high))
 
   module _ (limit : ℕ) where
     abbrev call : Outcome MacroblockReply
@@ -205,7 +230,7 @@ module _ (n : Numbers) (base : List ℤ) (column row : ℤ) (words : List ℤ) w
         let t : verdict_of (geometry_tests n ++ (places ++ records)) ≡ Refused r = ap verdict_of (sym (append_assoc (geometry_tests n) places records)) ∙ refused-first (geometry_tests n ++ places) records r (declined r e) in
         handed _ _ _ (ap (λ (u : Verdict). by_verdict u Declined words whole) t)
 
-    pub right-place : (p : Place) → placing ≡ At p → Callable limit (site_of p) base words × (site_call limit (site_of p) base words ≡ call)
+    pub right-place : (p : Placed) → placing ≡ At p → Callable limit (site_of p) base words × (site_call limit (site_of p) base words ≡ call)
     unfolding macroblock_call macroblock_tests place_tests
     right-place p e =
         let k = given p e in
@@ -217,4 +242,4 @@ module _ (n : Numbers) (base : List ℤ) (column row : ℤ) (words : List ℤ) w
         let t : verdict_of (geometry_tests n ++ (places ++ records)) ≡ verdict_of records =
         then-verdict (geometry_tests n) (places ++ records) passed.0 ∙ then-verdict places records passed.1 in
         let w = ap (λ (u : Verdict). by_verdict u Declined words whole) t ∙ site-is g base right (nat_abs column) (nat_abs row) limit words in
-        (subst (λ (x : Place). Callable limit (site_of x) base words) k.1 c, ap (λ (x : Place). site_call limit (site_of x) base words) (sym k.1) ∙ sym w)
+        (subst (λ (x : Placed). Callable limit (site_of x) base words) k.1 c, ap (λ (x : Placed). site_call limit (site_of x) base words) (sym k.1) ∙ sym w)

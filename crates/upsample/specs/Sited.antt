@@ -2,10 +2,9 @@
 use Rattle.std.specs.Prelude.{ℕ, ◌+◌, ◌*◌, ◌≤◌, Bool, ◌&&◌, ◌≡◌, List, [], ◌∷◌, ◌++◌, ℤ, nat_abs, length}
 use Rattle.definitions.specs.declared.Axes.{Axes}
 use Rattle.definitions.specs.declared.Numbers.{Numbers}
-use Rattle.definitions.specs.declared.Verdict.{Verdict}
-use Rattle.definitions.specs.declared.Verdict.TheVariants.{Accepted, Refused}
-use Rattle.definitions.specs.declared.MacroblockReply.{MacroblockReply}
-use Rattle.definitions.specs.declared.MacroblockReply.TheVariants.{Answered, Refused as Declined}
+use Rattle.definitions.specs.declared.Refusal.{Refusal}
+use Rattle.definitions.specs.Replies.{MacroblockReply, Verdict, Accepted}
+use Rattle.std.specs.Prelude.{Result, Ok as Answered, Ok as At, Err as Declined, Err as Refused, Err as Wrong}
 use Rattle.definitions.specs.Basics.{pick}
 use Rattle.definitions.specs.Geometry.{axes_of}
 use Rattle.definitions.specs.Record.{record_words}
@@ -16,11 +15,23 @@ use Rattle.macroblock.specs.Made.{Makeable, answer_by, first_of, fixed_of, read_
 use Rattle.records.specs.Checking.{addresses}
 use Rattle.upsample.specs.declared.site.Run.{Run}
 use Rattle.upsample.specs.declared.site.Site.{Site}
-use Rattle.upsample.specs.declared.site.Place.{Place}
-use Rattle.upsample.specs.declared.site.Placing.{Placing}
-use Rattle.upsample.specs.declared.site.Placing.TheVariants.{Place as At, Refused as Wrong}
+use Rattle.upsample.specs.declared.place.Place.{Place}
 
 -- ---- Refusals 1 to 7
+-- a macroblock of the picture, by its column and row
+pub record Placed : Type 0 where
+  pub axes : Axes
+  pub column : ℕ
+  pub row : ℕ
+
+-- such a macroblock, or the first refusal of 1 to 7
+abbrev pub Placing : Type 0
+Placing = Result Placed Refusal
+
+-- what a value of the code says of it
+abbrev pub placed : Place → Placed
+placed p = record { axes = p.geometry.axes; column = p.column; row = p.row }
+
 -- accepted, the macroblock; else the refusal
 abbrev pub placing_by : Verdict → Axes → ℤ → ℤ → Placing
 placing_by Accepted g column row = At (record { axes = g; column = nat_abs column; row = nat_abs row })
@@ -57,7 +68,7 @@ site_by g h v =
     }
 
 -- of a macroblock of the picture
-abbrev pub site_of : Place → Site
+abbrev pub site_of : Placed → Site
 site_of p = site_by p.axes (read_of p.axes.horizontal p.column) (read_of p.axes.vertical p.row)
 
 -- the addresses of both, those of the upper row first

@@ -1,61 +1,44 @@
-// A macroblock of the picture before a word of the base is read: refusals 1 to 7, and where the records stand that the one-macroblock call checks. For both widths.
-ghost use Rattle.std.specs.Prelude.{◌<◌, ◌≤◌, ℤ, length, List, ◌≡◌};
-ghost use Rattle.definitions.specs.Accepted.{AcceptedAxes};
-ghost use Rattle.upsample.specs.Sited.{placing_in, placing_of, run_of, site_of};
+// A macroblock of the picture before a word of the base is read: refusals 1 to 7, and where the records stand that the one-macroblock call checks.
+ghost use Rattle.std.specs.Prelude.{◌*◌, ◌<◌, ◌≤◌, ℤ, length, List, ◌≡◌, IfErr, IfOk, Err, Ok};
+ghost use Rattle.upsample.specs.Sited.{placed, placing_in, placing_of, run_of, site_of};
 
-use common::raster::address_of;
+use crate::place::Place;
 use common::refusals;
-use common::refusals::refused;
-use common::tests::{base_right, output_right, position_right};
-use definitions::{Axes, Numbers, Refusal};
-use geometry::{Checked, Geometry};
+use common::refusals::unless;
+use definitions::{Numbers, Refusal};
+use geometry::Geometry;
+use geometry::raster::address_of;
+use geometry::tests::output_right;
 use macroblock::{AxisRead, Fixed, axis_read, fixed_of, is_two};
 
 // ---- Refusals 1 to 7
-// A macroblock of the picture, with its geometry.
-#[derive(Clone, Copy)]
-pub struct Place {
-    pub axes: Axes,
-    pub column: u32,
-    pub row: u32,
-}
-
-// Such a macroblock, or the first refusal of 1 to 7.
-#[derive(Clone, Copy)]
-pub enum Placing {
-    Place(Place),
-    Refused(Refusal),
-}
-
 // The geometry is accepted: refusals 5 to 7, for a base of so many words and so many words to write.
-fn place_in(g: Axes, words: usize, column: i32, row: i32, lent: usize) -> Placing
-    requires { AcceptedAxes g }
-    ensures { (base out : List ℤ) → length base ≡ words → length out ≡ lent → result ≡ placing_in g base column row out }
+fn place_in(g: Geometry, words: usize, column: i32, row: i32, lent: usize) -> Result<Place, Refusal>
+    ensures placed { (base out : List ℤ) → length base ≡ words → length out ≡ lent → IfOk result (λ p. placing_in g.axes base column row out ≡ Ok (placed p)) }
+    ensures refused { (base out : List ℤ) → length base ≡ words → length out ≡ lent → IfErr result (λ r. placing_in g.axes base column row out ≡ Err r) }
 {
-    if !base_right(g, words) {
-        return Placing::Refused(refused(refusals::BASE_LENGTH));
-    }
-    if !output_right(1, lent) {
-        return Placing::Refused(refused(refusals::OUTPUT_LENGTH));
-    }
-    if position_right(g, column, row) {
-        return Placing::Place(Place {
-            axes: g,
-            column: column as u32,
-            row: row as u32,
-        });
-    }
-    Placing::Refused(refused(refusals::POSITION))
+    unless(g.base_right(words), refusals::BASE_LENGTH)?;
+    unless(output_right(1, lent), refusals::OUTPUT_LENGTH)?;
+    unless(g.position_right(column, row), refusals::POSITION)?;
+    Ok(Place {
+        geometry: g,
+        column: column as u32,
+        row: row as u32,
+    })
 }
 
-// Refusals 1 to 7.
-pub fn place_of(n: Numbers, words: usize, column: i32, row: i32, lent: usize) -> Placing
-    ensures { (base out : List ℤ) → length base ≡ words → length out ≡ lent → result ≡ placing_of n base column row out }
+// Refusals 1 to 7: such a macroblock, or the first of them.
+pub fn place_of(
+    n: Numbers,
+    words: usize,
+    column: i32,
+    row: i32,
+    lent: usize,
+) -> Result<Place, Refusal>
+    ensures placed { (base out : List ℤ) → length base ≡ words → length out ≡ lent → IfOk result (λ p. placing_of n base column row out ≡ Ok (placed p)) }
+    ensures refused { (base out : List ℤ) → length base ≡ words → length out ≡ lent → IfErr result (λ r. placing_of n base column row out ≡ Err r) }
 {
-    match Geometry::new(n) {
-        Checked::Geometry(g) => place_in(g.axes(), words, column, row, lent),
-        Checked::Refused(r) => Placing::Refused(r),
-    }
+    place_in(Geometry::new(n)?, words, column, row, lent)
 }
 
 // ---- The records that a macroblock reads
@@ -76,7 +59,7 @@ pub struct Site {
     pub lower: Run,
 }
 
-// Those of a row, if it is read: one column, or two next to each other.
+// Those of a row, if it is read: one column, or two next to each other; else none, an empty run, which is checked as any other (no Option).
 fn run_of(width: usize, h: AxisRead, row: u32, read: bool) -> Run
     requires { width ≤ 256 }
     ensures { result ≡ run_of width h row read }
@@ -94,13 +77,11 @@ fn run_of(width: usize, h: AxisRead, row: u32, read: bool) -> Run
 
 // The site of a macroblock of the picture.
 pub fn site_of(p: Place) -> Site
-    requires { AcceptedAxes p.axes × (p.column < 256) × (p.row < 256) }
-    ensures { result ≡ site_of p }
+    ensures { result ≡ site_of (placed p) }
 {
-    let g = p.axes;
-    let fixed = fixed_of(g);
-    let h = axis_read(g.horizontal, p.column);
-    let v = axis_read(g.vertical, p.row);
+    let fixed = fixed_of(p.geometry);
+    let h = axis_read(p.geometry.horizontal(), p.column);
+    let v = axis_read(p.geometry.vertical(), p.row);
     let inside = h.inside & v.inside;
     let first = v.reads[0] as u32 / 4;
     let upper = run_of(fixed.width, h, first, inside);

@@ -1,10 +1,10 @@
--- A record that is written whole: four quadrants, its types before or after them, and the detail. Assumes nothing.
+-- A record that is written whole: four quadrants, its types after them, and the detail. Assumes nothing.
 use Prim.Native.Nat.{ℕ, zero, suc, ◌≤◌}
 use mathlib.Core.Path.{◌≡◌, refl, sym, ap, ◌∙◌}
 use mathlib.Core.List.{List, [], ◌∷◌, ◌++◌}
 use native.Mathlib.Omega.{arith}
 use lib.IntN.{ℤ, pos}
-use lib.ListN.{length, get_or, take, drop, set, length-drop}
+use lib.ListN.{length, get_or, take, drop, set}
 use lib.Seq.{take_all, take-suc}
 use Rattle.definitions.specs.declared.Motion.{Motion}
 use Rattle.definitions.specs.declared.Split.{Split}
@@ -59,21 +59,10 @@ module _ (m : List (List Motion)) where
     pub firsts-put : firsts_in l4 ≡ four (λ q. at m q 0)
     firsts-put = ap firsts_in in-turn ∙ firsts (word_of l)
 
-    -- the types after the quadrants
+    -- with the types and the detail
     pub assembled-after : (t : Types) (types : List ℤ) (detail : ℤ) → types ≡ type_words t → set (types ++ drop 5 l4) 77 detail ≡ laid_out (contents_by t (motion_at m) detail)
     unfolding laid_out up_to
     assembled-after t types detail e = λ i. set (e i ++ drop 5 (in-turn i)) 77 detail
-
-  -- and before them
-  pub assembled : (t : Types) (l : List ℤ) → length l ≡ record_words → (types l1 l2 l3 l4 : List ℤ) (detail : ℤ) → types ≡ type_words t
-      → l1 ≡ quadrant_put 0 (get_or m 0 []) (types ++ drop 5 l) → l2 ≡ quadrant_put 1 (get_or m 1 []) l1
-      → l3 ≡ quadrant_put 2 (get_or m 2 []) l2 → l4 ≡ quadrant_put 3 (get_or m 3 []) l3
-      → set l4 77 detail ≡ laid_out (contents_by t (motion_at m) detail)
-  unfolding laid_out up_to
-  assembled t l long types l1 l2 l3 l4 detail e e1 e2 e3 e4 =
-      let typed : length (type_words t ++ drop 5 l) ≡ record_words = simp length-drop (omega arith) in
-      ap (λ (x : List ℤ). set x 77 detail)
-      (in-turn (type_words t ++ drop 5 l) typed l1 l2 l3 l4 (e1 ∙ ap (λ (x : List ℤ). quadrant_put 0 (get_or m 0 []) (x ++ drop 5 l)) e) e2 e3 e4)
 
 -- ---- by a split, and by the one that is chosen before step 4
 said : (t : Split) (m : ℕ → Motion) (detail : ℤ) → laid_out (contents_by (types_of t) m detail) ≡ laid_out (divided_by t m detail)

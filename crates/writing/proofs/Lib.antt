@@ -1,6 +1,6 @@
 -- Laws that the proofs of the functions cite, here and in the crates above.
-pub mod Rounded
 pub mod Apart
 pub mod Placed
 mod Compared
+mod Handed
 pub mod Assembled

@@ -1,14 +1,15 @@
-use native.Mathlib.Omega.{arith}
+use Rattle.std.proofs.Common.{rules}
+use Rattle.gather.proofs.Places.{corners-readable}
 use Rattle.gather.proofs.corners_of.Goals as goal
 
 pub reads_intra-requires : goal.reads_intra-requires
-reads_intra-requires c = (c.requires.0 0 (omega arith), c.requires.1)
+reads_intra-requires g c = search (rules, corners-readable _ _ _ _ _ c.args.r.now.readable)
 
 pub reads_intra-requires-2 : goal.reads_intra-requires-2
-reads_intra-requires-2 c = (c.requires.0 3 (omega arith), c.requires.1)
+reads_intra-requires-2 g c = search (rules, corners-readable _ _ _ _ _ c.args.r.now.readable)
 
 pub reads_intra-requires-3 : goal.reads_intra-requires-3
-reads_intra-requires-3 c = (c.requires.0 12 (omega arith), c.requires.1)
+reads_intra-requires-3 g c = search (rules, corners-readable _ _ _ _ _ c.args.r.now.readable)
 
 pub reads_intra-requires-4 : goal.reads_intra-requires-4
-reads_intra-requires-4 c = (c.requires.0 15 (omega arith), c.requires.1)
+reads_intra-requires-4 g c = search (rules, corners-readable _ _ _ _ _ c.args.r.now.readable)

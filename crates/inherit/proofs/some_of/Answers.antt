@@ -1,21 +1,13 @@
-use mathlib.Core.Path.{sym, ◌∙◌}
+use Rattle.std.proofs.Common.{false, ◌||◌, get_or, ◌∙◌}
+use Rattle.std.proofs.Math.Bool.{or_assoc}
 use Rattle.definitions.specs.Basics.{some_of}
-use Rattle.definitions.proofs.Branches.{or_off}
-use Rattle.definitions.proofs.Choices.{or_left}
 use Rattle.inherit.proofs.some_of.Goals as goal
-
-pub returns-then-b : goal.returns-then-b
-unfolding some_of
-returns-then-b c = sym (or_left _ c.if-b.true)
-
-pub returns-then-b-2 : goal.returns-then-b-2
-unfolding some_of
-returns-then-b-2 c = sym (or_off _ c.if-b.false ∙ or_left _ c.if-b-2.true)
-
-pub returns-then-b-3 : goal.returns-then-b-3
-unfolding some_of
-returns-then-b-3 c = sym (or_off _ c.if-b.false ∙ (or_off _ c.if-b-2.false ∙ or_left _ c.if-b-3.true))
 
 pub returns : goal.returns
 unfolding some_of
-returns c = sym (or_off _ c.if-b.false ∙ (or_off _ c.if-b-2.false ∙ or_off _ c.if-b-3.false))
+returns c =
+    let a = get_or c.args.b 0 false in
+    let b = get_or c.args.b 1 false in
+    let d = get_or c.args.b 2 false in
+    let e = get_or c.args.b 3 false in
+    or_assoc (a || b) d e ∙ or_assoc a b (d || e)

@@ -1,30 +1,19 @@
-use Prim.Native.Nat.{ℕ}
 use mathlib.Core.Bool.{false, and-false, ◌&&◌}
-use mathlib.Core.List.{List}
-use mathlib.Core.Path.{◌≡◌, refl, ap, sym, subst, ◌∙◌}
+use mathlib.Core.List.{List, map}
+use mathlib.Core.Path.{◌≡◌, sym, ap, subst, ◌∙◌}
 use lib.IntN.{ℤ, pos}
 use lib.ListN.{length-replicate}
-use Rattle.definitions.specs.declared.Axes.{Axes}
+use Rattle.std.proofs.lemmas.List.{map-id}
 use Rattle.definitions.specs.declared.Answer.TheVariants.{Outside}
-use Rattle.macroblock.specs.declared.AxisRead.{AxisRead}
-use Rattle.macroblock.specs.declared.Fixed.{Fixed}
-use Rattle.common.specs.declared.counts.Sort.{Sort}
-use Rattle.common.specs.declared.counts.Sort.TheVariants.{Outside as SortOutside}
-use Rattle.definitions.specs.Answer.{Made, made_of}
+use Rattle.definitions.specs.declared.Axis.{Axis}
 use Rattle.definitions.specs.Record.{narrow}
 use Rattle.definitions.proofs.Choices.{no}
-use Rattle.common.specs.Bases.{BaseFormed}
-use Rattle.macroblock.specs.Made.{Makeable, answer_by, answer_for, fixed_of, made_by, motions_inside, basis_by, read_of, sort_by, sort_inside}
-use Rattle.upsample.proofs.Addresses.{makeable, made-of}
-use borrow.Author.Rules.{rules}
+use Rattle.common.specs.declared.counts.Sort.{Sort}
+use Rattle.common.specs.declared.counts.Sort.TheVariants.{Outside as SortOutside}
+use Rattle.macroblock.specs.declared.AxisRead.{AxisRead}
+use Rattle.macroblock.specs.declared.Fixed.{Fixed}
+use Rattle.macroblock.specs.Made.{Makeable, answer_by, answer_for, basis_by, motions_inside, read_of, sort_by, sort_inside}
 use Rattle.log_picture.proofs.answer_at.Goals as goal
-
--- what is made by what is fixed
-by-paper : (g : Axes) (column row : ℕ) (base : List ℤ) → BaseFormed narrow g base → (h v : AxisRead) → h ≡ read_of g.horizontal column → v ≡ read_of g.vertical row → (f : Fixed) → f ≡ fixed_of g
-    → answer_by f h v base ≡ (made_of g base column row).answer
-unfolding made_by
-by-paper g column row base b h v p q f e =
-    ap (λ (k : Fixed). answer_by k h v base) e ∙ ap (λ (k : Made). k.answer) (made-of g column row base b h v p q)
 
 -- outside nothing is made
 outside : (f : Fixed) (h v : AxisRead) (base : List ℤ) → (h.inside && v.inside) ≡ false → Outside ≡ answer_by f h v base
@@ -33,22 +22,24 @@ outside f h v base out =
     ap (λ (s : Sort). answer_for s (basis_by f h v base) (motions_inside f h.reads v.reads base)) (sym (no (sort_inside f h.reads v.reads base) SortOutside out))
 
 pub answer-requires : goal.answer-requires
-answer-requires c = (
-  subst (λ (f : Fixed). Makeable narrow f c.axis_read-h.result c.axis_read-v.result c.args.base.now) (sym c.requires.3)
-      (makeable c.args.g c.args.column c.args.row c.args.base.now c.requires.0 _ _ c.axis_read-h.ensures c.axis_read-v.ensures),
-  length-replicate 78 (pos 0),
-)
+answer-requires c =
+    let h = c.axis_read-h.ensures ∙ ap (λ (a : Axis). read_of a c.args.column) c.horizontal.ensures in (
+      subst (λ (r : AxisRead). Makeable narrow c.args.fixed r c.args.v (map (λ x. x) c.args.base.words.now)) (sym h)
+          (subst (λ (b : List ℤ). Makeable narrow c.args.fixed (read_of c.args.base.geometry.axes.horizontal c.args.column) c.args.v b) (sym (map-id c.args.base.words.now)) c.requires.1),
+      length-replicate 78 (pos 0),
+    )
 
-pub returns-then-v : goal.returns-then-v
-returns-then-v c = c.answer.ensures.answer
-    ∙ by-paper c.args.g c.args.column c.args.row c.args.base.now c.requires.0 _ _ c.axis_read-h.ensures c.axis_read-v.ensures c.args.fixed c.requires.3
-
-pub returns-else-v : goal.returns-else-v
-returns-else-v c = outside c.args.fixed c.axis_read-h.result c.axis_read-v.result c.args.base.now (ap (λ i. c.axis_read-h.result.inside && i) c.if-v.false ∙ and-false c.axis_read-h.result.inside)
-    ∙ by-paper c.args.g c.args.column c.args.row c.args.base.now c.requires.0 _ _ c.axis_read-h.ensures c.axis_read-v.ensures c.args.fixed c.requires.3
+pub returns-then-h : goal.returns-then-h
+returns-then-h c =
+    let h = c.axis_read-h.ensures ∙ ap (λ (a : Axis). read_of a c.args.column) c.horizontal.ensures in
+    c.answer.ensures.answer ∙ (λ i. answer_by c.args.fixed (h i) c.args.v (map-id c.args.base.words.now i))
 
 pub returns-else-h : goal.returns-else-h
 returns-else-h c =
-    let v = read_of c.args.g.vertical c.args.row in
-    outside c.args.fixed c.axis_read-h.result v c.args.base.now (ap (λ i. i && v.inside) c.if-h.false)
-    ∙ by-paper c.args.g c.args.column c.args.row c.args.base.now c.requires.0 _ v c.axis_read-h.ensures refl c.args.fixed c.requires.3
+    let h = c.axis_read-h.ensures ∙ ap (λ (a : Axis). read_of a c.args.column) c.horizontal.ensures in
+    outside c.args.fixed c.axis_read-h.result c.args.v c.args.base.words.now (ap (λ i. i && c.args.v.inside) c.if-h.false) ∙ ap (λ (r : AxisRead). answer_by c.args.fixed r c.args.v c.args.base.words.now) h
+
+pub returns-else-v : goal.returns-else-v
+returns-else-v c =
+    let h = read_of c.args.base.geometry.axes.horizontal c.args.column in
+    outside c.args.fixed h c.args.v c.args.base.words.now (ap (λ i. h.inside && i) c.if-v.false ∙ and-false h.inside)

@@ -1,47 +1,71 @@
-use Prim.Native.Nat.{◌-◌, ◌*◌, ◌≤◌, ◌<◌}
-use mathlib.Core.Path.{◌≡◌, ◌∙◌}
+use Prim.Native.Nat.{ℕ, ◌+◌, ◌*◌, ◌/◌}
+use mathlib.Core.Path.{◌≡◌, refl, sym, ap, ◌∙◌}
 use native.Mathlib.Omega.{arith}
 use borrow.Author.Rules.{rules}
-use Rattle.definitions.specs.Basics.{up_to}
-use Rattle.definitions.specs.Answer.{made_of}
-use Rattle.definitions.specs.Calls.{made_at, counts_of}
-use Rattle.definitions.specs.Raster.{full_count}
-use Rattle.common.proofs.Counted.{counts-none, counts-next, counts-low}
+use Rattle.definitions.specs.declared.Axis.{Axis}
+use Rattle.definitions.specs.Calls.{made_at}
+use Rattle.definitions.specs.Geometry.{full_size, macroblocks}
+use Rattle.definitions.specs.Log.{picture_lines}
+use Rattle.common.proofs.Counted.{counts-low}
+use Rattle.common.proofs.Sizes.{full-small}
 use Rattle.log_lines.specs.Put.{Put}
-use Rattle.log_lines.proofs.Putting.{put-length}
-use Rattle.log_picture.proofs.Growing.{first_lines, first_short, none-put, line-more, line-last}
+use Rattle.macroblock.specs.Made.{read_of}
+use Rattle.bases.proofs.Rows.{address_below, rows_all}
+use Rattle.log_picture.proofs.Growing.{answer-made, last-fits, line-fits, line-last, ready, so_far_at, so_far_more, so_far_none}
 use Rattle.log_picture.proofs.picture_lines.Goals as goal
 
-pub loop-a-init : goal.loop-a-init
-loop-a-init c = (omega arith, none-put c.args.g c.args.base.now c.args.out.now, counts-none (made_at c.args.g c.args.base.now))
+pub loop-row-init : goal.loop-row-init
+loop-row-init c =
+    (so_far_at c.args.base.geometry.axes c.args.base.words.now 0 _ (omega arith) (rw (c.new-log.ensures.none.0, c.new-log.ensures.none.1) (so_far_none c.args.base.geometry.axes c.args.base.words.now c.args.out.now _ refl)), refl)
+
+pub answer_at-given-requires : goal.answer_at-given-requires
+answer_at-given-requires c =
+    let axes = c.args.base.geometry.axes in
+    let wide : c.axes-axes.result.horizontal.full.0 / 16 ≡ macroblocks (full_size axes.horizontal) = λ i. macroblocks (full_size (c.axes-axes.ensures i).horizontal) in (
+      omega (arith, wide, c.args.base.geometry.accepted.horizontal.full-high, c.loop-column-test.true),
+      ready axes c.args.base.words.now c.args.base.formed _ c.loop-row.row c.loop-column.column wide c.loop-column-test.true c.fixed_of-fixed.result c.fixed_of-fixed.ensures c.axis_read-v.result (c.axis_read-v.ensures ∙ ap (λ (a : Axis). read_of a c.loop-row.row) c.vertical.ensures),
+    )
 
 pub count-counts-requires : goal.count-counts-requires
 count-counts-requires c =
-    omega (arith, counts-low (made_at c.args.g c.args.base.now) c.loop-a.a c.loop-a.counts c.loop-a.invariant.2, c.full_count-total.ensures.1)
+    let axes = c.args.base.geometry.axes in
+    let below = address_below axes (c.axes-axes.result.horizontal.full.0 / 16) (c.axes-axes.result.vertical.full.0 / 16) c.loop-row.row (λ i. macroblocks (full_size (c.axes-axes.ensures i).horizontal)) (λ i. macroblocks (full_size (c.axes-axes.ensures i).vertical)) c.loop-column.column c.loop-row-test.true c.loop-column-test.true in
+    omega (arith, counts-low (made_at axes c.args.base.words.now) _ c.loop-column.counts c.loop-column.invariant.0.counted, full-small axes c.args.base.geometry.accepted, below)
 
-pub macroblock_line-at-requires : goal.macroblock_line-at-requires
-macroblock_line-at-requires c =
-    let below : c.loop-a.a < full_count c.args.g = omega (arith, c.full_count-total.ensures.0) in
-    let at_low : c.loop-a.at ≤ 18 * c.loop-a.a = let b = below in
-    omega (arith, first_short c.args.g c.args.base.now c.requires.0.right.axes c.loop-a.a (omega arith)) in
-    let e = put-length c.loop-a.invariant.1 in
-    (c.column_at-column.ensures.1, c.row_at-row.ensures.1, omega (arith, at_low, c.requires.1, c.full_count-total.ensures.1))
+pub macroblock_line-requires : goal.macroblock_line-requires
+macroblock_line-requires c =
+    let axes = c.args.base.geometry.axes in
+    let accepted = c.args.base.geometry.accepted in
+    let wide : c.axes-axes.result.horizontal.full.0 / 16 ≡ macroblocks (full_size axes.horizontal) = λ i. macroblocks (full_size (c.axes-axes.ensures i).horizontal) in
+    let high : c.axes-axes.result.vertical.full.0 / 16 ≡ macroblocks (full_size axes.vertical) = λ i. macroblocks (full_size (c.axes-axes.ensures i).vertical) in
+    let below = address_below axes _ (c.axes-axes.result.vertical.full.0 / 16) c.loop-row.row wide high c.loop-column.column c.loop-row-test.true c.loop-column-test.true in
+    (omega (arith, wide, accepted.horizontal.full-high, c.loop-column-test.true), omega (arith, high, accepted.vertical.full-high, c.loop-row-test.true), line-fits axes c.args.base.words.now _ c.loop-column.invariant.0 accepted below c.requires)
 
-pub loop-a-preserved : goal.loop-a-preserved
-unfolding made_at
-loop-a-preserved c =
-    let answer : c.answer_at-given.result ≡ (made_at c.args.g c.args.base.now c.loop-a.a).answer = c.answer_at-given.ensures ∙ (λ i. (made_of c.args.g c.args.base.now (c.column_at-column.ensures.0 i) (c.row_at-row.ensures.0 i)).answer) in (
-      omega arith,
-      line-more c.args.g c.args.base.now c.loop-a.a c.loop-a.invariant.1 _ _ _ c.column_at-column.ensures.0 c.row_at-row.ensures.0 answer c.macroblock_line-at.ensures,
-      counts-next (made_at c.args.g c.args.base.now) c.loop-a.a c.loop-a.counts c.count-counts.result _ c.loop-a.invariant.2 answer c.count-counts.ensures,
+pub loop-column-preserved : goal.loop-column-preserved
+loop-column-preserved c =
+    let axes = c.args.base.geometry.axes in
+    let words = c.args.base.words.now in
+    let wide : c.axes-axes.result.horizontal.full.0 / 16 ≡ macroblocks (full_size axes.horizontal) = λ i. macroblocks (full_size (c.axes-axes.ensures i).horizontal) in
+    let made = answer-made axes words c.args.base.formed _ c.loop-row.row c.loop-column.column wide c.loop-column-test.true c.fixed_of-fixed.result c.fixed_of-fixed.ensures c.axis_read-v.result (c.axis_read-v.ensures ∙ ap (λ (a : Axis). read_of a c.loop-row.row) c.vertical.ensures) in (
+      so_far_at axes words (c.loop-row.row * (c.axes-axes.result.horizontal.full.0 / 16) + c.loop-column.column + 1) _ (omega arith)
+          (so_far_more axes words _ c.loop-column.invariant.0 c.loop-column.column c.loop-row.row _ (omega (arith, wide, c.loop-column-test.true)) (ap (λ (x : ℕ). c.loop-row.row * x + c.loop-column.column) (sym wide)) (c.answer_at-given.ensures ∙ made) c.macroblock_line.ensures.bytes c.count-counts.ensures),
+      search rules,
     )
 
 pub sync_line-requires : goal.sync_line-requires
 sync_line-requires c =
-    let k = counts-low (made_at c.args.g c.args.base.now) c.loop-a.a c.loop-a.counts c.loop-a.invariant.2 in
-    let e = put-length c.loop-a.invariant.1 in
-    let f = first_short c.args.g c.args.base.now c.requires.0.right.axes c.loop-a.a (omega arith) in
-    (c.full_count-total.ensures.1, omega arith, omega arith, omega arith, omega (arith, c.requires.1))
+    let axes = c.args.base.geometry.axes in
+    let last : c.loop-row.row ≡ c.axes-axes.result.vertical.full.0 / 16 = omega (arith, c.loop-row.auto.row-end, c.loop-row-test.false) in
+    let all = rows_all axes (c.axes-axes.result.horizontal.full.0 / 16) (c.axes-axes.result.vertical.full.0 / 16) c.loop-row.row (λ i. macroblocks (full_size (c.axes-axes.ensures i).horizontal)) (λ i. macroblocks (full_size (c.axes-axes.ensures i).vertical)) last in
+    let k = counts-low (made_at axes c.args.base.words.now) _ c.loop-row.counts c.loop-row.invariant.0.counted in
+    let f = full-small axes c.args.base.geometry.accepted in
+    (c.full_count.ensures.1, omega (arith, k, f, all), omega (arith, k, f, all), omega (arith, k, f, all), last-fits axes c.args.base.words.now _ c.loop-row.invariant.0 c.args.base.geometry.accepted all c.requires)
 
 pub returns : goal.returns
-returns c = line-last c.args.g c.args.base.now c.loop-a.a c.loop-a.invariant.1 c.full_count-total.result c.loop-a.counts (omega arith) c.full_count-total.ensures.0 c.loop-a.invariant.2 c.sync_line.ensures
+returns c =
+    let axes = c.args.base.geometry.axes in
+    let last : c.loop-row.row ≡ c.axes-axes.result.vertical.full.0 / 16 = omega (arith, c.loop-row.auto.row-end, c.loop-row-test.false) in
+    let all = rows_all axes (c.axes-axes.result.horizontal.full.0 / 16) (c.axes-axes.result.vertical.full.0 / 16) c.loop-row.row (λ i. macroblocks (full_size (c.axes-axes.ensures i).horizontal)) (λ i. macroblocks (full_size (c.axes-axes.ensures i).vertical)) last in
+    let p : Put c.args.out.now 0 (picture_lines axes c.args.base.words.now) c.sync_line.new.log.out.now c.sync_line.new.log.at =
+    line-last axes c.args.base.words.now _ c.loop-row.invariant.0 c.full_count.result all c.full_count.ensures.0 c.sync_line.ensures.bytes in
+    search rules

@@ -1,5 +1,5 @@
 use Prim.Native.Nat.{◌<◌}
-use mathlib.Core.List.{List}
+use mathlib.Core.List.{List, map}
 use mathlib.Core.Path.{◌≡◌, ◌∙◌}
 use mathlib.Core.Bool.{true}
 use native.Mathlib.Omega.{arith}
@@ -19,7 +19,7 @@ unfolding rule7
 small r e = four-bits (detail_of r) e
 
 pub overflow_cast-result : goal.overflow_cast-result
-overflow_cast-result c =
-    let s = small c.args.out.now c.requires.1 in
-    let e : to_z w32 (of_z w32 c.word_at-6.result) ≡ detail_of c.args.out.now = to_z-of_z {w = w32} (search rules) ∙ c.word_at-6.ensures in
+overflow_cast-result g c =
+    let s = small (map g.W.Word.value c.args.out.now) c.requires.1 in
+    let e : to_z w32 (of_z w32 c.word_at-6.result) ≡ detail_of (map g.W.Word.value c.args.out.now) = to_z-of_z {w = w32} (search rules) ∙ c.word_at-6.ensures.is in
     rw e (s.0, record { fits = omega (arith, s.1) })

@@ -1,62 +1,75 @@
-use Prim.Native.Nat.{ℕ, ◌+◌, ◌-◌, ◌*◌}
-use mathlib.Core.Path.{◌≡◌, refl, sym, ap, subst, ◌∙◌}
+use Prim.Native.Nat.{◌+◌, ◌*◌, ◌/◌, ◌<◌, ◌≤◌}
+use mathlib.Core.Path.{◌≡◌, refl, ap, ◌∙◌}
+use mathlib.Core.List.{map}
 use native.Mathlib.Omega.{arith}
-use borrow.Author.Rules.{rules}
-use lib.ListN.{get_or, length-take, length-drop}
-use Rattle.definitions.specs.Record.{record_words, narrow}
-use Rattle.definitions.specs.Answer.{Made}
+use borrow.Author.Rules.{rules, scaled_fits≤}
+use lib.ListN.{get_or, length, length-map}
+use Rattle.definitions.specs.declared.Axis.{Axis}
 use Rattle.definitions.specs.Calls.{made_at}
+use Rattle.definitions.specs.Geometry.{full_size, macroblocks}
 use Rattle.definitions.specs.Raster.{full_count}
-use Rattle.definitions.proofs.Demand.{made-length}
-use Rattle.definitions.proofs.Parts.{parts_none, parts_all, part-back}
-use Rattle.macroblock.specs.declared.Fixed.{Fixed}
-use Rattle.macroblock.specs.Made.{Makeable, made_by, read_of}
-use Rattle.common.specs.Sorts.{sort_of}
-use Rattle.macroblock.proofs.Paper.{sort-is}
+use Rattle.common.proofs.Counted.{counts-low}
+use Rattle.common.proofs.Sizes.{full-small}
+use Rattle.macroblock.specs.Made.{read_of}
 use Rattle.picture.specs.Reads.{no_read}
-use Rattle.common.proofs.Counted.{counts-none, counts-next, counts-low}
-use Rattle.upsample.proofs.Addresses.{makeable, made-there}
-use Rattle.picture.proofs.Filling.{read_none, words_of}
+use Rattle.bases.proofs.Rows.{address_below, rows_all}
+use Rattle.picture.proofs.Filling.{all_made, read_none, ready, room, so_far_at, so_far_more, so_far_none, sort-made, written-made}
 use Rattle.picture.proofs.fill.Goals as goal
 
-pub read_columns-requires : goal.read_columns-requires
-read_columns-requires c = (search rules, read_none _ c.read_nowhere-columns.result c.read_nowhere-columns.ensures)
+pub read_across-requires : goal.read_across-requires
+read_across-requires g c = read_none _ c.read_nowhere-columns.result c.read_nowhere-columns.ensures
 
-pub loop-a-init : goal.loop-a-init
-loop-a-init c =
-    let f = made_at c.args.g c.args.base.now in
-    (omega arith, c.requires.1 ∙ ap (λ (n : ℕ). record_words * n) (sym c.full_count-total.ensures.0), parts_none (λ k. (f k).written) record_words c.args.out.now, counts-none f, omega arith, omega (arith, c.requires.0.right.axes.horizontal.full-low), λ h. absurd (omega arith))
+pub loop-row-init : goal.loop-row-init
+loop-row-init g c = so_far_at _ _ 0 _ (omega arith) (so_far_none _ _ _ _ refl)
+
+pub offset_bounds-out-from : goal.offset_bounds-out-from
+offset_bounds-out-from g c =
+    let axes = c.args.base.geometry.axes in
+    let below = address_below axes (c.axes-axes.result.horizontal.full.0 / 16) (c.axes-axes.result.vertical.full.0 / 16) c.loop-row.row (λ i. macroblocks (full_size (c.axes-axes.ensures i).horizontal)) (λ i. macroblocks (full_size (c.axes-axes.ensures i).vertical)) c.loop-column.column c.loop-row-test.true c.loop-column-test.true in
+    let l : 78 * (c.loop-row.row * (c.axes-axes.result.horizontal.full.0 / 16) + c.loop-column.column) ≤ length c.loop-column.out = omega (arith, below, c.loop-column.auto.out, c.loop-row.auto.out, c.requires) in
+    search (rules, scaled_fits≤)
 
 pub make-sort-requires : goal.make-sort-requires
-make-sort-requires c =
-    let column-there : get_or c.read_columns.new.reads c.loop-a.at.column no_read ≡ read_of c.args.g.horizontal c.loop-a.at.column = c.read_columns.ensures.each _ c.loop-a.invariant.5 in
-    let h = get_or c.read_columns.new.reads c.loop-a.at.column no_read in (
-      subst (λ (f : Fixed). Makeable narrow f h c.row_read-v.result c.args.base.now) (sym c.fixed_of-fixed.ensures)
-          (makeable c.args.g c.loop-a.at.column c.loop-a.at.row c.args.base.now c.requires.0 h c.row_read-v.result column-there c.row_read-v.ensures),
-      simp (length-take, length-drop) (omega arith),
+make-sort-requires g c =
+    let axes = c.args.base.geometry.axes in
+    let wide : c.axes-axes.result.horizontal.full.0 / 16 ≡ macroblocks (full_size axes.horizontal) = λ i. macroblocks (full_size (c.axes-axes.ensures i).horizontal) in
+    let below : c.loop-row.row * (c.axes-axes.result.horizontal.full.0 / 16) + c.loop-column.column < full_count axes = address_below axes _ (c.axes-axes.result.vertical.full.0 / 16) c.loop-row.row wide (λ i. macroblocks (full_size (c.axes-axes.ensures i).vertical)) c.loop-column.column c.loop-row-test.true c.loop-column-test.true in (
+      ready axes (map g.W.Word.value c.args.base.words.now) c.args.base.formed _ c.loop-row.row c.loop-column.column wide c.loop-column-test.true c.fixed_of-fixed.result c.fixed_of-fixed.ensures
+          (get_or c.read_across.new.reads c.loop-column.column no_read) c.axis_read-v.result (c.read_across.ensures.each _ (omega (arith, wide, c.loop-column-test.true))) (c.axis_read-v.ensures ∙ ap (λ (a : Axis). read_of a c.loop-row.row) c.vertical.ensures),
+      room _ _ c.loop-column.out below (c.loop-column.auto.out ∙ (c.loop-row.auto.out ∙ c.requires)),
     )
 
 pub count_sort-counts-requires : goal.count_sort-counts-requires
-count_sort-counts-requires c = omega (arith, counts-low (made_at c.args.g c.args.base.now) c.loop-a.a c.loop-a.counts c.loop-a.invariant.3, c.full_count-total.ensures.1, c.loop-a-test)
+count_sort-counts-requires g c =
+    let axes = c.args.base.geometry.axes in
+    let wide : c.axes-axes.result.horizontal.full.0 / 16 ≡ macroblocks (full_size axes.horizontal) = λ i. macroblocks (full_size (c.axes-axes.ensures i).horizontal) in
+    let below : c.loop-row.row * (c.axes-axes.result.horizontal.full.0 / 16) + c.loop-column.column < full_count axes = address_below axes _ (c.axes-axes.result.vertical.full.0 / 16) c.loop-row.row wide (λ i. macroblocks (full_size (c.axes-axes.ensures i).vertical)) c.loop-column.column c.loop-row-test.true c.loop-column-test.true in
+    omega (arith, counts-low (made_at axes (map g.W.Word.value c.args.base.words.now)) _ c.loop-column.counts c.loop-column.invariant.counted, full-small axes c.args.base.geometry.accepted, below)
 
-pub loop-a-preserved : goal.loop-a-preserved
-unfolding made_by
-loop-a-preserved c =
-    let column-there : get_or c.read_columns.new.reads c.loop-a.at.column no_read ≡ read_of c.args.g.horizontal c.loop-a.at.column = c.read_columns.ensures.each _ c.loop-a.invariant.5 in
-    let f = made_at c.args.g c.args.base.now in
-    let h = get_or c.read_columns.new.reads c.loop-a.at.column no_read in
-    let m = (λ i. made_by (c.fixed_of-fixed.ensures i) h c.row_read-v.result c.args.base.now) ∙ made-there c.args.g c.loop-a.at.column c.loop-a.at.row c.args.base.now c.requires.0 h c.row_read-v.result column-there c.row_read-v.ensures c.loop-a.a c.loop-a.invariant.5 c.loop-a.invariant.4 in
-    let sort = c.make-sort.ensures.sort ∙ (sort-is _ h c.row_read-v.result c.args.base.now ∙ ap (λ (k : Made). sort_of k.answer) m) in (
-      omega (arith, c.loop-a-test),
-      c.out-1.given.1 ∙ c.loop-a.invariant.1,
-      part-back (λ k. (f k).written) record_words (made-length c.args.g c.args.base.now) c.args.out.now c.loop-a.out c.make-sort.new.out c.loop-a.a (78 * c.loop-a.a + 78 - 78 * c.loop-a.a) (omega arith) c.loop-a.invariant.2 (c.make-sort.ensures.written ∙ ap (λ (k : Made). k.written) m),
-      counts-next f c.loop-a.a c.loop-a.counts c.count_sort-counts.result (f c.loop-a.a).answer c.loop-a.invariant.3 refl (c.count_sort-counts.ensures (f c.loop-a.a).answer sort),
-      c.next-at.ensures.address ∙ ap (λ (k : ℕ). k + 1) c.loop-a.invariant.4,
-      c.next-at.ensures.column,
-      λ h. c.row_read-v.ensures ∙ ap (read_of c.args.g.vertical) (sym (c.next-at.ensures.row h)),
-    )
+pub loop-column-preserved : goal.loop-column-preserved
+loop-column-preserved g c =
+    let axes = c.args.base.geometry.axes in
+    let base = map g.W.Word.value c.args.base.words.now in
+    let wide : c.axes-axes.result.horizontal.full.0 / 16 ≡ macroblocks (full_size axes.horizontal) = λ i. macroblocks (full_size (c.axes-axes.ensures i).horizontal) in
+    let h = get_or c.read_across.new.reads c.loop-column.column no_read in
+    let p = c.read_across.ensures.each _ (omega (arith, wide, c.loop-column-test.true)) in
+    let q = c.axis_read-v.ensures ∙ ap (λ (a : Axis). read_of a c.loop-row.row) c.vertical.ensures in
+    let sort = sort-made axes base c.args.base.formed _ c.loop-row.row c.loop-column.column wide c.loop-column-test.true c.fixed_of-fixed.result c.fixed_of-fixed.ensures h c.axis_read-v.result p q in
+    let written = written-made axes base c.args.base.formed _ c.loop-row.row c.loop-column.column wide c.loop-column-test.true c.fixed_of-fixed.result c.fixed_of-fixed.ensures h c.axis_read-v.result p q in
+    so_far_at axes base (c.loop-row.row * (c.axes-axes.result.horizontal.full.0 / 16) + c.loop-column.column + 1) _ (omega arith)
+    (so_far_more axes base g.W.Word.value c.args.out.now c.loop-column.out c.make-sort.new.out c.loop-column.counts c.count_sort-counts.result _ _ _ refl (omega arith) c.loop-column.invariant
+    (c.make-sort.ensures.written ∙ written) (c.count_sort-counts.ensures _ (c.make-sort.ensures.sort ∙ sort)))
+
+pub returns-clause-counts : goal.returns-clause-counts
+returns-clause-counts g c =
+    let axes = c.args.base.geometry.axes in
+    let last : c.loop-row.row ≡ c.axes-axes.result.vertical.full.0 / 16 = omega (arith, c.loop-row.auto.row-end, c.loop-row-test.false) in
+    let all = rows_all axes (c.axes-axes.result.horizontal.full.0 / 16) (c.axes-axes.result.vertical.full.0 / 16) c.loop-row.row (λ i. macroblocks (full_size (c.axes-axes.ensures i).horizontal)) (λ i. macroblocks (full_size (c.axes-axes.ensures i).vertical)) last in
+    (all_made axes (map g.W.Word.value c.args.base.words.now) (map g.W.Word.value c.args.out.now) (map g.W.Word.value c.loop-row.out) c.loop-row.counts _ (length-map c.args.out.now g.W.Word.value ∙ c.requires) all c.loop-row.invariant).0
 
 pub returns-clause-words : goal.returns-clause-words
-returns-clause-words c =
-    let f = made_at c.args.g c.args.base.now in
-    let e : c.loop-a.a ≡ full_count c.args.g = omega (arith, c.full_count-total.ensures.0) in c.loop-a.invariant.2 ∙ (parts_all (λ k. (f k).written) record_words c.args.out.now (full_count c.args.g) c.loop-a.a c.requires.1 e ∙ words_of f (full_count c.args.g))
+returns-clause-words g c =
+    let axes = c.args.base.geometry.axes in
+    let last : c.loop-row.row ≡ c.axes-axes.result.vertical.full.0 / 16 = omega (arith, c.loop-row.auto.row-end, c.loop-row-test.false) in
+    let all = rows_all axes (c.axes-axes.result.horizontal.full.0 / 16) (c.axes-axes.result.vertical.full.0 / 16) c.loop-row.row (λ i. macroblocks (full_size (c.axes-axes.ensures i).horizontal)) (λ i. macroblocks (full_size (c.axes-axes.ensures i).vertical)) last in
+    (all_made axes (map g.W.Word.value c.args.base.words.now) (map g.W.Word.value c.args.out.now) (map g.W.Word.value c.loop-row.out) c.loop-row.counts _ (length-map c.args.out.now g.W.Word.value ∙ c.requires) all c.loop-row.invariant).1

@@ -1,35 +1,29 @@
-use mathlib.Core.Bool.{not}
-use mathlib.Core.Path.{sym, ◌∙◌, ap}
-use Rattle.definitions.proofs.Choices.{yes, no}
-use Rattle.rules.specs.Searching.{head_broken}
-use Rattle.records.proofs.Ranges.{types, references}
+use mathlib.Core.Path.{sym, ◌∙◌}
+use native.Mathlib.Omega.{arith}
+use Rattle.rules.proofs.Parts.{types-by, references_by}
+use Rattle.rules.proofs.Searched.{head_1, head_2, head_3, head_4, head-none, some_number, no_number}
 use Rattle.rules.proofs.head_rule.Goals as goal
 
 pub returns-then-not-all_within : goal.returns-then-not-all_within
-unfolding head_broken
-returns-then-not-all_within c = sym (yes _ _ (ap not (types c.args.words.now ∙ sym c.all_within.ensures) ∙ (ap not c.if-not-all_within.true)))
+returns-then-not-all_within c = some_number _ 1 (head_1 c.args.words.now (types-by c.args.words.now c.all_within.ensures c.types.ensures ∙ c.if-not-all_within.true)) (λ z. omega arith)
 
 pub returns-then-not-sub_types_right : goal.returns-then-not-sub_types_right
-unfolding head_broken
-returns-then-not-sub_types_right c = sym (no _ _ (ap not (types c.args.words.now ∙ sym c.all_within.ensures) ∙ (ap not c.if-not-all_within.false))
-    ∙ yes _ _ (ap not (sym c.sub_types_right.ensures) ∙ (ap not c.if-not-sub_types_right.true)))
+returns-then-not-sub_types_right c =
+    some_number _ 2 (head_2 c.args.words.now (types-by c.args.words.now c.all_within.ensures c.types.ensures ∙ c.if-not-all_within.false) (sym c.sub_types_right.ensures ∙ c.if-not-sub_types_right.true)) (λ z. omega arith)
 
 pub returns-then-not-all_within-2 : goal.returns-then-not-all_within-2
-unfolding head_broken
-returns-then-not-all_within-2 c = sym (no _ _ (ap not (types c.args.words.now ∙ sym c.all_within.ensures) ∙ (ap not c.if-not-all_within.false))
-    ∙ (no _ _ (ap not (sym c.sub_types_right.ensures) ∙ (ap not c.if-not-sub_types_right.false))
-    ∙ yes _ _ (ap not (references c.args.words.now ∙ sym c.all_within-2.ensures) ∙ (ap not c.if-not-all_within-2.true))))
+returns-then-not-all_within-2 c =
+    some_number _ 3
+    (head_3 c.args.words.now (types-by c.args.words.now c.all_within.ensures c.types.ensures ∙ c.if-not-all_within.false) (sym c.sub_types_right.ensures ∙ c.if-not-sub_types_right.false) (references_by c.args.words.now c.all_within-2.ensures c.references.ensures ∙ c.if-not-all_within-2.true)) (λ z. omega arith)
 
 pub returns-then-not-usage_right : goal.returns-then-not-usage_right
-unfolding head_broken
-returns-then-not-usage_right c = sym (no _ _ (ap not (types c.args.words.now ∙ sym c.all_within.ensures) ∙ (ap not c.if-not-all_within.false))
-    ∙ (no _ _ (ap not (sym c.sub_types_right.ensures) ∙ (ap not c.if-not-sub_types_right.false))
-    ∙ (no _ _ (ap not (references c.args.words.now ∙ sym c.all_within-2.ensures) ∙ (ap not c.if-not-all_within-2.false))
-    ∙ yes _ _ (ap not (sym c.usage_right.ensures) ∙ (ap not c.if-not-usage_right.true)))))
+returns-then-not-usage_right c =
+    some_number _ 4
+    (head_4 c.args.words.now (types-by c.args.words.now c.all_within.ensures c.types.ensures ∙ c.if-not-all_within.false) (sym c.sub_types_right.ensures ∙ c.if-not-sub_types_right.false) (references_by c.args.words.now c.all_within-2.ensures c.references.ensures ∙ c.if-not-all_within-2.false)
+    (sym c.usage_right.ensures ∙ c.if-not-usage_right.true)) (λ z. omega arith)
 
 pub returns : goal.returns
-unfolding head_broken
-returns c = sym (no _ _ (ap not (types c.args.words.now ∙ sym c.all_within.ensures) ∙ (ap not c.if-not-all_within.false))
-    ∙ (no _ _ (ap not (sym c.sub_types_right.ensures) ∙ (ap not c.if-not-sub_types_right.false))
-    ∙ (no _ _ (ap not (references c.args.words.now ∙ sym c.all_within-2.ensures) ∙ (ap not c.if-not-all_within-2.false))
-    ∙ no _ _ (ap not (sym c.usage_right.ensures) ∙ (ap not c.if-not-usage_right.false)))))
+returns c =
+    no_number _
+    (head-none c.args.words.now (types-by c.args.words.now c.all_within.ensures c.types.ensures ∙ c.if-not-all_within.false) (sym c.sub_types_right.ensures ∙ c.if-not-sub_types_right.false) (references_by c.args.words.now c.all_within-2.ensures c.references.ensures ∙ c.if-not-all_within-2.false)
+    (sym c.usage_right.ensures ∙ c.if-not-usage_right.false))

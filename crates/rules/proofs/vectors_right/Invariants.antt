@@ -1,5 +1,4 @@
 -- `vectors_right` meets its contract: all words fit, and the quadrants passed. Assumes nothing.
-use Prim.Native.Nat.{◌-◌, ◌≤◌}
 use mathlib.Core.Bool.{◌&&◌}
 use mathlib.Core.Path.{◌≡◌}
 use Rattle.definitions.specs.Basics.{all_below}
@@ -7,7 +6,4 @@ use Rattle.rules.specs.Searching.{unused_zero}
 use Rattle.rules.proofs.vectors_right.Given as goal
 
 abbrev pub invariant-loop-q : goal.invariant-loop-q
-invariant-loop-q l = (l.q ≤ 4) × (l.zero ≡ all_below l.q (λ q. unused_zero l.words q 0 && unused_zero l.words q 1))
-
-abbrev pub decreases-loop-q : goal.decreases-loop-q
-decreases-loop-q l = 4 - l.q
+invariant-loop-q l = l.zero ≡ all_below l.q (λ q. unused_zero l.words q 0 && unused_zero l.words q 1)

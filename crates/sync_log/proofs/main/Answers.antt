@@ -4,10 +4,10 @@ use Rattle.log_text.proofs.Stages.{log-within}
 use Rattle.sync_log.proofs.main.Goals as goal
 
 pub slice_bounds-text-end : goal.slice_bounds-text-end
-slice_bounds-text-end c = rw c.in-Text.is at c.read_input.ensures
+slice_bounds-text-end c = rw c.in-Ok.is at c.read_input.ensures
 
 pub slice_bounds-log_of-end : goal.slice_bounds-log_of-end
-slice_bounds-log_of-end c = sym (length-take-le _ _ (rw c.in-Text.is at c.read_input.ensures))
+slice_bounds-log_of-end c = sym (length-take-le _ _ (rw c.in-Ok.is at c.read_input.ensures))
 
 pub slice_bounds-out-end : goal.slice_bounds-out-end
 slice_bounds-out-end c = log-within c.log_of-logged.ensures

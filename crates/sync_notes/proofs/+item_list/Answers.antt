@@ -1,58 +1,78 @@
-use Rattle.grammar.specs.declared.Got.TheVariants.{At, Bad}
+use Rattle.grammar.proofs.Reading.{handed_on}
+use Rattle.std.specs.Prelude.{Ok as At, Err as Bad}
 use Rattle.definitions.specs.Text.{Item}
 use Rattle.grammar.specs.Readers.{Stands}
 use Rattle.grammar.proofs.Items.{letter-of, item-ends, item-bad, item-shallow, item-word, item-number, item-no-number, item-list, rest-ends, rest-bad, rest-close, rest-space, items-item, items-bad}
 use native.Mathlib.Omega.{arith}
 use Rattle.sync_notes.proofs.+item_list.Goals as goal
 
-pub item-returns-then-at-s : goal.item-returns-then-at-s
-item-returns-then-at-s t c = item-ends c.args.s.now c.args.at c.args.depth c.requires c.if-at-s.true
+pub item-returns-in_err-byte-clause-read : goal.item-returns-in_err-byte-clause-read
+item-returns-in_err-byte-clause-read t c = rw (handed_on c.from_residual.ensures.1, c.in_err-byte.ensures.1) (item-ends _ _ c.args.depth c.args.t.now.within c.in_err-byte.ensures.0)
 
-pub item-returns-then-depth-eq0 : goal.item-returns-then-depth-eq0
-item-returns-then-depth-eq0 t c = item-shallow c.args.s.now c.args.at c.args.depth c.requires _ c.class_of-c.ensures c.in-Open.is c.if-depth-eq0.true
+pub item-returns-then-depth-eq0-clause-read : goal.item-returns-then-depth-eq0-clause-read
+item-returns-then-depth-eq0-clause-read t c =
+    item-shallow _ _ c.args.depth c.args.t.now.within _ (rw c.in_ok-byte.ensures.1 at c.class_of-c.ensures) c.in-Open.is c.if-depth-eq0.true
 
-pub item-returns-in-Alpha : goal.item-returns-in-Alpha
-item-returns-in-Alpha t c = item-word c.args.s.now c.args.at c.args.depth c.if-at-s.false (letter-of _ _ c.class_of-c.ensures c.in-Alpha.is) _ c.letters.ensures
+pub item-returns-in-Alpha-clause-read : goal.item-returns-in-Alpha-clause-read
+item-returns-in-Alpha-clause-read t c =
+    item-word _ _ c.args.depth c.in_ok-byte.ensures.0 (letter-of _ _ (rw c.in_ok-byte.ensures.1 at c.class_of-c.ensures) c.in-Alpha.is) _ c.letters.ensures.read
 
-pub item-returns-in-Value : goal.item-returns-in-Value
-item-returns-in-Value t c = item-number c.args.s.now c.args.at c.args.depth c.if-at-s.false _ c.class_of-c.ensures c.in-Zero.is c.in-Value.field-0 c.in-Value.e (rw c.in-Value.is at c.number-n.ensures)
+pub item-returns-in_ok-number-in-Zero-clause-read : goal.item-returns-in_ok-number-in-Zero-clause-read
+item-returns-in_ok-number-in-Zero-clause-read t c =
+    item-number _ _ c.args.depth c.in_ok-byte.ensures.0 _ (rw c.in_ok-byte.ensures.1 at c.class_of-c.ensures) c.in-Zero.is c.in_ok-number-in-Zero.field-0 _ c.in_ok-number-in-Zero.ensures.read
 
-pub item-returns-in-Bad : goal.item-returns-in-Bad
-item-returns-in-Bad t c = item-no-number c.args.s.now c.args.at c.args.depth c.if-at-s.false _ c.class_of-c.ensures c.in-Zero.is _ (rw c.in-Bad.is at c.number-n.ensures)
+pub item-returns-in_err-number-in-Zero-clause-read : goal.item-returns-in_err-number-in-Zero-clause-read
+item-returns-in_err-number-in-Zero-clause-read t c =
+    rw (handed_on c.from_residual-in_err-number-in-Zero.ensures.1)
+    (item-no-number _ _ c.args.depth c.in_ok-byte.ensures.0 _ (rw c.in_ok-byte.ensures.1 at c.class_of-c.ensures) c.in-Zero.is _ c.in_err-number-in-Zero.ensures.read)
 
-pub item-returns-else-depth-eq0 : goal.item-returns-else-depth-eq0
-item-returns-else-depth-eq0 t c = item-list c.args.s.now c.args.at c.args.depth c.if-at-s.false _ c.class_of-c.ensures c.in-Open.is c.if-depth-eq0.false c.list.result c.list.ensures
+pub item-returns-else-depth-eq0-clause-read : goal.item-returns-else-depth-eq0-clause-read
+item-returns-else-depth-eq0-clause-read t c =
+    item-list _ _ c.args.depth c.in_ok-byte.ensures.0 _ (rw c.in_ok-byte.ensures.1 at c.class_of-c.ensures) c.in-Open.is c.if-depth-eq0.false _ c.list.ensures.read
 
-pub item-returns-in_default : goal.item-returns-in_default
-item-returns-in_default t c = item-bad c.args.s.now c.args.at c.args.depth c.requires _ c.class_of-c.ensures c.in_default.not-Alpha c.in_default.not-Zero c.in_default.not-Nonzero c.in_default.not-Dash c.in_default.not-Open
+pub item-returns-in_default-clause-read : goal.item-returns-in_default-clause-read
+item-returns-in_default-clause-read t c =
+    item-bad _ _ c.args.depth c.args.t.now.within _ (rw c.in_ok-byte.ensures.1 at c.class_of-c.ensures) c.in_default.not-Alpha c.in_default.not-Zero c.in_default.not-Nonzero c.in_default.not-Dash c.in_default.not-Open
 
-pub list-returns-then-e-s : goal.list-returns-then-e-s
-list-returns-then-e-s t c =
-    let list-round : Stands (Item c.args.depth) c.args.s.now c.loop-p.p c.in-At.e = rw c.in-At.is at c.item-i.ensures in
-    let w = list-round in
-    c.loop-p.invariant.2 (Bad _) (items-item c.args.s.now c.loop-p.p c.args.depth _ w (Bad _) (rest-ends c.args.s.now _ c.args.depth w.stops.within c.if-e-s.true))
+pub list-returns-in_err-item-clause-read : goal.list-returns-in_err-item-clause-read
+list-returns-in_err-item-clause-read t c =
+    let k = c.loop-t.invariant.1 in
+    rw (handed_on c.from_residual.ensures.1) (c.loop-t.invariant.2 (Bad _) (items-bad _ c.loop-t.t.at c.args.depth _ (rw k at c.in_err-item.ensures.read)))
 
-pub list-returns-in-Close : goal.list-returns-in-Close
-list-returns-in-Close t c =
-    let list-round : Stands (Item c.args.depth) c.args.s.now c.loop-p.p c.in-At.e = rw c.in-At.is at c.item-i.ensures in
-    c.loop-p.invariant.2 (At _) (items-item c.args.s.now c.loop-p.p c.args.depth _ list-round (At _) (rest-close c.args.s.now _ c.args.depth c.if-e-s.false _ c.class_of-c.ensures c.in-Close.is))
+pub list-returns-in_err-byte-clause-read : goal.list-returns-in_err-byte-clause-read
+list-returns-in_err-byte-clause-read t c =
+    let k = c.loop-t.invariant.1 in
+    let m = rw k at c.item.ensures.kept in
+    let list-round : Stands (Item c.args.depth) c.args.t.now.bytes.now c.loop-t.t.at c.item.new.t.at = rw k at c.in_ok-item.ensures.read in
+    rw (handed_on c.from_residual-in_err-byte.ensures.1, c.in_err-byte.ensures.1)
+    (c.loop-t.invariant.2 (Bad _) (items-item _ c.loop-t.t.at c.args.depth _ list-round (Bad _) (rest-ends _ _ c.args.depth list-round.stops.within (rw m at c.in_err-byte.ensures.0))))
 
-pub list-loop-p-preserved : goal.list-loop-p-preserved
-list-loop-p-preserved t c =
-    let list-round : Stands (Item c.args.depth) c.args.s.now c.loop-p.p c.in-At.e = rw c.in-At.is at c.item-i.ensures in
-    let w = list-round in
-    let u = w.stops.up in
-    let v = w.stops.within in
-    (omega arith, omega arith, λ r h. c.loop-p.invariant.2 r (items-item c.args.s.now c.loop-p.p c.args.depth _ w r (rest-space c.args.s.now _ c.args.depth c.if-e-s.false _ c.class_of-c.ensures c.in-Space.is r h)))
+pub list-returns-in-Close-clause-read : goal.list-returns-in-Close-clause-read
+list-returns-in-Close-clause-read t c =
+    let k = c.loop-t.invariant.1 in
+    let m = rw k at c.item.ensures.kept in
+    let list-round : Stands (Item c.args.depth) c.args.t.now.bytes.now c.loop-t.t.at c.item.new.t.at = rw k at c.in_ok-item.ensures.read in
+    c.loop-t.invariant.2 (At _)
+    (items-item _ c.loop-t.t.at c.args.depth _ list-round (At _) (rest-close _ _ c.args.depth (rw m at c.in_ok-byte.ensures.0) _ (rw (c.in_ok-byte.ensures.1, m) at c.class_of-c.ensures) c.in-Close.is))
+
+pub list-loop-t-preserved : goal.list-loop-t-preserved
+list-loop-t-preserved t c =
+    let k = c.loop-t.invariant.1 in
+    let m = rw k at c.item.ensures.kept in
+    let list-round : Stands (Item c.args.depth) c.args.t.now.bytes.now c.loop-t.t.at c.item.new.t.at = rw k at c.in_ok-item.ensures.read in (
+      omega (arith, c.loop-t.invariant.0, list-round.stops.up),
+      m,
+      λ r h. c.loop-t.invariant.2 r
+          (items-item _ c.loop-t.t.at c.args.depth _ list-round r (rest-space _ _ c.args.depth (rw m at c.in_ok-byte.ensures.0) _ (rw (c.in_ok-byte.ensures.1, m) at c.class_of-c.ensures) c.in-Space.is r h)),
+    )
 
 pub list-returns-in_default : goal.list-returns-in_default
 list-returns-in_default t c =
-    let list-round : Stands (Item c.args.depth) c.args.s.now c.loop-p.p c.in-At.e = rw c.in-At.is at c.item-i.ensures in
-    let w = list-round in
-    c.loop-p.invariant.2 (Bad _) (items-item c.args.s.now c.loop-p.p c.args.depth _ w (Bad _) (rest-bad c.args.s.now _ c.args.depth w.stops.within c.class_of-c.result c.class_of-c.ensures c.in_default.not-Close c.in_default.not-Space))
-
-pub list-returns-in-Bad : goal.list-returns-in-Bad
-list-returns-in-Bad t c = c.loop-p.invariant.2 (Bad _) (items-bad c.args.s.now c.loop-p.p c.args.depth _ (rw c.in-Bad.is at c.item-i.ensures))
-
-pub list-returns : goal.list-returns
-list-returns t c = c.loop-p.invariant.2 (Bad _) (items-bad c.args.s.now c.loop-p.p c.args.depth _ (item-ends c.args.s.now c.loop-p.p c.args.depth c.loop-p.invariant.1 c.loop-p-test.false))
+    let k = c.loop-t.invariant.1 in
+    let m = rw k at c.item.ensures.kept in
+    let list-round : Stands (Item c.args.depth) c.args.t.now.bytes.now c.loop-t.t.at c.item.new.t.at = rw k at c.in_ok-item.ensures.read in
+    record {
+      read = c.loop-t.invariant.2 (Bad _)
+          (items-item _ c.loop-t.t.at c.args.depth _ list-round (Bad _) (rest-bad _ _ c.args.depth list-round.stops.within _ (rw (c.in_ok-byte.ensures.1, m) at c.class_of-c.ensures) c.in_default.not-Close c.in_default.not-Space));
+      kept = m;
+    }

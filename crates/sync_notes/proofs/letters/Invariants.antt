@@ -1,11 +1,12 @@
 use Prim.Native.Nat.{◌≤◌, ◌-◌}
+use mathlib.Core.Path.{◌≡◌}
 use Rattle.definitions.specs.Text.{All, Letter}
 use Rattle.grammar.specs.Readers.{part}
 use lib.ListN.{length}
 use Rattle.sync_notes.proofs.letters.Given as goal
 
-abbrev pub invariant-loop-p : goal.invariant-loop-p
-invariant-loop-p l = (l.at ≤ l.p) × (l.p ≤ length l.s) × All Letter (part l.s l.at l.p)
+abbrev pub invariant-loop-b : goal.invariant-loop-b
+invariant-loop-b l = (l.fn.t.at ≤ l.t.at) × All Letter (part l.fn.t.bytes.now l.fn.t.at l.t.at) × (l.t.bytes.now ≡ l.fn.t.bytes.now)
 
-abbrev pub decreases-loop-p : goal.decreases-loop-p
-decreases-loop-p l = length l.s - l.p
+abbrev pub decreases-loop-b : goal.decreases-loop-b
+decreases-loop-b l = length l.t.bytes.now - l.t.at

@@ -1,38 +1,29 @@
-use Rattle.grammar.proofs.Numerals.{field-bad, field_open, field-read}
+use Rattle.grammar.proofs.Reading.{handed_on}
+use Rattle.grammar.proofs.Numerals.{closer, field-bad, field_open, field-read}
 use mir.Val.{to_z, of_z}
 use mir.Syntax.{w16}
-use mathlib.Core.Bool.{true, false}
 use mathlib.Core.Path.{◌≡◌}
 use native.Mathlib.Omega.{arith}
 use borrow.Author.Rules.{rules}
+use Rattle.sync_numbers.proofs.field.Goals.{then-last, else-last}
 use Rattle.sync_numbers.proofs.field.Goals as goal
 
-pub returns-then-e-s : goal.returns-then-e-s
-returns-then-e-s c =
-    let w = rw c.in-Value.is at c.number-n.ensures in
-    field_open c.args.s.now c.args.at c.args.last _ _ w (λ q b. omega arith)
+pub returns-in_err-z-clause-read : goal.returns-in_err-z-clause-read
+returns-in_err-z-clause-read c = rw (handed_on c.from_residual.ensures.1) (field-bad _ _ c.args.last _ c.in_err-z.ensures.read)
 
-pub returns-then-b-eq41 : goal.returns-then-b-eq41
-returns-then-b-eq41 c =
-    let w = rw c.in-Value.is at c.number-n.ensures in
-    let q : to_z w16 (of_z w16 c.in-Value.z) ≡ c.in-Value.z = search rules in
-    rw (q, c.if-last.true) (field-read c.args.s.now c.args.at true c.in-Value.z _ w c.if-e-s.false c.if-b-eq41.true)
+pub returns-in_err-byte-clause-read : goal.returns-in_err-byte-clause-read
+returns-in_err-byte-clause-read c =
+    rw (handed_on c.from_residual-in_err-byte.ensures.1, c.in_err-byte.ensures.1) (field_open _ _ c.args.last _ _ c.in_ok-z.ensures.read (λ q b. let k = c.number.ensures.kept in let u = c.in_err-byte.ensures.0 in let v = rw k at u in omega arith))
 
-pub returns-then-last : goal.returns-then-last
-returns-then-last c =
-    let w = rw c.in-Value.is at c.number-n.ensures in
-    rw c.if-last.true (field_open c.args.s.now c.args.at true _ _ w (λ q b. c.if-b-eq41.false b))
+pub returns-then-branch-closer-clause-read : goal.returns-then-branch-closer-clause-read
+returns-then-branch-closer-clause-read c =
+    let k : c.if-last.closer ≡ closer c.args.last = elim c.if-last.branch [ then-last w ↦ rw w.if-last.true w.closer-is | else-last w ↦ rw w.if-last.false w.closer-is ] in
+    let h = rw c.number.ensures.kept at c.in_ok-byte.ensures.1 in
+    field_open _ _ c.args.last _ _ c.in_ok-z.ensures.read (λ q b. c.if-branch-closer.true (cc (b, k, h)))
 
-pub returns-then-b-eq32 : goal.returns-then-b-eq32
-returns-then-b-eq32 c =
-    let w = rw c.in-Value.is at c.number-n.ensures in
-    let q : to_z w16 (of_z w16 c.in-Value.z) ≡ c.in-Value.z = search rules in
-    rw (q, c.if-last.false) (field-read c.args.s.now c.args.at false c.in-Value.z _ w c.if-e-s.false c.if-b-eq32.true)
-
-pub returns-else-b-eq32 : goal.returns-else-b-eq32
-returns-else-b-eq32 c =
-    let w = rw c.in-Value.is at c.number-n.ensures in
-    rw c.if-last.false (field_open c.args.s.now c.args.at false _ _ w (λ q b. c.if-b-eq32.false b))
-
-pub returns-in-Bad : goal.returns-in-Bad
-returns-in-Bad c = field-bad c.args.s.now c.args.at c.args.last _ (rw c.in-Bad.is at c.number-n.ensures)
+pub returns-clause-read : goal.returns-clause-read
+returns-clause-read c =
+    let q : to_z w16 (of_z w16 c.in_ok-z.z) ≡ c.in_ok-z.z = search rules in
+    let k : c.if-last.closer ≡ closer c.args.last = elim c.if-last.branch [ then-last w ↦ rw w.if-last.true w.closer-is | else-last w ↦ rw w.if-last.false w.closer-is ] in
+    let h = rw c.number.ensures.kept at c.in_ok-byte.ensures.1 in
+    rw q (field-read _ _ c.args.last c.in_ok-z.z _ c.in_ok-z.ensures.read (rw c.number.ensures.kept at c.in_ok-byte.ensures.0) (cc (c.if-branch-closer.false, k, h)))

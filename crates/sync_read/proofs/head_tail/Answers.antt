@@ -1,26 +1,20 @@
-use Rattle.grammar.proofs.WholeText.{no_fields, head-tail-chain, head-stored}
-use Rattle.grammar.proofs.Patterns.{Chain, chain_first, chain-word, chain-numbers}
-use Rattle.definitions.specs.Text.{byte, bytes_then, numbers_then}
-use lib.IntN.{ℤ, pos}
-use mathlib.Core.List.{List, [], ◌∷◌}
+use Rattle.grammar.proofs.Reading.{handed_on}
+use Rattle.grammar.proofs.WholeText.{head-no-numbers, head-no-end, head-read, head-stored}
+use lib.IntN.{pos}
+use mathlib.Core.List.{[], ◌∷◌}
 use mathlib.Core.Path.{refl}
 use Rattle.sync_read.proofs.head_tail.Goals as goal
 
-abbrev zeros : List ℤ
-zeros = pos 0 ∷ pos 0 ∷ []
+pub returns-in_err-fields_after-clause-read : goal.returns-in_err-fields_after-clause-read
+returns-in_err-fields_after-clause-read c = rw (handed_on c.from_residual.ensures.1) (refl, head-no-numbers c.args.w.now _ _ c.in_err-fields_after.ensures.read.1)
 
-pub returns-in-At : goal.returns-in-At
-returns-in-At c =
-    let line_read : Chain (bytes_then c.args.w.now (numbers_then 1 (byte 10 ∷ []))) c.args.s.now c.args.at zeros 0 c.then_fields-b.new.out c.then_word-r.result = let v0 = chain_first c.args.s.now c.args.at zeros 0 c.requires.0 in
-    let v1 = chain-word v0 c.then_word-a.ensures in
-    let v2 = chain-numbers (numbers_then 1 []) v1 c.then_fields-b.ensures (no_fields c.args.w.now) in
-    head-tail-chain c.args.w.now (chain-word v2 c.then_word-r.ensures) in
-    head-stored c.args.w.now c.args.s.now c.args.at c.args.out.now c.args.from _ zeros _ _ refl c.put_words.ensures (rw c.in-At.is at line_read.is)
+pub returns-in_err-word_at-clause-read : goal.returns-in_err-word_at-clause-read
+returns-in_err-word_at-clause-read c =
+    let k = c.fields_after.ensures.kept in
+    rw (handed_on c.from_residual-in_err-word_at.ensures.1) (refl, head-no-end c.args.w.now _ _ c.in_ok-fields_after.ensures.read (rw k at c.in_err-word_at.ensures.read))
 
-pub returns-in-Bad : goal.returns-in-Bad
-returns-in-Bad c =
-    let line_read : Chain (bytes_then c.args.w.now (numbers_then 1 (byte 10 ∷ []))) c.args.s.now c.args.at zeros 0 c.then_fields-b.new.out c.then_word-r.result = let v0 = chain_first c.args.s.now c.args.at zeros 0 c.requires.0 in
-    let v1 = chain-word v0 c.then_word-a.ensures in
-    let v2 = chain-numbers (numbers_then 1 []) v1 c.then_fields-b.ensures (no_fields c.args.w.now) in
-    head-tail-chain c.args.w.now (chain-word v2 c.then_word-r.ensures) in
-    (refl, rw c.in-Bad.is at line_read.is)
+pub returns-clause-read : goal.returns-clause-read
+returns-clause-read c =
+    let k = c.fields_after.ensures.kept in
+    head-stored c.args.w.now _ _ c.args.out.now c.args.from _ (pos 0 ∷ pos 0 ∷ []) _ _ refl c.put_words.ensures
+    (head-read c.args.w.now _ _ c.in_ok-fields_after.ensures.read (rw k at c.in_ok-word_at.ensures.read))

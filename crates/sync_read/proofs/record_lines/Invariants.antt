@@ -4,8 +4,8 @@ use mathlib.Core.Path.{◌≡◌}
 use Prim.Native.Nat.{◌-◌}
 use Rattle.sync_read.proofs.record_lines.Given as goal
 
-abbrev pub invariant-loop-p : goal.invariant-loop-p
-invariant-loop-p l = (length l.own ≡ 7722) × Walked l.s l.at l.p l.n l.own
+abbrev pub invariant-loop-first : goal.invariant-loop-first
+invariant-loop-first l = (length l.own ≡ 7722) × (l.t.bytes.now ≡ l.fn.t.bytes.now) × Walked l.fn.t.bytes.now l.fn.t.at l.t.at l.n l.own
 
-abbrev pub decreases-loop-p : goal.decreases-loop-p
-decreases-loop-p l = length l.s - l.p
+abbrev pub decreases-loop-first : goal.decreases-loop-first
+decreases-loop-first l = length l.t.bytes.now - l.t.at

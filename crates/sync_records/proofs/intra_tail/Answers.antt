@@ -1,30 +1,28 @@
-use Rattle.definitions.specs.Text.{intra, intra_line, numbers_then, tail_of, words_for}
-use Rattle.grammar.proofs.Patterns.{Chain, chain_first, chain-word, chain-numbers, tail-stored}
-use borrow.Author.Rules.{sfits_of}
-use mathlib.Core.Path.{refl, ap, ◌∙◌}
-use mathlib.Core.List.{List, [], ◌∷◌}
+use Rattle.grammar.proofs.Reading.{handed_on}
+use Rattle.grammar.proofs.Patterns.{form-bad, chain-word, chain-word-bad, tail-stored}
+use Rattle.definitions.specs.Text.{intra, words_for}
+use borrow.Author.Rules.{rules}
+use mathlib.Core.Path.{◌≡◌, refl, ap, ◌∙◌}
+use mathlib.Core.List.{[], ◌∷◌}
 use lib.IntN.{ℤ, pos}
 use lib.Seq.{sets}
-use mir.Facts.{to_z-of_z}
+use lib.ListN.{get_or}
+use mir.Val.{to_z, of_z}
 use mir.Syntax.{w16}
 use Rattle.sync_records.proofs.intra_tail.Goals as goal
 
-abbrev zeros : List ℤ
-zeros = pos 0 ∷ []
+pub returns-in_err-fields_after-clause-read : goal.returns-in_err-fields_after-clause-read
+returns-in_err-fields_after-clause-read c = rw (handed_on c.from_residual.ensures.1) (refl, form-bad _ _ _ _ _ c.in_err-fields_after.ensures.read.1)
 
-pub returns-in-At : goal.returns-in-At
-returns-in-At c =
-    let line_read : Chain (tail_of intra_line) c.args.s.now c.args.at zeros 0 c.then_fields-b.new.out c.then_word-r.result = let v0 = chain_first c.args.s.now c.args.at zeros 0 c.requires.0 in
-    let v1 = chain-word v0 c.then_word-a.ensures in
-    let v2 = chain-numbers (numbers_then 0 []) v1 c.then_fields-b.ensures refl in
-    chain-word v2 c.then_word-r.ensures in
-    let d = to_z-of_z {w = w16} (sfits_of c.put_record-arg-in-At-1.given) in
-    tail-stored intra c.args.s.now c.args.at c.args.out.now c.args.from _ zeros _ _ refl (c.put_record.ensures ∙ ap (λ (z : ℤ). sets c.args.out.now c.args.from (words_for intra (z ∷ []))) d) (rw c.in-At.is at line_read.is)
+pub returns-in_err-word_at-clause-read : goal.returns-in_err-word_at-clause-read
+returns-in_err-word_at-clause-read c =
+    let k = c.fields_after.ensures.kept in
+    rw (handed_on c.from_residual-in_err-word_at.ensures.1) (refl, chain-word-bad c.in_ok-fields_after.ensures.read (10 ∷ []) [] (rw k at c.in_err-word_at.ensures.read))
 
-pub returns-in-Bad : goal.returns-in-Bad
-returns-in-Bad c =
-    let line_read : Chain (tail_of intra_line) c.args.s.now c.args.at zeros 0 c.then_fields-b.new.out c.then_word-r.result = let v0 = chain_first c.args.s.now c.args.at zeros 0 c.requires.0 in
-    let v1 = chain-word v0 c.then_word-a.ensures in
-    let v2 = chain-numbers (numbers_then 0 []) v1 c.then_fields-b.ensures refl in
-    chain-word v2 c.then_word-r.ensures in
-    (refl, rw c.in-Bad.is at line_read.is)
+pub returns-clause-read : goal.returns-clause-read
+returns-clause-read c =
+    let k = c.fields_after.ensures.kept in
+    let x = get_or c.fields_after.new.out 0 (pos 0) in
+    let d : to_z w16 (of_z w16 x) ≡ x = search rules in
+    tail-stored intra _ _ c.args.out.now c.args.from _ (pos 0 ∷ []) _ _ refl (c.put_record.ensures ∙ ap (λ (z : ℤ). sets c.args.out.now c.args.from (words_for intra (z ∷ []))) d)
+    (chain-word c.in_ok-fields_after.ensures.read (rw k at c.in_ok-word_at.ensures.read))

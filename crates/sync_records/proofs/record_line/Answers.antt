@@ -1,19 +1,21 @@
+use Rattle.grammar.proofs.Reading.{handed_on}
 use Rattle.grammar.proofs.Patterns.{record_of, record-bad, record-ends}
 use Rattle.definitions.specs.Text.{intra, whole, mb}
-use mathlib.Core.Path.{refl}
+use mathlib.Core.Path.{refl, sym, ◌∙◌}
+use native.Mathlib.Omega.{arith}
 use Rattle.sync_records.proofs.record_line.Goals as goal
 
-pub returns-then-at-s : goal.returns-then-at-s
-returns-then-at-s c = (refl, record-ends _ _ c.requires.0 c.if-at-s.true)
+pub returns-in_err-byte-clause-read : goal.returns-in_err-byte-clause-read
+returns-in_err-byte-clause-read c = rw (handed_on c.from_residual.ensures.1, c.in_err-byte.ensures.1) (refl, record-ends _ _ c.args.t.now.within c.in_err-byte.ensures.0)
 
-pub returns-then-b-eq105 : goal.returns-then-b-eq105
-returns-then-b-eq105 c = record_of c.args.s.now c.args.at c.if-at-s.false intra c.if-b-eq105.true c.args.out.now c.args.from _ c.intra_tail.result c.intra_tail.ensures
+pub returns-in-105-clause-read : goal.returns-in-105-clause-read
+returns-in-105-clause-read c = record_of _ _ c.in_ok-byte.ensures.0 intra (sym c.in_ok-byte.ensures.1 ∙ c.in-105.is) c.args.out.now c.args.from _ _ c.intra_tail.ensures.read
 
-pub returns-then-b-eq119 : goal.returns-then-b-eq119
-returns-then-b-eq119 c = record_of c.args.s.now c.args.at c.if-at-s.false whole c.if-b-eq119.true c.args.out.now c.args.from _ c.whole_tail.result c.whole_tail.ensures
+pub returns-in-119-clause-read : goal.returns-in-119-clause-read
+returns-in-119-clause-read c = record_of _ _ c.in_ok-byte.ensures.0 whole (sym c.in_ok-byte.ensures.1 ∙ c.in-119.is) c.args.out.now c.args.from _ _ c.whole_tail.ensures.read
 
-pub returns-then-b-eq109 : goal.returns-then-b-eq109
-returns-then-b-eq109 c = record_of c.args.s.now c.args.at c.if-at-s.false mb c.if-b-eq109.true c.args.out.now c.args.from _ c.mb_tail.result c.mb_tail.ensures
+pub returns-in-109-clause-read : goal.returns-in-109-clause-read
+returns-in-109-clause-read c = record_of _ _ c.in_ok-byte.ensures.0 mb (sym c.in_ok-byte.ensures.1 ∙ c.in-109.is) c.args.out.now c.args.from _ _ c.mb_tail.ensures.read
 
-pub returns : goal.returns
-returns c = (refl, record-bad _ _ c.requires.0 c.if-b-eq105.false c.if-b-eq119.false c.if-b-eq109.false)
+pub returns-in_default-clause-read : goal.returns-in_default-clause-read
+returns-in_default-clause-read c = let b = c.in_ok-byte.ensures.1 in (refl, record-bad _ _ c.args.t.now.within (λ e. omega arith) (λ e. omega arith) (λ e. omega arith))

@@ -1,76 +1,63 @@
-use mathlib.Core.Path.{◌≡◌, refl, sym, ap, subst, ◌∙◌}
+use mathlib.Core.List.{map}
+use mathlib.Core.Path.{sym, ap, subst, ◌∙◌}
 use mir.Facts.{to_z-of_z}
-use Rattle.definitions.specs.Calls.{Outcome}
-use Rattle.definitions.specs.Record.{narrow}
-use Rattle.definitions.specs.declared.MacroblockReply.{MacroblockReply}
-use Rattle.upsample.specs.declared.site.Site.{Site}
-use Rattle.upsample.specs.Sited.{Callable, placing_of, site_call}
-use Rattle.upsample.proofs.Promises.{singly-kept}
-use Rattle.upsample.proofs.Staging.{place-low, right-place, wrong-place}
+use Rattle.std.proofs.lemmas.List.{length-map}
+use Rattle.std.proofs.lemmas.Result.{err_from_is_err_and}
+use Rattle.std.specs.Prelude.{Err}
+use Rattle.definitions.specs.Replies.{MacroblockReply}
+use Rattle.upsample.specs.Promised.{SinglyPromised}
+use Rattle.upsample.specs.Sited.{placed}
+use Rattle.upsample.proofs.Kept.{answered-kept, refused-kept, site-callable}
 use Rattle.upsample.proofs.upsample_macroblock.Goals as goal
 
-pub site_of-requires : goal.site_of-requires
-site_of-requires c =
-    let placing : c.place_of.result ≡ placing_of c.args.n c.args.base.now c.args.column c.args.row c.args.out.now = let p = to_z-of_z c.ranges.column in
-    let q = to_z-of_z c.ranges.row in
-    c.place_of.ensures c.args.base.now c.args.out.now refl refl ∙ (λ i. placing_of c.args.n c.args.base.now (p i) (q i) c.args.out.now) in
-    place-low c.args.n c.args.base.now c.args.column c.args.row c.args.out.now c.in-Place.p (sym placing ∙ c.in-Place.is)
+pub returns-in_err-place-clause-reply : goal.returns-in_err-place-clause-reply
+returns-in_err-place-clause-reply g c =
+    let e = err_from_is_err_and c.from_residual.result c.from_residual.ensures.1 in
+    let base = map g.W.Word.value c.args.base.now in
+    let out = map g.W.Word.value c.args.out.now in
+    let there = rw (to_z-of_z c.ranges.column, to_z-of_z c.ranges.row) at c.in_err-place.ensures.refused base out (length-map _ _) (length-map _ _) in
+    rw (e.1, e.2) (refused-kept g.W.Word.LIMIT c.args.n base c.args.column c.args.row out _ there).0
+
+pub returns-in_err-place-clause-words : goal.returns-in_err-place-clause-words
+returns-in_err-place-clause-words g c =
+    let base = map g.W.Word.value c.args.base.now in
+    let out = map g.W.Word.value c.args.out.now in
+    let there = rw (to_z-of_z c.ranges.column, to_z-of_z c.ranges.row) at c.in_err-place.ensures.refused base out (length-map _ _) (length-map _ _) in
+    (refused-kept g.W.Word.LIMIT c.args.n base c.args.column c.args.row out _ there).1.0
+
+pub returns-in_err-place-clause-demand3 : goal.returns-in_err-place-clause-demand3
+returns-in_err-place-clause-demand3 g c =
+    let e = err_from_is_err_and c.from_residual.result c.from_residual.ensures.1 in
+    let base = map g.W.Word.value c.args.base.now in
+    let out = map g.W.Word.value c.args.out.now in
+    let there = rw (to_z-of_z c.ranges.column, to_z-of_z c.ranges.row) at c.in_err-place.ensures.refused base out (length-map _ _) (length-map _ _) in
+    subst (λ (r : MacroblockReply). SinglyPromised g.W.Word.LIMIT c.args.n base c.args.column c.args.row out r out) (sym (e.1 ∙ ap Err e.2))
+    (refused-kept g.W.Word.LIMIT c.args.n base c.args.column c.args.row out _ there).1.1
 
 pub upsample_site-requires : goal.upsample_site-requires
-upsample_site-requires c =
-    let placing : c.place_of.result ≡ placing_of c.args.n c.args.base.now c.args.column c.args.row c.args.out.now = let p = to_z-of_z c.ranges.column in
-    let q = to_z-of_z c.ranges.row in
-    c.place_of.ensures c.args.base.now c.args.out.now refl refl ∙ (λ i. placing_of c.args.n c.args.base.now (p i) (q i) c.args.out.now) in
-    subst (λ (x : Site). Callable narrow x c.args.base.now c.args.out.now) (sym c.site_of.ensures)
-    (right-place c.args.n c.args.base.now c.args.column c.args.row c.args.out.now narrow c.in-Place.p (sym placing ∙ c.in-Place.is)).0
+upsample_site-requires g c =
+    let base = map g.W.Word.value c.args.base.now in
+    let out = map g.W.Word.value c.args.out.now in
+    let there = rw (to_z-of_z c.ranges.column, to_z-of_z c.ranges.row) at c.in_ok-place.ensures.placed base out (length-map _ _) (length-map _ _) in
+    site-callable g.W.Word.LIMIT c.args.n base c.args.column c.args.row out (placed c.in_ok-place.place) there c.site_of.result c.site_of.ensures
 
-pub returns-in-Place-clause-reply : goal.returns-in-Place-clause-reply
-returns-in-Place-clause-reply c =
-    let placing : c.place_of.result ≡ placing_of c.args.n c.args.base.now c.args.column c.args.row c.args.out.now = let p = to_z-of_z c.ranges.column in
-    let q = to_z-of_z c.ranges.row in
-    c.place_of.ensures c.args.base.now c.args.out.now refl refl ∙ (λ i. placing_of c.args.n c.args.base.now (p i) (q i) c.args.out.now) in
-    let e = ap (λ (x : Site). site_call narrow x c.args.base.now c.args.out.now) c.site_of.ensures
-    ∙ (right-place c.args.n c.args.base.now c.args.column c.args.row c.args.out.now narrow c.in-Place.p (sym placing ∙ c.in-Place.is)).1 in
-    (singly-kept narrow c.args.n c.args.base.now c.args.column c.args.row c.args.out.now _ _ (c.upsample_site.ensures.reply ∙ ap (λ (o : Outcome MacroblockReply). o.reply) e) (c.upsample_site.ensures.words ∙ ap (λ (o : Outcome MacroblockReply). o.words) e)).0
+pub returns-clause-reply : goal.returns-clause-reply
+returns-clause-reply g c =
+    let base = map g.W.Word.value c.args.base.now in
+    let out = map g.W.Word.value c.args.out.now in
+    let there = rw (to_z-of_z c.ranges.column, to_z-of_z c.ranges.row) at c.in_ok-place.ensures.placed base out (length-map _ _) (length-map _ _) in
+    (answered-kept g.W.Word.LIMIT c.args.n base c.args.column c.args.row out (placed c.in_ok-place.place) there c.site_of.result c.site_of.ensures _ _ c.upsample_site.ensures.reply c.upsample_site.ensures.words).0
 
-pub returns-in-Place-clause-words : goal.returns-in-Place-clause-words
-returns-in-Place-clause-words c =
-    let placing : c.place_of.result ≡ placing_of c.args.n c.args.base.now c.args.column c.args.row c.args.out.now = let p = to_z-of_z c.ranges.column in
-    let q = to_z-of_z c.ranges.row in
-    c.place_of.ensures c.args.base.now c.args.out.now refl refl ∙ (λ i. placing_of c.args.n c.args.base.now (p i) (q i) c.args.out.now) in
-    let e = ap (λ (x : Site). site_call narrow x c.args.base.now c.args.out.now) c.site_of.ensures
-    ∙ (right-place c.args.n c.args.base.now c.args.column c.args.row c.args.out.now narrow c.in-Place.p (sym placing ∙ c.in-Place.is)).1 in
-    (singly-kept narrow c.args.n c.args.base.now c.args.column c.args.row c.args.out.now _ _ (c.upsample_site.ensures.reply ∙ ap (λ (o : Outcome MacroblockReply). o.reply) e) (c.upsample_site.ensures.words ∙ ap (λ (o : Outcome MacroblockReply). o.words) e)).1.0
+pub returns-clause-words : goal.returns-clause-words
+returns-clause-words g c =
+    let base = map g.W.Word.value c.args.base.now in
+    let out = map g.W.Word.value c.args.out.now in
+    let there = rw (to_z-of_z c.ranges.column, to_z-of_z c.ranges.row) at c.in_ok-place.ensures.placed base out (length-map _ _) (length-map _ _) in
+    (answered-kept g.W.Word.LIMIT c.args.n base c.args.column c.args.row out (placed c.in_ok-place.place) there c.site_of.result c.site_of.ensures _ _ c.upsample_site.ensures.reply c.upsample_site.ensures.words).1.0
 
-pub returns-in-Place-clause-demand3 : goal.returns-in-Place-clause-demand3
-returns-in-Place-clause-demand3 c =
-    let placing : c.place_of.result ≡ placing_of c.args.n c.args.base.now c.args.column c.args.row c.args.out.now = let p = to_z-of_z c.ranges.column in
-    let q = to_z-of_z c.ranges.row in
-    c.place_of.ensures c.args.base.now c.args.out.now refl refl ∙ (λ i. placing_of c.args.n c.args.base.now (p i) (q i) c.args.out.now) in
-    let e = ap (λ (x : Site). site_call narrow x c.args.base.now c.args.out.now) c.site_of.ensures
-    ∙ (right-place c.args.n c.args.base.now c.args.column c.args.row c.args.out.now narrow c.in-Place.p (sym placing ∙ c.in-Place.is)).1 in
-    (singly-kept narrow c.args.n c.args.base.now c.args.column c.args.row c.args.out.now _ _ (c.upsample_site.ensures.reply ∙ ap (λ (o : Outcome MacroblockReply). o.reply) e) (c.upsample_site.ensures.words ∙ ap (λ (o : Outcome MacroblockReply). o.words) e)).1.1
-
-pub returns-in-Refused-clause-reply : goal.returns-in-Refused-clause-reply
-returns-in-Refused-clause-reply c =
-    let placing : c.place_of.result ≡ placing_of c.args.n c.args.base.now c.args.column c.args.row c.args.out.now = let p = to_z-of_z c.ranges.column in
-    let q = to_z-of_z c.ranges.row in
-    c.place_of.ensures c.args.base.now c.args.out.now refl refl ∙ (λ i. placing_of c.args.n c.args.base.now (p i) (q i) c.args.out.now) in
-    let h = wrong-place c.args.n c.args.base.now c.args.column c.args.row c.args.out.now narrow c.in-Refused.r (sym placing ∙ c.in-Refused.is) in
-    (singly-kept narrow c.args.n c.args.base.now c.args.column c.args.row c.args.out.now _ _ h.0 h.1).0
-
-pub returns-in-Refused-clause-words : goal.returns-in-Refused-clause-words
-returns-in-Refused-clause-words c =
-    let placing : c.place_of.result ≡ placing_of c.args.n c.args.base.now c.args.column c.args.row c.args.out.now = let p = to_z-of_z c.ranges.column in
-    let q = to_z-of_z c.ranges.row in
-    c.place_of.ensures c.args.base.now c.args.out.now refl refl ∙ (λ i. placing_of c.args.n c.args.base.now (p i) (q i) c.args.out.now) in
-    let h = wrong-place c.args.n c.args.base.now c.args.column c.args.row c.args.out.now narrow c.in-Refused.r (sym placing ∙ c.in-Refused.is) in
-    (singly-kept narrow c.args.n c.args.base.now c.args.column c.args.row c.args.out.now _ _ h.0 h.1).1.0
-
-pub returns-in-Refused-clause-demand3 : goal.returns-in-Refused-clause-demand3
-returns-in-Refused-clause-demand3 c =
-    let placing : c.place_of.result ≡ placing_of c.args.n c.args.base.now c.args.column c.args.row c.args.out.now = let p = to_z-of_z c.ranges.column in
-    let q = to_z-of_z c.ranges.row in
-    c.place_of.ensures c.args.base.now c.args.out.now refl refl ∙ (λ i. placing_of c.args.n c.args.base.now (p i) (q i) c.args.out.now) in
-    let h = wrong-place c.args.n c.args.base.now c.args.column c.args.row c.args.out.now narrow c.in-Refused.r (sym placing ∙ c.in-Refused.is) in
-    (singly-kept narrow c.args.n c.args.base.now c.args.column c.args.row c.args.out.now _ _ h.0 h.1).1.1
+pub returns-clause-demand3 : goal.returns-clause-demand3
+returns-clause-demand3 g c =
+    let base = map g.W.Word.value c.args.base.now in
+    let out = map g.W.Word.value c.args.out.now in
+    let there = rw (to_z-of_z c.ranges.column, to_z-of_z c.ranges.row) at c.in_ok-place.ensures.placed base out (length-map _ _) (length-map _ _) in
+    (answered-kept g.W.Word.LIMIT c.args.n base c.args.column c.args.row out (placed c.in_ok-place.place) there c.site_of.result c.site_of.ensures _ _ c.upsample_site.ensures.reply c.upsample_site.ensures.words).1.1

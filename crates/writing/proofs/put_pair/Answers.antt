@@ -1,22 +1,24 @@
 use mathlib.Core.List.{[], ◌∷◌}
-use mathlib.Core.Path.{◌∙◌}
-use mir.Syntax.{w16}
-use mir.Val.{of_z, to_z}
+use mathlib.Core.Path.{ap, ◌∙◌}
+use Rattle.std.specs.Prelude.{map}
 use Rattle.definitions.proofs.Parts.{stored-all}
-use Rattle.writing.proofs.Rounded.{back}
+use Rattle.writing.proofs.Handed.{scaled-back}
 use Rattle.writing.proofs.put_pair.Goals as goal
 
 pub returns : goal.returns
-returns c =
-    let w0 = back c.args.a.x0 c.requires.2.vectors.0.x c.args.s.horizontal c.requires.1.horizontal c.scale_word.result c.scale_word.ensures in
-    let w1 = back c.args.a.y0 c.requires.2.vectors.0.y c.args.s.vertical c.requires.1.vertical c.scale_word-2.result c.scale_word-2.ensures in
-    let w2 = back c.args.a.x1 c.requires.2.vectors.1.x c.args.s.horizontal c.requires.1.horizontal c.scale_word-3.result c.scale_word-3.ensures in
-    let w3 = back c.args.a.y1 c.requires.2.vectors.1.y c.args.s.vertical c.requires.1.vertical c.scale_word-4.result c.scale_word-4.ensures in
-    let w4 = back c.args.b.x0 c.requires.3.vectors.0.x c.args.s.horizontal c.requires.1.horizontal c.scale_word-5.result c.scale_word-5.ensures in
-    let w5 = back c.args.b.y0 c.requires.3.vectors.0.y c.args.s.vertical c.requires.1.vertical c.scale_word-6.result c.scale_word-6.ensures in
-    let w6 = back c.args.b.x1 c.requires.3.vectors.1.x c.args.s.horizontal c.requires.1.horizontal c.scale_word-7.result c.scale_word-7.ensures in
-    let w7 = back c.args.b.y1 c.requires.3.vectors.1.y c.args.s.vertical c.requires.1.vertical c.scale_word-8.result c.scale_word-8.ensures in
-    stored-all
-    (to_z w16 (of_z w16 c.scale_word.result) ∷ to_z w16 (of_z w16 c.scale_word-2.result) ∷ to_z w16 (of_z w16 c.scale_word-3.result) ∷ to_z w16 (of_z w16 c.scale_word-4.result) ∷ to_z w16 (of_z w16 c.scale_word-5.result) ∷ to_z w16 (of_z w16 c.scale_word-6.result) ∷ to_z w16 (of_z w16 c.scale_word-7.result) ∷ to_z w16 (of_z w16 c.scale_word-8.result) ∷ [])
-    c.args.out.now c.requires.0
+returns g c =
+    let limit = g.W.Word.LIMIT in
+    let within = g.met.W.Word.small in
+    let h = c.args.s.horizontal in
+    let v = c.args.s.vertical in
+    let w0 = scaled-back limit within c.args.a.x0 c.requires.2.vectors.0.x h _ c.scaled.ensures in
+    let w1 = scaled-back limit within c.args.a.y0 c.requires.2.vectors.0.y v _ c.scaled-2.ensures in
+    let w2 = scaled-back limit within c.args.a.x1 c.requires.2.vectors.1.x h _ c.scaled-3.ensures in
+    let w3 = scaled-back limit within c.args.a.y1 c.requires.2.vectors.1.y v _ c.scaled-4.ensures in
+    let w4 = scaled-back limit within c.args.b.x0 c.requires.3.vectors.0.x h _ c.scaled-5.ensures in
+    let w5 = scaled-back limit within c.args.b.y0 c.requires.3.vectors.0.y v _ c.scaled-6.ensures in
+    let w6 = scaled-back limit within c.args.b.x1 c.requires.3.vectors.1.x h _ c.scaled-7.ensures in
+    let w7 = scaled-back limit within c.args.b.y1 c.requires.3.vectors.1.y v _ c.scaled-8.ensures in
+    ap (map g.W.Word.value)
+    (stored-all (c.scaled.result ∷ c.scaled-2.result ∷ c.scaled-3.result ∷ c.scaled-4.result ∷ c.scaled-5.result ∷ c.scaled-6.result ∷ c.scaled-7.result ∷ c.scaled-8.result ∷ []) c.args.out.now c.requires.0)
     ∙ (λ i. w0 i ∷ w1 i ∷ w2 i ∷ w3 i ∷ w4 i ∷ w5 i ∷ w6 i ∷ w7 i ∷ [])

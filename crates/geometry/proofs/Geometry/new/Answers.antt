@@ -1,9 +1,8 @@
-use mathlib.Core.Path.{sym, ◌∙◌}
-use Rattle.geometry.proofs.Verdicts.{checked-by}
+use mathlib.Core.Path.{sym, subst, ◌∙◌}
+use Rattle.definitions.specs.Accepted.{AcceptedAxes}
+use Rattle.definitions.proofs.Accepted.{accepted-axes}
 use Rattle.geometry.proofs.Geometry.new.Goals as goal
 
-pub returns-in-Accepted : goal.returns-in-Accepted
-returns-in-Accepted c = rw c.axes_of.ensures (sym (checked-by c.args.n (sym c.verdict_on.ensures ∙ c.in-Accepted.is)))
-
-pub returns-in-Refused : goal.returns-in-Refused
-returns-in-Refused c = sym (checked-by c.args.n (sym c.verdict_on.ensures ∙ c.in-Refused.is))
+pub invariant_of-result : goal.invariant_of-result
+invariant_of-result c =
+    record { accepted = subst AcceptedAxes (sym c.axes_of.ensures) (accepted-axes c.args.n (sym c.verdict_on.ensures ∙ c.in_ok-verdict_on.was)) }

@@ -1,77 +1,61 @@
 use Prim.Native.Nat.{ℕ}
-use mathlib.Core.Path.{◌≡◌, ap, ◌∙◌}
+use mathlib.Core.Bool.{true}
+use mathlib.Core.Path.{◌≡◌, ◌∙◌}
 use native.Mathlib.Omega.{arith}
 use Rattle.definitions.specs.Accepted.{Inside}
 use Rattle.definitions.specs.Basics.{how_many}
 use Rattle.definitions.specs.BlockMap.{falls_in, step_of}
-use Rattle.definitions.specs.Geometry.{base_size, f_of, k_of, m_of, n_of, rounded_of, scaled_size}
+use Rattle.definitions.specs.Geometry.{base_size, c_of, inside_axis, k_of, scaled_size}
 use Rattle.definitions.proofs.Accepted.{inside-axis}
 use Rattle.definitions.proofs.Map.{f-below}
-use Rattle.definitions.proofs.Positions.{room}
-use Rattle.geometry.specs.Step.{RoundedAt}
-use Rattle.geometry.proofs.Bounds.{distance-small}
+use Rattle.geometry.specs.declared.AxisAt.{AxisAt}
+use Rattle.geometry.proofs.Bounds.{distances-small}
 use Rattle.geometry.proofs.Steps as steps
 use Rattle.geometry.proofs.step.axis_step.Goals as goal
 
+-- the centre that step 1 gives is inside, and k is its
+middle :
+    (at : AxisAt) {mid k : ℕ} → inside_axis at.axis at.start.0 ≡ true → mid ≡ c_of at.axis at.start.0
+    → k ≡ k_of (base_size at.axis) (scaled_size at.axis) (c_of at.axis at.start.0)
+    → Inside (base_size at.axis) (scaled_size at.axis) mid × (k ≡ k_of (base_size at.axis) (scaled_size at.axis) mid)
+middle at inside c-is k-is = rw c-is (inside-axis at.axis at.start.0 at.known.accepted inside, k-is)
+
 pub distances-unrounded-requires : goal.distances-unrounded-requires
-distances-unrounded-requires c =
-    let b : ℕ = base_size c.args.a in
-    let s : ℕ = scaled_size c.args.a in
-    let mid : ℕ = c.centre-at.result.c.0 in
-    let inside : Inside b s mid = rw c.centre-at.ensures.c (inside-axis c.args.a c.args.p.0 c.requires.0.accepted c.requires.1) in
-    let k-is : c.centre-at.result.k ≡ k_of b s mid = rw c.centre-at.ensures.c c.centre-at.ensures.k in
-    (inside, k-is)
+distances-unrounded-requires c = middle c.args.at c.requires c.centre-mid.ensures.c c.centre-mid.ensures.k
 
 pub rounded-d-requires : goal.rounded-d-requires
 rounded-d-requires c =
-    let b : ℕ = base_size c.args.a in
-    let s : ℕ = scaled_size c.args.a in
-    let mid : ℕ = c.centre-at.result.c.0 in
-    let inside : Inside b s mid = rw c.centre-at.ensures.c (inside-axis c.args.a c.args.p.0 c.requires.0.accepted c.requires.1) in
-    let r = room _ _ _ inside in
-    rw (c.distances-unrounded.ensures.d1, c.distances-unrounded.ensures.d2) (distance-small _ _ _ _ inside (omega (arith, r)), distance-small _ _ _ _ inside (omega (arith, r)))
+    let inside = (middle c.args.at c.requires c.centre-mid.ensures.c c.centre-mid.ensures.k).0 in
+    distances-small _ _ _ inside c.distances-unrounded.ensures.d1 c.distances-unrounded.ensures.d2
 
 pub columns_read-columns-requires : goal.columns_read-columns-requires
 columns_read-columns-requires c =
-    let b : ℕ = base_size c.args.a in
-    let s : ℕ = scaled_size c.args.a in
-    let mid : ℕ = c.centre-at.result.c.0 in
-    let inside : Inside b s mid = rw c.centre-at.ensures.c (inside-axis c.args.a c.args.p.0 c.requires.0.accepted c.requires.1) in
-    let k-is : c.centre-at.result.k ≡ k_of b s mid = rw c.centre-at.ensures.c c.centre-at.ensures.k in
-    let rounded-at : RoundedAt b s mid c.centre-at.result.k c.rounded-d.result.d1.0 c.rounded-d.result.d2.0 = record { k-is = k-is; d1-is = c.rounded-d.ensures.d1 ∙ ap rounded_of c.distances-unrounded.ensures.d1; d2-is = c.rounded-d.ensures.d2 ∙ ap rounded_of c.distances-unrounded.ensures.d2 } in
-    let m-is : c.borders_by_parity-chosen.result.border.0 ≡ m_of b s mid = c.borders_by_parity-chosen.ensures.m _ _ _ rounded-at in
-    steps.columns-asked _ _ _ inside k-is m-is
+    let mid = middle c.args.at c.requires c.centre-mid.ensures.c c.centre-mid.ensures.k in
+    let fours = steps.rounded-at mid.1 c.distances-unrounded.ensures.d1 c.distances-unrounded.ensures.d2 c.rounded-d.ensures.d1 c.rounded-d.ensures.d2 in
+    steps.columns-asked _ _ _ mid.0 mid.1 (c.borders_by_parity-chosen.ensures.m _ _ _ fours)
 
 pub reads-coordinates-requires : goal.reads-coordinates-requires
 reads-coordinates-requires c =
-    let b : ℕ = base_size c.args.a in
-    let s : ℕ = scaled_size c.args.a in
-    let mid : ℕ = c.centre-at.result.c.0 in
-    let inside : Inside b s mid = rw c.centre-at.ensures.c (inside-axis c.args.a c.args.p.0 c.requires.0.accepted c.requires.1) in
-    let k-is : c.centre-at.result.k ≡ k_of b s mid = rw c.centre-at.ensures.c c.centre-at.ensures.k in
-    let rounded-at : RoundedAt b s mid c.centre-at.result.k c.rounded-d.result.d1.0 c.rounded-d.result.d2.0 = record { k-is = k-is; d1-is = c.rounded-d.ensures.d1 ∙ ap rounded_of c.distances-unrounded.ensures.d1; d2-is = c.rounded-d.ensures.d2 ∙ ap rounded_of c.distances-unrounded.ensures.d2 } in
-    let m-is : c.borders_by_parity-chosen.result.border.0 ≡ m_of b s mid = c.borders_by_parity-chosen.ensures.m _ _ _ rounded-at in
-    let n-is : c.borders_by_parity-chosen.result.border8.0 ≡ n_of b s mid = c.borders_by_parity-chosen.ensures.n _ _ _ rounded-at in
-    let f-is : c.columns_read-columns.result.first ≡ f_of b s mid = c.columns_read-columns.ensures.f _ _ _ k-is m-is in
-    let g = inside in
-    (steps.row-there _ _ _ g k-is m-is n-is, omega (arith, f-is, f-below _ _ _ g, g))
+    let mid = middle c.args.at c.requires c.centre-mid.ensures.c c.centre-mid.ensures.k in
+    let fours = steps.rounded-at mid.1 c.distances-unrounded.ensures.d1 c.distances-unrounded.ensures.d2 c.rounded-d.ensures.d1 c.rounded-d.ensures.d2 in
+    let m-is = c.borders_by_parity-chosen.ensures.m _ _ _ fours in
+    let n-is = c.borders_by_parity-chosen.ensures.n _ _ _ fours in
+    let f-is = c.columns_read-columns.ensures.f _ _ _ mid.1 m-is in
+    let inside = mid.0 in
+    (steps.row-there _ _ _ inside mid.1 m-is n-is, omega (arith, f-is, f-below _ _ _ inside, inside))
 
 pub returns : goal.returns
 unfolding step_of how_many
 returns c =
-    let b : ℕ = base_size c.args.a in
-    let s : ℕ = scaled_size c.args.a in
-    let mid : ℕ = c.centre-at.result.c.0 in
-    let k-is : c.centre-at.result.k ≡ k_of b s mid = rw c.centre-at.ensures.c c.centre-at.ensures.k in
-    let rounded-at : RoundedAt b s mid c.centre-at.result.k c.rounded-d.result.d1.0 c.rounded-d.result.d2.0 = record { k-is = k-is; d1-is = c.rounded-d.ensures.d1 ∙ ap rounded_of c.distances-unrounded.ensures.d1; d2-is = c.rounded-d.ensures.d2 ∙ ap rounded_of c.distances-unrounded.ensures.d2 } in
-    let m-is : c.borders_by_parity-chosen.result.border.0 ≡ m_of b s mid = c.borders_by_parity-chosen.ensures.m _ _ _ rounded-at in
-    let n-is : c.borders_by_parity-chosen.result.border8.0 ≡ n_of b s mid = c.borders_by_parity-chosen.ensures.n _ _ _ rounded-at in
-    let f-is : c.columns_read-columns.result.first ≡ f_of b s mid = c.columns_read-columns.ensures.f _ _ _ k-is m-is in
-    let k = k-is in
-    let read = c.reads-coordinates.ensures ∙ steps.reads _ _ _ k m-is n-is f-is in
-    rw (← c.centre-at.ensures.c)
+    let mid = middle c.args.at c.requires c.centre-mid.ensures.c c.centre-mid.ensures.k in
+    let fours = steps.rounded-at mid.1 c.distances-unrounded.ensures.d1 c.distances-unrounded.ensures.d2 c.rounded-d.ensures.d1 c.rounded-d.ensures.d2 in
+    let m-is = c.borders_by_parity-chosen.ensures.m _ _ _ fours in
+    let n-is = c.borders_by_parity-chosen.ensures.n _ _ _ fours in
+    let f-is = c.columns_read-columns.ensures.f _ _ _ mid.1 m-is in
+    let read = c.reads-coordinates.ensures ∙ steps.reads _ _ _ mid.1 m-is n-is f-is in
+    rw (← c.centre-mid.ensures.c)
     (λ i. record {
-      k = k i;
+      k = mid.1 i;
       border = record { 0 = m-is i };
       border8 = record { 0 = n-is i };
       first = f-is i;

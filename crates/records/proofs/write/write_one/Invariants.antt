@@ -1,23 +1,14 @@
--- `records::write::write_one` meets its contract: the words before w are those of the record. Assumes nothing.
-use Prim.Native.Nat.{◌-◌, ◌%◌, ◌≤◌}
-use mathlib.Core.Path.{◌≡◌}
+-- `records::write::write_one` meets its contract: the words that are written so far are those of the record. Assumes nothing.
+use Rattle.std.proofs.Common.{map, ◌+◌, ◌*◌}
+use Rattle.motion.specs.ByValue.{motion_in}
 use Rattle.records.proofs.Filled.{Filled}
 use Rattle.records.proofs.write.write_one.Given as goal
 
 abbrev pub invariant-loop-w : goal.invariant-loop-w
-invariant-loop-w l = Filled l.kind (record { list0 = record { reference = l.r0; x = l.x0; y = l.y0 }; list1 = record { reference = l.r1; x = l.x1; y = l.y1 } }) (l.detail) l.out l.w × (1 ≤ l.w) × (l.w ≤ 5)
+invariant-loop-w g l = Filled l.fn.kind (motion_in l.fn.m) l.fn.detail (map g.W.Word.value l.out) l.w
 
-abbrev pub decreases-loop-w : goal.decreases-loop-w
-decreases-loop-w l = 5 - l.w
+abbrev pub invariant-loop-q : goal.invariant-loop-q
+invariant-loop-q g l = Filled l.fn.kind (motion_in l.fn.m) l.fn.detail (map g.W.Word.value l.out) (5 + 2 * l.q)
 
-abbrev pub invariant-loop-w-2 : goal.invariant-loop-w-2
-invariant-loop-w-2 l = Filled l.kind (record { list0 = record { reference = l.r0; x = l.x0; y = l.y0 }; list1 = record { reference = l.r1; x = l.x1; y = l.y1 } }) (l.detail) l.out l.w × (5 ≤ l.w) × (l.w ≤ 13) × (l.w % 2 ≡ 1)
-
-abbrev pub decreases-loop-w-2 : goal.decreases-loop-w-2
-decreases-loop-w-2 l = 13 - l.w
-
-abbrev pub invariant-loop-w-3 : goal.invariant-loop-w-3
-invariant-loop-w-3 l = Filled l.kind (record { list0 = record { reference = l.r0; x = l.x0; y = l.y0 }; list1 = record { reference = l.r1; x = l.x1; y = l.y1 } }) (l.detail) l.out l.w × (13 ≤ l.w) × (l.w ≤ 77) × (l.w % 4 ≡ 1)
-
-abbrev pub decreases-loop-w-3 : goal.decreases-loop-w-3
-decreases-loop-w-3 l = 77 - l.w
+abbrev pub invariant-loop-b : goal.invariant-loop-b
+invariant-loop-b g l = Filled l.fn.kind (motion_in l.fn.m) l.fn.detail (map g.W.Word.value l.out) (13 + 4 * l.b)

@@ -1,2 +1,0 @@
--- Laws that the proofs of the functions cite, here and in the crates above.
-pub mod Wide

@@ -1,2 +1,0 @@
--- The scales as the functions of this crate hand them down.
-pub mod ScaleNumbers
