@@ -90,7 +90,7 @@ pub fn detail_by(bits: u32, h: [u8; 2], v: [u8; 2]) -> u8
     four_by(bits, h, upper, lower)
 }
 
-// ---- The detail of a macroblock
+// ---- The detail of a macroblock (h and v are the halves of the coordinates of what is read, made once a column or row: a type that says so would hold the coordinates again)
 // Where several macroblocks are read: those of the corners are all (`detail-corners`).
 pub fn detail_of_more<W: Word>(r: &Reading<W>, h: [u8; 2], v: [u8; 2]) -> u8
     requires { Rising r.now.across × Rising r.now.down × (h ≡ halves_of r.now.across) × (v ≡ halves_of r.now.down) }

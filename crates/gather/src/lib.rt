@@ -80,7 +80,7 @@ pub fn block_read<W: Word>(base: &[W], width: usize, x: u16, y: u16) -> BlockMot
     block_from(base, across_of(x), down_of(width, y))
 }
 
-// The blocks of a quadrant: at two columns and two rows.
+// The blocks of a quadrant: at two columns and two rows. (Four spots side by side: a struct of them would be made for each quadrant, and asked the same.)
 pub fn quadrant_read<W: Word>(
     base: &[W],
     left: Spot,
@@ -98,7 +98,7 @@ pub fn quadrant_read<W: Word>(
     [a, b, c, d]
 }
 
-// ---- Macroblocks
+// ---- Macroblocks (each asks for the record that one pair of coordinates names, and no value carries such a pair)
 // The macroblock that a block with coordinates x and y reads is intra; is of type 1, 16×16.
 pub fn reads_intra<W: Word>(base: &[W], width: usize, x: u16, y: u16) -> bool
     requires { ReadableAt W.LIMIT width (map W.value base.now) x y × (width ≤ 256) }
@@ -124,6 +124,7 @@ pub fn reads_single<W: Word>(base: &[W], width: usize, x: u16, y: u16) -> bool
 }
 
 // ---- What a macroblock inside the window reads
+// (That coordinates rise is asked where it is needed: `corners_of` never asked it.)
 // The base with its width in macroblocks, and the coordinates that the two axes give: the records that they name lie in the base and are well formed. It is made once for a macroblock, and lent.
 pub struct Reading<'a, W: Word> {
     pub base: &'a [W],

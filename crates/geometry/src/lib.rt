@@ -117,7 +117,7 @@ fn verdict_on(n: Numbers) -> Verdict
     unless(offsets_right(n), refusals::OFFSET)
 }
 
-// Refusal 1 does not apply.
+// Refusal 1 does not apply. (One function for each refusal, as the paper numbers them.)
 fn bases_right(n: Numbers) -> bool
     ensures { result ≡ (size_right n.horizontal.base && size_right n.vertical.base) }
 {
@@ -176,7 +176,7 @@ fn offset_right(o: i32) -> bool
     (o % 2 == 0) & between(Geometry::OFFSET_MIN, Geometry::OFFSET_MAX, o)
 }
 
-// The axes of accepted numbers.
+// The axes of accepted numbers. (No From: both ask that none is below 0.)
 fn axes_of(n: Numbers) -> Axes
     requires { geometry_verdict n ≡ Accepted }
     ensures { result ≡ axes_of n }

@@ -32,7 +32,7 @@ pub type Lines = Result<usize, usize>;
 // The whole text: the geometry's numbers, and how many record lines there are.
 pub type TextParse = Result<(Numbers, usize), usize>;
 
-// A text, and the place up to which it is read.
+// A text, and the place up to which it is read. (Each reader says that the bytes are `kept`, since what is lent by `&mut` may be handed others: the machine's rule, no fact of a type.)
 #[derive(Drop)]
 pub struct Text<'a> {
     pub bytes: &'a [u8],

@@ -27,7 +27,7 @@ fn is_marked(set: u16, i: u32) -> bool
     (set >> i) & 1 == 1
 }
 
-// The first block of each quadrant. (`writing` has it for slices; no crate is below both but those of motions and records.)
+// The first block of each quadrant. (`writing` has the same numbers as indices: four numbers fetched from another crate are no plainer.)
 const FIRST_BLOCK: [u32; 4] = [0, 2, 8, 10];
 
 // The blocks of quadrant q that read no intra macroblock.

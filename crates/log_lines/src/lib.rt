@@ -5,7 +5,7 @@ ghost use Rattle.definitions.specs.Log.{decimal, line_of};
 ghost use Rattle.log_lines.specs.Put.{Fits, Put, items_of};
 ghost use Rattle.std.specs.Prelude.{[], ◌∷◌, ◌≡◌, ◌+◌, ◌<◌, ◌≤◌, length};
 
-// A log, written up to a place in the bytes that are lent for it.
+// A log, written up to a place in the bytes that are lent for it. (Each method says that they are the `same` bytes, since what is lent by `&mut` may be handed others.)
 #[derive(Drop)]
 pub struct Log<'a> {
     pub out: &'a mut [u8],
@@ -39,7 +39,7 @@ impl<'a> Log<'a> {
         self.at += 1;
     }
 
-    // A number in decimal.
+    // A number in decimal. (By hand, no Display: no clause of it says which bytes it writes.)
     fn number(&mut self, n: u32)
         requires { Fits self.old.out.now self.old.at (decimal n) }
         ensures bytes { Put self.old.out.now self.old.at (decimal n) self.new.out.now self.new.at }

@@ -58,7 +58,7 @@ pub struct AxisRead {
     pub inside: bool,
 }
 
-// An axis inside, in sixteen bits.
+// An axis inside, in sixteen bits. (No From: it asks that the numbers are small.)
 fn read_in(s: AxisStep) -> AxisRead
     requires { SmallRising s }
     ensures { result ≡ read_in s }
@@ -100,7 +100,7 @@ pub fn axis_read(a: CheckedAxis, x: u32) -> AxisRead
     read_nowhere()
 }
 
-// ---- In or out of the window
+// ---- In or out of the window (what `Makeable` asks was tried as a ghost field: it holds a number, and such a field takes a proposition alone; h and v are the paper's two axes)
 pub fn make<W: Word>(base: &[W], f: Fixed, h: AxisRead, v: AxisRead, out: &mut [W]) -> Sort
     requires { Makeable W.LIMIT f h v (map W.value base.now) × (length out.old ≡ record_words) }
     ensures sort { result ≡ sort_by f h v (map W.value base.now) }
@@ -130,7 +130,7 @@ pub fn make<W: Word>(base: &[W], f: Fixed, h: AxisRead, v: AxisRead, out: &mut [
 }
 
 // ---- Inside: the intra set, and its count
-// All four coordinates lie in one column (row): the first and the last do, and coordinates rise (`one-part`).
+// All four coordinates lie in one column (row): the first and the last do, and coordinates rise (`one-part`). (A constant divides without an instruction more; a parameter for 4 and 2 is no plainer.)
 fn is_one(reads: [u16; 4]) -> bool
     ensures { result ≡ one_part 4 reads }
 {
@@ -339,7 +339,7 @@ pub struct Said {
     pub detail: u8,
 }
 
-// The split that it says.
+// The split that it says. (No From: of a record that inherits alone.)
 fn split_of(s: Said) -> Split
     ensures { result ≡ split_in s }
 {
@@ -376,7 +376,7 @@ pub fn answer_of(sort: Sort, h: AxisRead, v: AxisRead, s: Said) -> Answer
     }
 }
 
-// What a written record says.
+// What a written record says. (No From: it asks that the record keeps rule 7.)
 fn said_in<W: Word>(out: &[W]) -> Said
     requires { (length out.now ≡ record_words) × (rule7 (map W.value out.now) ≡ true) }
     ensures { result ≡ said_by (map W.value out.now) }

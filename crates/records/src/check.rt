@@ -73,7 +73,7 @@ pub fn only_zero<W: Word>() -> Range<W>
     range_of(0, 0)
 }
 
-// ---- Words in a range
+// ---- Words in a range (w < 78, and q < 4 and b < 16 below, are asked: a type of such indices would be turned into its number at each use)
 // Both tests are made: `&` has no branch. So it is wherever words are tested by `&` below, and the compiler takes several at once.
 fn word_within<W: Word>(words: &[W; RECORD_WORDS], w: usize, range: Range<W>) -> bool
     requires { w < record_words }

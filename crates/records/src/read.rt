@@ -18,6 +18,7 @@ pub fn record_at<W: Word>(base: &[W], a: usize) -> &[W; RECORD_WORDS]
         .unwrap()
 }
 
+// (Types and sub-types are compared as numbers: a record's word may be any.)
 // Of type 0, intra.
 pub fn is_intra<W: Word>(base: &[W], a: usize) -> bool
     requires { ((a + 1) * record_words ≤ length base.now) × (a < 65536) }
@@ -26,7 +27,7 @@ pub fn is_intra<W: Word>(base: &[W], a: usize) -> bool
     record_at(base, a)[TYPE].get() == 0
 }
 
-// Of type 1, 16×16.
+// Of type 1, 16×16. (Beside the one before: two of the paper's types, each with its own definition.)
 pub fn is_whole<W: Word>(base: &[W], a: usize) -> bool
     requires { ((a + 1) * record_words ≤ length base.now) × (a < 65536) }
     ensures { result ≡ eq_z (type_of (record_at (map W.value base.now) a)) (pos 1) }

@@ -65,7 +65,7 @@ fn head_rule(words: &[i32; RECORD_WORDS]) -> Option<u32>
 }
 
 // ---- Rule 5
-// Vector words: -limit..limit - 1. (By an argument, where `records` has the limit of a width: these rules judge words of both.)
+// Vector words: -limit..limit - 1. (By an argument, where `records` has the limit of a width: these rules judge words of both. Its bounds are asked of three functions, which hand it on: a type of limits is no plainer.)
 fn vectors_within(limit: u32) -> Range<i32>
     requires { (0 < limit) × (limit ≤ wide) }
     ensures { (result.low ≡ minus limit) × (result.high ≡ pos (limit - 1)) }
@@ -166,7 +166,7 @@ fn broken_at(a: usize, rule: u32) -> Verdict
     })
 }
 
-// Records from..to-1 are well formed, or refusal 8 at the lowest that is not, with its first broken rule.
+// Records from..to-1 are well formed, or refusal 8 at the lowest that is not, with its first broken rule. (A nested search left by a label, a form that document 01 names; what is found stands beside it.)
 pub fn check(base: &[i32], from: usize, to: usize, limit: u32) -> Verdict
     requires { (to * record_words ≤ length base.now) × (from ≤ to) × (to ≤ 65536) × (0 < limit) × (limit ≤ wide) }
     ensures { result ≡ verdict_of (record_tests limit base.now (addresses from to)) }

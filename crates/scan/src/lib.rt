@@ -14,7 +14,7 @@ use records::read::record_at;
 use records::{check, layout};
 use word::Word;
 
-// ---- Type 0, intra
+// ---- Type 0, intra (that a record keeps rule 7 is asked of the six functions of types: each is an arm of one `match`, and a type of such records would be made for it alone)
 // No sub-type but 0, no reference but -1, no vector but 0.
 fn quick_intra<W: Word>(words: &[W; RECORD_WORDS]) -> bool
     requires { (is_intra (map W.value words.now) ≡ true) × (rule7 (map W.value words.now) ≡ true) }
@@ -130,6 +130,7 @@ fn same_in_quadrant<W: Word>(words: &[W; RECORD_WORDS], q: usize) -> bool
     let sub = words[layout::SUB_TYPES + q].get();
     let rows = check::same_vectors(words, i, i + 1) & check::same_vectors(words, i + 4, i + 5);
     let columns = check::same_vectors(words, i, i + 4) & check::same_vectors(words, i + 1, i + 5);
+    // (numbers, no match: no branch)
     (rows | ((sub != 0) & (sub != 1))) & (columns | ((sub != 0) & (sub != 2)))
 }
 
@@ -199,7 +200,7 @@ fn quick<W: Word>(words: &[W; RECORD_WORDS]) -> bool
     check::detail_right(words) && quick_by_type(words)
 }
 
-// The first of records from..to-1 that is malformed, or to.
+// The first of records from..to-1 that is malformed, or to (no Option: the check goes on from there).
 fn first_not_quick<W: Word>(base: &[W], from: usize, to: usize) -> usize
     requires { (to * record_words ≤ length base.now) × (from ≤ to) × (to ≤ 65536) }
     ensures { (from ≤ result) × (result ≤ to) × ((k : ℕ) → from ≤ k → k < result → well_formed W.LIMIT (record_at (map W.value base.now) k) ≡ true) × (result < to → well_formed W.LIMIT (record_at (map W.value base.now) result) ≡ false) }
@@ -212,7 +213,7 @@ fn first_not_quick<W: Word>(base: &[W], from: usize, to: usize) -> usize
     to
 }
 
-// The numbers of a record's words, for the rules.
+// The numbers of a record's words, for the rules. (No From: an array is no type of this crate.)
 fn widened<W: Word>(words: &[W; RECORD_WORDS]) -> [i32; RECORD_WORDS]
     ensures { result ≡ map W.value words.now }
 {

@@ -32,7 +32,7 @@ fn figures(t: &mut Text, a: u32, top: u32) -> u32
 {
     let mut n = a;
     let mut p = t.at; // the place within the digits; in t, at each of them, it takes 7 % more instructions of the text call
-    // a while: it stops at the first byte that is no digit, or one too many
+    // a while: it stops at the first byte that is no digit, or one too many; tried as `while let` over t's next byte, which misses the 5 % (7 more, above)
     while p < t.bytes.len() {
         let b = t.bytes[p];
         let c = class_of(b);
@@ -96,7 +96,7 @@ pub fn number(t: &mut Text) -> Num
     }
 }
 
-// A number and what separates it from the next: a closing bracket if it is the last, else a space.
+// A number and what separates it from the next: a closing bracket if it is the last, else a space. (A flag, compared: as a closure or an enum it is no plainer.)
 pub fn field(t: &mut Text, last: bool) -> Num
     ensures read { NumAt (FieldOf last) t.old.bytes.now t.old.at (up_to t.new.at result) }
     ensures kept { t.new.bytes.now ≡ t.old.bytes.now }

@@ -83,7 +83,7 @@ fn record_lines(t: &mut Text, words: &mut [i16]) -> Lines
     Ok(n)
 }
 
-// The geometry's numbers, in the order of the head lines.
+// The geometry's numbers, in the order of the head lines. (No From: eight numbers are in this order here alone.)
 fn numbers_of(v: [i16; 8]) -> Numbers
     ensures { head_numbers result ≡ v }
 {

@@ -1,5 +1,5 @@
 // Reading the record lines of a text: each reader stores the words in the buffer that it is lent once it has read them all, so that bad bytes leave
-// every lent word.
+// every lent word. (Where, is told by `out` and `from`: a slice of `out` in their place is no plainer, for it is taken under the same bound at each call.)
 #![tactic(auto)]
 
 ghost use Rattle.std.specs.Prelude.{◌+◌, ◌<◌, ◌≤◌, length, ◌≡◌};
@@ -67,6 +67,7 @@ fn put_record(out: &mut [i16], from: usize, kind: u8, m: BlockMotion, detail: i1
     write_one(&mut out[from..to], kind, m, detail);
 }
 
+// (No From: seven numbers are a line's by their place in it, and no type.)
 // The motion of a line's seven numbers: the references, and the vectors of list 0 and list 1. The last is the detail.
 fn motion_of(seven: [i16; 7]) -> BlockMotion
     ensures is { motion_in result ≡ whole_motion seven }

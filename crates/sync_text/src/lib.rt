@@ -25,6 +25,7 @@ pub fn read_text(bytes: &[u8], words: &mut [i16]) -> TextReply
         return Ok(None);
     }
     unless(bytes.len() <= BYTES, refusals::TEXT_SIZE)?;
+    // a match: that the place fits is known here, and would not be in a closure of `map_err`
     match parse(bytes, words) {
         Ok((numbers, lines)) => {
             unless(lines <= RECORDS, refusals::TEXT_SIZE)?;

@@ -59,7 +59,7 @@ pub struct Site {
     pub lower: Run,
 }
 
-// Those of a row, if it is read: one column, or two next to each other; else none, an empty run, which is checked as any other (no Option).
+// Those of a row, if it is read: one column, or two next to each other; else none, an empty run, which is checked as any other (no Option; and `read` is a test, no switch for a closure).
 fn run_of(width: usize, h: AxisRead, row: u32, read: bool) -> Run
     requires { width ≤ 256 }
     ensures { result ≡ run_of width h row read }
