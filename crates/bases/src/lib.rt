@@ -1,7 +1,7 @@
 // A base of records, and what was judged of it, as types: a `Base` has its geometry's length, and the records of a `Formed` base are well formed.
 #![tactic(auto)]
 
-ghost use Rattle.std.specs.Prelude.{◌*◌, map, length, ◌≡◌, ◌↔◌, Err, IfErr, IfOk, IsOk};
+ghost use Rattle.std.specs.Prelude.{◌*◌, map, length, ◌≡◌, ◌↔◌, Err, IfErr, IfOk, IsOk, ⊤};
 ghost use Rattle.common.specs.Bases.{BaseFormed};
 ghost use Rattle.definitions.specs.Raster.{base_count};
 ghost use Rattle.definitions.specs.Record.{record_words};
@@ -25,6 +25,10 @@ pub struct Base<'a, W> {
 
 // (By hand, since nothing derives over a ghost field of a generic type. Copying allocates nothing; the trait's signature has the error.)
 impl<'a, W> Clone for Base<'a, W> {
+    ghost is_clone = { λ x y. y ≡ x };
+
+    ghost is_infallible = { λ _. ⊤ };
+
     fn clone(&self) -> Result<Base<'a, W>, AllocError> {
         Ok(*self)
     }
@@ -40,6 +44,10 @@ pub struct Formed<'a, W: Word> {
 }
 
 impl<'a, W: Word> Clone for Formed<'a, W> {
+    ghost is_clone = { λ x y. y ≡ x };
+
+    ghost is_infallible = { λ _. ⊤ };
+
     fn clone(&self) -> Result<Formed<'a, W>, AllocError> {
         Ok(*self)
     }

@@ -1,7 +1,7 @@
 // Reading by the block map: the motions that the blocks of a macroblock read, and which of the macroblocks that are read are intra.
 #![tactic(auto)]
 
-ghost use Rattle.std.specs.Prelude.{ℕ, ◌<◌, ◌≤◌, pos, map, ◌≡◌};
+ghost use Rattle.std.specs.Prelude.{ℕ, ◌<◌, ◌≤◌, pos, map, ◌≡◌, ⊤};
 ghost use Rattle.definitions.specs.Basics.{eq_z, pick, set_of};
 ghost use Rattle.definitions.specs.Blocks.{quadrant_of};
 ghost use Rattle.definitions.specs.Record.{is_intra, sub_type_of, type_of};
@@ -137,6 +137,10 @@ pub struct Reading<'a, W: Word> {
 
 // (By hand, as in `bases`.)
 impl<'a, W: Word> Clone for Reading<'a, W> {
+    ghost is_clone = { λ x y. y ≡ x };
+
+    ghost is_infallible = { λ _. ⊤ };
+
     fn clone(&self) -> Result<Reading<'a, W>, AllocError> {
         Ok(*self)
     }

@@ -12,9 +12,9 @@ ghost use Rattle.definitions.specs.Refusals.{geometry_verdict, offset_right, sca
 ghost use Rattle.definitions.specs.Basics.{between as in_range};
 ghost use Rattle.definitions.specs.Accepted.{AcceptedAxes, AcceptedAxis};
 ghost use Rattle.definitions.specs.Replies.{Accepted};
-ghost use Rattle.geometry.specs.Checked.{NoneNegative};
+ghost use Rattle.geometry.specs.Checked.{NoneNegative, checked_by};
 ghost use Rattle.geometry.specs.Step.{AtSample};
-ghost use Rattle.std.specs.Prelude.{◌<◌, ◌&&◌, true, ◌≡◌, IfOk, IfErr};
+ghost use Rattle.std.specs.Prelude.{◌<◌, ◌&&◌, true, ◌≡◌, Err, IfErr, IfOk, Ok};
 
 use common::refusals;
 use common::refusals::unless;
@@ -47,6 +47,7 @@ impl Geometry {
     pub fn new(n: Numbers) -> Result<Geometry, Refusal>
         ensures accepted { IfOk result (λ g. (geometry_verdict n ≡ Accepted) × (g.axes ≡ axes_of n)) }
         ensures refused { IfErr result (λ r. geometry_verdict n ≡ Err r) }
+        ensures checked { IfOk result (λ g. checked_by (geometry_verdict n) n ≡ Ok g.axes) × IfErr result (λ r. checked_by (geometry_verdict n) n ≡ Err r) }
     {
         verdict_on(n)?;
         Ok(Geometry { axes: axes_of(n) })

@@ -4,19 +4,33 @@ ghost use Rattle.definitions.specs.Geometry.{base_size, full_size, macroblocks};
 ghost use Rattle.definitions.specs.Raster.{base_count, column_at, full_count, row_at};
 
 use crate::Geometry;
+use definitions::Axes;
+
+// The columns of the base, and of the picture, of any two axes.
+pub fn base_width(g: Axes) -> usize
+    ensures { result ≡ macroblocks (base_size g.horizontal) }
+{
+    (g.horizontal.base.0 / 16) as usize
+}
+
+pub fn full_width(g: Axes) -> usize
+    ensures { result ≡ macroblocks (full_size g.horizontal) }
+{
+    (g.horizontal.full.0 / 16) as usize
+}
 
 impl Geometry {
-    // The columns of the base, and of the picture.
+    // Those of the geometry.
     pub fn base_width(self) -> usize
         ensures { result ≡ macroblocks (base_size self.axes.horizontal) }
     {
-        (self.axes.horizontal.base.0 / 16) as usize
+        base_width(self.axes)
     }
 
     pub fn full_width(self) -> usize
         ensures { result ≡ macroblocks (full_size self.axes.horizontal) }
     {
-        (self.axes.horizontal.full.0 / 16) as usize
+        full_width(self.axes)
     }
 
     // The macroblocks of the base, and of the picture.

@@ -42,7 +42,7 @@ module _ (limit : ℕ) (n : Numbers) (base words : List ℤ) where
   picture-singly (NotMade r) out e w = tt
 
   -- the call's reply and words with the promises of them: the contract's four parts
-  picture-kept : (reply : PictureReply) (out : List ℤ) → reply ≡ (picture_call limit n base words).reply → out ≡ (picture_call limit n base words).words
+  pub picture-kept : (reply : PictureReply) (out : List ℤ) → reply ≡ (picture_call limit n base words).reply → out ≡ (picture_call limit n base words).words
       → (reply ≡ (picture_call limit n base words).reply) × ((out ≡ (picture_call limit n base words).words) × (PicturePromised limit n base words reply out × SinglyCounted limit n base reply out))
   picture-kept reply out r w = (r, (w, (picture-promised reply out r w, picture-singly reply out r w)))
 

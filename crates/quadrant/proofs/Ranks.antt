@@ -57,7 +57,7 @@ module _ (p q s t : ℤ) (refer : Reference p × Reference q × Reference s × R
   lowest-reference =
       lower-reference (lower p q) (lower s t) (lower-reference p q refer.0 refer.1) (lower-reference s t refer.2 refer.3)
 
-  lowest-rank : {a b c d above below least : ℕ} → a ≡ rank_of p → b ≡ rank_of q → c ≡ rank_of s → d ≡ rank_of t
+  pub lowest-rank : {a b c d above below least : ℕ} → a ≡ rank_of p → b ≡ rank_of q → c ≡ rank_of s → d ≡ rank_of t
       → above ≡ min a b → below ≡ min c d → least ≡ min above below → least ≡ rank_of (lowest_of p q s t)
   unfolding lowest_of
   lowest-rank ea eb ec ed x y z =
@@ -106,7 +106,7 @@ module _ (r : ℤ) (refers : Reference r) (k w : ℕ) (ranked : k ≡ rank_of r)
   next_small : w < 2 ^ 31
   next_small = omega (arith, next-is, of-reference (λ r. nat_abs (r +ℤ pos 1) < 2 ^ 31) (omega arith) (λ n h. omega arith) r refers)
 
-  next-signed : SFits w32 (pos w)
+  pub next-signed : SFits w32 (pos w)
   next-signed = record { sfits = next_small }
 
   back : to_z w32 w -ℤ pos 1 ≡ r
@@ -114,10 +114,10 @@ module _ (r : ℤ) (refers : Reference r) (k w : ℕ) (ranked : k ≡ rank_of r)
       rw (to_z_pos w32 next_small, next-is)
       (of-reference (λ r. pos (nat_abs (r +ℤ pos 1)) -ℤ pos 1 ≡ r) refl (λ n h. +ℤ-neg_ℤ_cancel (pos n) (pos 1)) r refers)
 
-  back_fits : SFits w32 (to_z w32 w -ℤ pos 1)
+  pub back_fits : SFits w32 (to_z w32 w -ℤ pos 1)
   back_fits = rw back (reference-fits r refers)
 
-  back_is : to_z w32 (of_z w32 (to_z w32 w -ℤ pos 1)) ≡ r
+  pub back_is : to_z w32 (of_z w32 (to_z w32 w -ℤ pos 1)) ≡ r
   back_is = rw back (to_z-of_z (reference-fits r refers))
 
 -- ---- the lowest of four, by their ranks and back

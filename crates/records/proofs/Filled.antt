@@ -29,7 +29,7 @@ module _ (kind : ℕ) (m : Motion) (d : ℤ) where
         same = take-suc-set out w v (omega (arith, f.long)) ∙ ((λ i. f.same i ++ (last i ∷ [])) ∙ sym (take-suc words w (pos 0) (omega arith)));
       })
 
-  filled-all : (out : List ℤ) (w : ℕ) → Filled kind m d out w → w ≡ record_words → out ≡ laid_out (all_one kind m d)
+  pub filled-all : (out : List ℤ) (w : ℕ) → Filled kind m d out w → w ≡ record_words → out ≡ laid_out (all_one kind m d)
   filled-all out w f e =
       sym (take_all w out (omega (arith, f.long))) ∙ (f.same ∙ take_all w (laid_out (all_one kind m d)) (omega (arith, laid-length (all_one kind m d))))
 

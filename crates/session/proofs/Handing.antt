@@ -79,7 +79,7 @@ module _ (v : Session) where
   abbrev Totals : Counts → Session → Type 0
   Totals c w = (c ≡ totals_of (state_of v)) × (HandsBack v totals w × TotalsPromised v c)
 
-  totals-begun : state_of v ≡ begun v.numbers v.counts → Totals v.counts v
+  pub totals-begun : state_of v ≡ begun v.numbers v.counts → Totals v.counts v
   totals-begun s = let e = sym (ap totals_of s) in (e, (totals-keep, totals-promised v v.counts e))
 
   -- ---- next
@@ -113,7 +113,7 @@ module _ (v : Session) where
           by (Answered a) = ap (λ (t : State). value_of (advanced (Answered a) t)) (sym g.state)
           by (Declined r) = refl
 
-      next-done : (reply : MacroblockReply) (after : List ℤ) (w : Session) → reply ≡ (macroblock_call narrow v.numbers base (pos x) (pos y) words).reply
+      pub next-done : (reply : MacroblockReply) (after : List ℤ) (w : Session) → reply ≡ (macroblock_call narrow v.numbers base (pos x) (pos y) words).reply
           → after ≡ (macroblock_call narrow v.numbers base (pos x) (pos y) words).words → w ≡ advanced_by reply v → Gone reply after w
       unfolding exchange
       next-done reply after w a b e =

@@ -1,19 +1,21 @@
 -- The number of a scale, and a wide word that is raised and scaled by it: each step fits, and it is the scaled word. Assumes nothing.
 use Prim.Native.Nat.{ℕ, ◌+◌, ◌*◌, ◌/◌, ◌≤◌, ◌^◌}
-use mathlib.Core.Path.{◌≡◌, sym, subst}
+use mathlib.Core.Path.{◌≡◌, sym, ap, subst, ◌∙◌}
 use mathlib.Core.Bool.{true}
 use native.Mathlib.Nat.{mul-le-mul}
 use native.Mathlib.Omega.{arith}
 use lib.IntN.{ℤ, pos, sub_ℕ, ◌+ℤ◌, ◌*ℤ◌}
 use mir.Syntax.{w16, w32}
-use mir.Val.{SFits}
+use mir.Val.{SFits, of_z, to_z}
+use mir.Facts.{to_z-of_z}
 use Rattle.definitions.specs.Inheriting.{scaled_by}
 use Rattle.definitions.specs.Record.{fits, wide}
 use Rattle.definitions.proofs.Differences.{sub_cases}
 use Rattle.motion.specs.declared.Scale.{Scale}
-use Rattle.motion.specs.Scales.{AcceptedScale, scale_most}
+use Rattle.motion.specs.Scales.{AcceptedScale, scale_in, scale_most, scaled_with}
+use Rattle.motion.proofs.ByScales.{with_number}
 use Rattle.motion.proofs.Parts.{number_is, part-fits}
-use Rattle.word.proofs.Rounded.{by-raised, raised}
+use Rattle.word.proofs.Rounded.{by-raised, raised, word_back}
 
 -- ---- the number
 pub record Numbered (s : Scale) (n : ℕ) : Type 0 where
@@ -57,3 +59,10 @@ rising n v high e =
       fits = sub_cases (SFits w32) ((u * n + 32768) / 65536) (2 * n) (λ l. record { sfits = omega (arith, high) }) (λ l. record { sfits = omega (arith, most) });
       is = by-raised 2 n v r;
     }
+
+-- ---- handed over in 32 bits, and handed back
+module _ (v : ℤ) (e : fits wide v ≡ true) where
+  pub back : (n : ℕ) → n ≤ scale_most → (r : ℤ) → r ≡ scaled_by n (to_z w32 (of_z w32 v)) → to_z w32 (of_z w32 r) ≡ scaled_with (scale_in n) v
+  back n high r is =
+      let p = rising n v high e in
+      ap (λ (z : ℤ). to_z w32 (of_z w32 z)) (is ∙ ap (scaled_by n) (word_back wide (omega arith) v e)) ∙ (to_z-of_z (subst (SFits w32) p.is p.fits) ∙ sym (with_number n v))

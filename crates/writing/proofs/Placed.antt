@@ -46,7 +46,7 @@ pub first-low : (q : ℕ) → q < 4 → get_or (0 ∷ 2 ∷ 8 ∷ 10 ∷ []) q 0
 first-low = each (λ q. get_or (0 ∷ 2 ∷ 8 ∷ 10 ∷ []) q 0 ≤ 10) (omega arith) (omega arith) (omega arith) (omega arith)
 
 module _ (m : List Motion) (l : List ℤ) (q k : ℕ) (long : length l ≡ record_words) (h : q < 4) (first : k ≡ raster_of q 0) where
-  quadrant-put : (x y z : List ℤ) (a b c : ℕ) → x ≡ references_of (get_or m 0 zero_motion) → y ≡ pair_of m 0 → z ≡ pair_of m 2 → a ≡ 2 → b ≡ 8 → c ≡ 8
+  pub quadrant-put : (x y z : List ℤ) (a b c : ℕ) → x ≡ references_of (get_or m 0 zero_motion) → y ≡ pair_of m 0 → z ≡ pair_of m 2 → a ≡ 2 → b ≡ 8 → c ≡ 8
       → put (13 + 4 * (k + 4)) c (put (13 + 4 * k) b (put (5 + 2 * q) a l x) y) z ≡ quadrant_put q m l
   unfolding quadrant_put
   quadrant-put x y z a b c ex ey ez ea eb ec =
