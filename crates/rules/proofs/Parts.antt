@@ -1,5 +1,5 @@
 -- The parts of rules 4 to 6 as the functions test them. Assumes nothing.
-use Prim.Native.Nat.{ℕ, zero, suc, ◌+◌, ◌-◌, ◌*◌, ◌/◌, ◌%◌, ◌<◌}
+use Prim.Native.Nat.{ℕ, zero, suc, ◌+◌, ◌-◌, ◌*◌, ◌/◌, ◌%◌, ◌<◌, ◌≤◌}
 use mathlib.Core.Path.{◌≡◌, refl, sym, ap, ◌∙◌}
 use mathlib.Core.Bool.{Bool, true, false, ◌&&◌, ◌||◌, and_assoc}
 use mathlib.Core.List.{List, [], ◌∷◌, map}
@@ -10,6 +10,8 @@ use lib.Dec.{eqb}
 use lib.IntN.{ℤ, pos}
 use lib.ListN.{get_or}
 use borrow.Author.Tests.{eqb-true}
+use mir.Syntax.{Width}
+use mir.Val.{SFits}
 use Rattle.definitions.specs.declared.SubSplit.{SubSplit}
 use Rattle.definitions.specs.declared.SubSplit.TheVariants.{S8x8, S8x4, S4x8, S4x4}
 use Rattle.definitions.specs.Basics.{minus, eq_z, all_below}
@@ -28,29 +30,33 @@ use Rattle.rules.specs.Searching.{unused_zero}
 first-at : (q : ℕ) → q < 4 → 8 * (q / 2) + 2 * (q % 2) ≡ get_or (0 ∷ 2 ∷ 8 ∷ 10 ∷ []) q 0
 first-at = each (λ q. 8 * (q / 2) + 2 * (q % 2) ≡ get_or (0 ∷ 2 ∷ 8 ∷ 10 ∷ []) q 0) refl refl refl refl
 
--- ---- What the tests of words of either width say of words of 32 bits, which are their numbers
+-- ---- The numbers of words of 32 bits are these words
 pub numbers : (r : List ℤ) → map (λ z. z) r ≡ r
 numbers [] = refl
 numbers (z ∷ r) = ap (λ (t : List ℤ). z ∷ t) (numbers r)
 
-pub within :
-    (r : List ℤ) (first count : ℕ) {t : Bool} {low high a b : ℤ} → t ≡ all_within (map (λ z. z) r) first count low high → low ≡ a → high ≡ b → t ≡ all_within r first count a b
-within r first count e l h = e ∙ (λ i. all_within (numbers r i) first count (l i) (h i))
-
-pub zero_within : (r : List ℤ) (first : ℕ) {t : Bool} {low high : ℤ} → t ≡ all_within (map (λ z. z) r) first 2 low high → low ≡ pos 0 → high ≡ pos 0 → t ≡ all_within r first 2 (pos 0) (pos 0)
-zero_within r first e l h = within r first 2 e l h
-
-pub types-by : (r : List ℤ) {t : Bool} {low high : ℤ} → t ≡ all_within (map (λ z. z) r) 0 1 low high → (low ≡ pos 0) × (high ≡ pos 4) → rule1 r ≡ t
-types-by r e range = types r ∙ sym (within r 0 1 e range.0 range.1)
-
-pub references_by : (r : List ℤ) {t : Bool} {low high : ℤ} → t ≡ all_within (map (λ z. z) r) 5 8 low high → (low ≡ minus 1) × (high ≡ pos 31) → rule3 r ≡ t
-references_by r e range = references r ∙ sym (within r 5 8 e range.0 range.1)
-
-pub detail-by : (r : List ℤ) {t : Bool} → t ≡ rule7 (map (λ z. z) r) → rule7 r ≡ t
-detail-by r e = sym (e ∙ ap rule7 (numbers r))
-
 pub here : (base r : List ℤ) (a : ℕ) → map (λ z. z) r ≡ record_at (map (λ z. z) base) a → r ≡ record_at base a
 here base r a e = sym (numbers r) ∙ (e ∙ ap (λ (b : List ℤ). record_at b a) (numbers base))
+
+-- ---- What the tests of words say of the numbers of a record, where the ends of a range are given
+pub within : (r : List ℤ) (first count : ℕ) {t : Bool} {low high a b : ℤ} → t ≡ all_within r first count low high → low ≡ a → high ≡ b → t ≡ all_within r first count a b
+within r first count e l h = e ∙ (λ i. all_within r first count (l i) (h i))
+
+pub zero_within : (r : List ℤ) (first : ℕ) {t : Bool} {low high : ℤ} → t ≡ all_within r first 2 low high → low ≡ pos 0 → high ≡ pos 0 → t ≡ all_within r first 2 (pos 0) (pos 0)
+zero_within r first e l h = within r first 2 e l h
+
+pub types-by : (r : List ℤ) {t : Bool} {low high : ℤ} → t ≡ all_within r 0 1 low high → (low ≡ pos 0) × (high ≡ pos 4) → rule1 r ≡ t
+types-by r e range = types r ∙ sym (within r 0 1 e range.0 range.1)
+
+pub references_by : (r : List ℤ) {t : Bool} {low high : ℤ} → t ≡ all_within r 5 8 low high → (low ≡ minus 1) × (high ≡ pos 31) → rule3 r ≡ t
+references_by r e range = references r ∙ sym (within r 5 8 e range.0 range.1)
+
+-- what is told of the number that a word gives, of that word of the record
+pub told : {x z : ℤ} {t : Bool} (n : ℤ) → x ≡ z → eq_z x n ≡ t → eq_z z n ≡ t
+told n e h = ap (λ (z : ℤ). eq_z z n) (sym e) ∙ h
+
+pub detail-by : (r : List ℤ) {t : Bool} → t ≡ rule7 r → rule7 r ≡ t
+detail-by r e = sym e
 
 -- ---- Rule 4
 pub four-used :
@@ -60,6 +66,12 @@ unfolding all_below
 four-used r e0 e1 e2 e3 = λ i. ((e0 i && e1 i) && e2 i) && e3 i
 
 -- ---- Rule 5
+-- what holds the lowest vector word of a limit holds that of a lesser one
+pub lesser_fits : (w : Width) (n limit : ℕ) → n ≤ limit → SFits w (minus limit) → SFits w (minus n)
+lesser_fits w zero limit h room = record { sfits = omega (arith, room.sfits) }
+lesser_fits w (suc n) zero h room = absurd (omega arith)
+lesser_fits w (suc n) (suc limit) h room = record { sfits = omega (arith, room.sfits) }
+
 -- two words are 0
 zero-pair : (r : List ℤ) (w : ℕ) → all_within r w 2 (pos 0) (pos 0) ≡ (eq_z (word_of r w) (pos 0) && eq_z (word_of r (w + 1)) (pos 0))
 unfolding all_within all_below

@@ -11,6 +11,7 @@ use Rattle.std.specs.Prelude.{Option, None, Some}
 use Rattle.definitions.specs.Basics.{pick, all_below}
 use Rattle.definitions.specs.Record.{record_at, rule1, rule2, rule3, rule4, rule5, rule6, rule7, first_broken}
 use Rattle.definitions.specs.Refusals.{verdict_of, record_tests}
+use Rattle.definitions.specs.Replies.{Verdict}
 use Rattle.definitions.proofs.Choices.{yes, no}
 use Rattle.records.specs.Checking.{found_at, addresses}
 use Rattle.records.proofs.Searches.{search-end, search-fault}
@@ -111,6 +112,10 @@ module _ (limit : ℕ) (r : List ℤ) where
 
 -- ---- The verdict on the records from an address on
 module _ (limit : ℕ) (base : List ℤ) (a to : ℕ) where
+  -- what is found there is the verdict on all, if the records before it leave it to those from there on
+  pub found_of : (from n : ℕ) {v : Verdict} → v ≡ found_at a n → found_at a n ≡ verdict limit base a to → verdict limit base a to ≡ verdict limit base from to → v ≡ verdict limit base from to
+  found_of from n is found passed = is ∙ (found ∙ passed)
+
   module _ (h : a < to) (r : List ℤ) (here : r ≡ record_at base a) where
     pub found-head : (n : ℕ) → n ≡ head_broken r → (n ≡ 0 → ⊥) → found_at a n ≡ verdict limit base a to
     found-head n e broken = verdict-here limit base a to h r here n (broken-head limit r n (sym e) broken) broken

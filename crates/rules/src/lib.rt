@@ -1,11 +1,11 @@
-// The rules of a well-formed motion record, once for both widths (document 02, E12): on records of 32-bit words, with the limit of vectors as an argument.
+// The rules of a well-formed motion record, once for both widths (document 02, E12): over the width of its words, with the limit of vectors as an argument.
 #![tactic(auto)]
 
-ghost use Rattle.std.specs.Prelude.{◌≡◌, ℕ, ◌*◌, ◌-◌, ◌≤◌, ◌<◌, None, Some, eqb, pos, length};
+ghost use Rattle.std.specs.Prelude.{◌≡◌, ℕ, ◌*◌, ◌-◌, ◌≤◌, ◌<◌, None, Some, eqb, pos, map, length};
 ghost use Rattle.std.specs.Int.Bits.{bit_and};
 ghost use Rattle.definitions.specs.Basics.{minus, pick};
 ghost use Rattle.definitions.specs.Blocks.{quadrant_of};
-ghost use Rattle.definitions.specs.Record.{motion_of, record_words, rule2, rule4, rule5, sub_split_of, sub_type_of, wide};
+ghost use Rattle.definitions.specs.Record.{motion_of, record_words, rule2, rule4, rule5, sub_split_of, sub_type_of};
 ghost use Rattle.definitions.specs.Refusals.{record_tests, verdict_of};
 ghost use Rattle.definitions.specs.Splits.{same_motion};
 ghost use Rattle.records.specs.Checking.{addresses, first_block_of, found_at, sub_first_block};
@@ -18,23 +18,24 @@ use records::check::{
 };
 use records::read::record_at;
 use records::{check, layout};
+use word::Word;
 
 // ---- Rules 1 to 4: words 0 to 12
 // Rule 2.
-fn sub_types_right(words: &[i32; RECORD_WORDS]) -> bool
-    ensures { result ≡ rule2 words.now }
+fn sub_types_right<W: Word>(words: &[W; RECORD_WORDS]) -> bool
+    ensures { result ≡ rule2 (map W.value words.now) }
 {
-    match words[layout::TYPE] {
+    match words[layout::TYPE].get() {
         4 => all_within(words, layout::SUB_TYPES, 4, check::sub_types()),
         _ => all_within(words, layout::SUB_TYPES, 4, check::only_zero()),
     }
 }
 
 // Rule 4.
-fn usage_right(words: &[i32; RECORD_WORDS]) -> bool
-    ensures { result ≡ rule4 words.now }
+fn usage_right<W: Word>(words: &[W; RECORD_WORDS]) -> bool
+    ensures { result ≡ rule4 (map W.value words.now) }
 {
-    match words[layout::TYPE] {
+    match words[layout::TYPE].get() {
         0 => all_within(words, layout::REFERENCES, 8, check::only_unused()),
         _ => {
             quadrant_used(words, 0)
@@ -46,8 +47,8 @@ fn usage_right(words: &[i32; RECORD_WORDS]) -> bool
 }
 
 // The first of rules 1 to 4 that is broken.
-fn head_rule(words: &[i32; RECORD_WORDS]) -> Option<u32>
-    ensures { result ≡ pick (eqb (head_broken words.now) 0) None (Some (head_broken words.now)) }
+fn head_rule<W: Word>(words: &[W; RECORD_WORDS]) -> Option<u32>
+    ensures { result ≡ pick (eqb (head_broken (map W.value words.now)) 0) None (Some (head_broken (map W.value words.now))) }
 {
     if !all_within(words, layout::TYPE, 1, check::types()) {
         return Some(1);
@@ -65,35 +66,35 @@ fn head_rule(words: &[i32; RECORD_WORDS]) -> Option<u32>
 }
 
 // ---- Rule 5
-// Vector words: -limit..limit - 1. (By an argument, where `records` has the limit of a width: these rules judge words of both. Its bounds are asked of three functions, which hand it on: a type of limits is no plainer.)
-fn vectors_within(limit: u32) -> Range<i32>
-    requires { (0 < limit) × (limit ≤ wide) }
-    ensures { (result.low ≡ minus limit) × (result.high ≡ pos (limit - 1)) }
+// Vector words: -limit..limit - 1. (By an argument, where `records` has the limit of a width: the rules judge by any up to that. Its bounds are asked of three functions, which hand it on: a type of limits is no plainer.)
+fn vectors_within<W: Word>(limit: u32) -> Range<W>
+    requires { (0 < limit) × (limit ≤ W.LIMIT) }
+    ensures { (W.value result.low ≡ minus limit) × (W.value result.high ≡ pos (limit - 1)) }
 {
     let above = limit as i32;
     Range {
-        low: -above,
-        high: above - 1,
+        low: W::of(-above),
+        high: W::of(above - 1),
     }
 }
 
 // Those of quadrant q in list l are 0 unless the list is used. A block has four words, and a row of blocks sixteen.
-fn unused_zero(words: &[i32; RECORD_WORDS], q: usize, l: usize) -> bool
+fn unused_zero<W: Word>(words: &[W; RECORD_WORDS], q: usize, l: usize) -> bool
     requires { (q < 4) × (l < 2) }
-    ensures { result ≡ unused_zero words.now q l }
+    ensures { result ≡ unused_zero (map W.value words.now) q l }
 {
     let first = layout::VECTORS + 32 * (q / 2) + 8 * (q % 2) + 2 * l;
     let zero = all_within(words, first, 2, check::only_zero())
         & all_within(words, first + 4, 2, check::only_zero())
         & all_within(words, first + 16, 2, check::only_zero())
         & all_within(words, first + 20, 2, check::only_zero());
-    (words[layout::REFERENCES + 2 * q + l] != layout::UNUSED as i32) | zero
+    (words[layout::REFERENCES + 2 * q + l].get() != layout::UNUSED as i32) | zero
 }
 
 // Rule 5: all are in range, and those of unused lists are 0.
-fn vectors_right(words: &[i32; RECORD_WORDS], limit: u32) -> bool
-    requires { (0 < limit) × (limit ≤ wide) }
-    ensures { result ≡ rule5 limit words.now }
+fn vectors_right<W: Word>(words: &[W; RECORD_WORDS], limit: u32) -> bool
+    requires { (0 < limit) × (limit ≤ W.LIMIT) }
+    ensures { result ≡ rule5 limit (map W.value words.now) }
 {
     let mut zero = true;
     for q in 0..4usize {
@@ -105,11 +106,11 @@ fn vectors_right(words: &[i32; RECORD_WORDS], limit: u32) -> bool
 // ---- Rule 6: one motion in each piece
 // The bits of a block's number that tell pieces apart: with these alone kept, it is the number of its piece's first block.
 // Those of quadrant q by its sub-type,
-fn sub_kept(words: &[i32; RECORD_WORDS], q: usize) -> usize
+fn sub_kept<W: Word>(words: &[W; RECORD_WORDS], q: usize) -> usize
     requires { q < 4 }
-    ensures { (result < 16) × ((b : ℕ) → b < 16 → bit_and b result ≡ sub_first_block (sub_split_of (sub_type_of words.now q)) b) }
+    ensures { (result < 16) × ((b : ℕ) → b < 16 → bit_and b result ≡ sub_first_block (sub_split_of (sub_type_of (map W.value words.now) q)) b) }
 {
-    match words[layout::SUB_TYPES + q] {
+    match words[layout::SUB_TYPES + q].get() {
         0 => 10,
         1 => 14,
         2 => 11,
@@ -118,11 +119,11 @@ fn sub_kept(words: &[i32; RECORD_WORDS], q: usize) -> usize
 }
 
 // and by the type. An intra record has no pieces: each block stands for itself.
-fn kept(words: &[i32; RECORD_WORDS], q: usize) -> usize
+fn kept<W: Word>(words: &[W; RECORD_WORDS], q: usize) -> usize
     requires { q < 4 }
-    ensures { (result < 16) × ((b : ℕ) → b < 16 → quadrant_of b ≡ q → bit_and b result ≡ first_block_of words.now b) }
+    ensures { (result < 16) × ((b : ℕ) → b < 16 → quadrant_of b ≡ q → bit_and b result ≡ first_block_of (map W.value words.now) b) }
 {
-    match words[layout::TYPE] {
+    match words[layout::TYPE].get() {
         0 => 15,
         1 => 0,
         2 => 8,
@@ -132,18 +133,18 @@ fn kept(words: &[i32; RECORD_WORDS], q: usize) -> usize
 }
 
 // Blocks b and d have the same motion: the references of their quadrants, and their vectors.
-fn same_motion(words: &[i32; RECORD_WORDS], b: usize, d: usize) -> bool
+fn same_motion<W: Word>(words: &[W; RECORD_WORDS], b: usize, d: usize) -> bool
     requires { (b < 16) × (d < 16) }
-    ensures { result ≡ same_motion (motion_of words.now b) (motion_of words.now d) }
+    ensures { result ≡ same_motion (motion_of (map W.value words.now) b) (motion_of (map W.value words.now) d) }
 {
     let references = same_references(words, 2 * (b / 8) + b % 4 / 2, 2 * (d / 8) + d % 4 / 2);
     references & same_vectors(words, b, d)
 }
 
 // The blocks of quadrant q, which are i, i + 1, i + 4 and i + 5, have the motion of their pieces' first blocks.
-fn quadrant_pieces(words: &[i32; RECORD_WORDS], q: usize) -> bool
+fn quadrant_pieces<W: Word>(words: &[W; RECORD_WORDS], q: usize) -> bool
     requires { q < 4 }
-    ensures { result ≡ pieces_right words.now q }
+    ensures { result ≡ pieces_right (map W.value words.now) q }
 {
     let i = 8 * (q / 2) + 2 * (q % 2);
     let keep = kept(words, q);
@@ -167,9 +168,9 @@ fn broken_at(a: usize, rule: u32) -> Verdict
 }
 
 // Records from..to-1 are well formed, or refusal 8 at the lowest that is not, with its first broken rule. (A nested search left by a label, a form that document 01 names; what is found stands beside it.)
-pub fn check(base: &[i32], from: usize, to: usize, limit: u32) -> Verdict
-    requires { (to * record_words ≤ length base.now) × (from ≤ to) × (to ≤ 65536) × (0 < limit) × (limit ≤ wide) }
-    ensures { result ≡ verdict_of (record_tests limit base.now (addresses from to)) }
+pub fn check<W: Word>(base: &[W], from: usize, to: usize, limit: u32) -> Verdict
+    requires { (to * record_words ≤ length base.now) × (from ≤ to) × (to ≤ 65536) × (0 < limit) × (limit ≤ W.LIMIT) }
+    ensures { result ≡ verdict_of (record_tests limit (map W.value base.now) (addresses from to)) }
 {
     let mut found = Ok(());
     'records: for a in from..to {

@@ -37,6 +37,12 @@ module _ (limit : ℕ) (base : List ℤ) (to : ℕ) where
       let e : from + (a - from) ≡ a = omega arith in
       ap (λ (n : ℕ). verdict limit base n to) (sym e) ∙ passed (a - from) from (omega arith) (λ k low high. formed k low (omega arith))
 
+  -- what is found from there on, for a limit by its value, is what is found of all
+  pub searched :
+      (from a : ℕ) {n : ℕ} {v : Verdict} → v ≡ verdict n base a to → n ≡ limit → from ≤ a → a ≤ to →
+      ((k : ℕ) → from ≤ k → k < a → well_formed limit (record_at base k) ≡ true) → v ≡ verdict limit base from to
+  searched from a e same h l formed = e ∙ (ap (λ (n : ℕ). verdict n base a to) same ∙ verdict-from from a h l formed)
+
   -- the first that is not, by its first broken rule
   pub verdict-at :
       (from a : ℕ) → from ≤ a → a < to → ((k : ℕ) → from ≤ k → k < a → well_formed limit (record_at base k) ≡ true) → well_formed limit (record_at base a) ≡ false →

@@ -1,4 +1,4 @@
-// A quick scan of motion records, which passes those that are well formed and no other. Of the first that it does not pass the crate rules tells what it breaks.
+// A quick scan of motion records, which passes those that are well formed and no other. From the first that it does not pass on the crate rules searches, and tells what is broken and where.
 // Tests joined by `&` and `|` have no branch between them, and the compiler takes several words at once.
 #![tactic(auto)]
 
@@ -9,7 +9,7 @@ ghost use Rattle.definitions.specs.Refusals.{record_tests, verdict_of};
 ghost use Rattle.records.specs.Checking.{addresses, list_right};
 ghost use Rattle.scan.specs.Quick.{block_right, quadrant_right, sub_as_first, vectors_repeat};
 
-use definitions::{RECORD_WORDS, Refusal, Verdict};
+use definitions::{RECORD_WORDS, Verdict};
 use records::read::record_at;
 use records::{check, layout};
 use word::Word;
@@ -213,34 +213,12 @@ fn first_not_quick<W: Word>(base: &[W], from: usize, to: usize) -> usize
     to
 }
 
-// The numbers of a record's words, for the rules. (No From: an array is no type of this crate.)
-fn widened<W: Word>(words: &[W; RECORD_WORDS]) -> [i32; RECORD_WORDS]
-    ensures { result ≡ map W.value words.now }
-{
-    let mut copy = [0i32; RECORD_WORDS];
-    for w in 0..RECORD_WORDS {
-        copy[w] = words[w].get();
-    }
-    copy
-}
-
-// Records from..to-1 are well formed, or refusal 8 at the lowest that is not, with its first broken rule. Records that are well formed leave it to those after them (`verdict-from`);
-// of the first that is not, the rules are asked, as of a base of that record alone (`verdict-at`).
+// Records from..to-1 are well formed, or refusal 8 at the lowest that is not, with its first broken rule. Records that are well formed leave it to those after them (`verdict-from`):
+// from the first that is not on, the rules search the base itself, and what they find is the answer.
 pub fn check<W: Word>(base: &[W], from: usize, to: usize) -> Verdict
     requires { (to * record_words ≤ length base.now) × (from ≤ to) × (to ≤ 65536) }
     ensures { result ≡ verdict_of (record_tests W.LIMIT (map W.value base.now) (addresses from to)) }
 {
     let a = first_not_quick(base, from, to);
-    if a == to {
-        return Ok(());
-    }
-    let copy = widened(record_at(base, a));
-    // a match: `map_err` was tried, and the proof of its closure did not close
-    match rules::check(&copy, 0, 1, W::LIMIT) {
-        Ok(()) => Ok(()),
-        Err(r) => Err(Refusal {
-            place: a as u32,
-            ..r
-        }),
-    }
+    rules::check(base, a, to, W::LIMIT)
 }
