@@ -8,20 +8,30 @@ ghost use Rattle.grammar.specs.Readers.{Exactly, Items, NoteTail, ReadAt, Stands
 use grammar::{ByteClass, Got, Text};
 use sync_numbers::{class_of, number};
 
+// Where the letters end that stand at `from`. (With a place of its own: kept in the cursor, the place would be stored at each letter.)
+fn letters_end(s: &[u8], from: usize) -> usize
+    requires { from ≤ length s.now }
+    ensures { Stands (All Letter) s.now from result }
+{
+    let mut p = from;
+    // a while: it stops at the first byte that is no letter
+    while p < s.len() {
+        let c = class_of(s[p]);
+        if let ByteClass::Alpha = c {
+            p += 1;
+        } else {
+            return p;
+        }
+    }
+    p
+}
+
 // The letters.
 fn letters(t: &mut Text)
     ensures read { Stands (All Letter) t.old.bytes.now t.old.at t.new.at }
     ensures kept { t.new.bytes.now ≡ t.old.bytes.now }
 {
-    // a while: it stops at the first byte that is no letter
-    while let Ok(b) = t.byte() {
-        let c = class_of(b);
-        if let ByteClass::Alpha = c {
-            t.at += 1;
-        } else {
-            return;
-        }
-    }
+    t.at = letters_end(t.bytes, t.at);
 }
 
 // A word, a number or a list. Lists nest `depth` deep at the most, and what remains of the depth falls with each.
