@@ -21,6 +21,7 @@ fn same_vectors(p: BlockMotion, q: BlockMotion) -> bool
 
 // The sub-type of a quadrant, 0 1 above 2 3, with the fewest pieces: which of its rows and columns have one motion tells it (`sub-chosen-is`). The blocks have one
 // reference in each list, so that their vectors tell the motion.
+#[inline(never)] // inlined, the arrays are taken apart word by word: 3 to 8 % of the narrow picture call's instructions
 pub fn sub_type_of(m: [BlockMotion; 4]) -> u8
     requires { OneReference m }
     ensures { (result ≡ sub_type_number (sub_chosen (motions_in m))) × (result ≤ 3) }
@@ -39,9 +40,9 @@ fn same_motion(p: BlockMotion, q: BlockMotion) -> bool
     p == q
 }
 
-// (Beside `writing::type_in`, which compares the words that are written: by value it costs 16 to 25 % of the picture call, docs/DECISIONS.md.)
 // The type where no quadrant is divided, by the motions of the quadrants' first blocks: which rows and columns of quadrants have one motion.
-fn type_of(a: BlockMotion, b: BlockMotion, c: BlockMotion, d: BlockMotion) -> u8
+#[inline(never)] // as `sub_type_of`
+pub fn type_of(a: BlockMotion, b: BlockMotion, c: BlockMotion, d: BlockMotion) -> u8
     ensures { (result ≡ type_among (motion_in a ∷ motion_in b ∷ motion_in c ∷ motion_in d ∷ [])) × (result ≤ 4) }
 {
     let rows = same_motion(a, b) & same_motion(c, d);

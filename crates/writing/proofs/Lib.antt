@@ -1,6 +1,5 @@
 -- Laws that the proofs of the functions cite, here and in the crates above.
 pub mod Apart
 pub mod Placed
-mod Compared
 mod Handed
 pub mod Assembled

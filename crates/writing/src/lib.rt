@@ -1,23 +1,20 @@
 // Writing what was made of a macroblock into a record: step 4 of "Inheriting", as document 02's E3 has it, while the vectors are written, and step 5, the split.
 #![tactic(auto)]
 
-ghost use Rattle.std.specs.Prelude.{◌<◌, ◌≤◌, pos, get_or, map, length, ◌++◌, ◌≡◌};
+ghost use Rattle.std.specs.Prelude.{◌<◌, pos, map, length, ◌++◌, ◌≡◌};
 ghost use Rattle.definitions.specs.Answer.{divided_by};
-ghost use Rattle.definitions.specs.Basics.{eq_z};
 ghost use Rattle.definitions.specs.Blocks.{raster_of};
 ghost use Rattle.definitions.specs.Inheriting.{chosen, motion_at};
-ghost use Rattle.definitions.specs.Record.{laid_out, motion_of, record_words, references_of, sub_type_number, vectors_of};
-ghost use Rattle.definitions.specs.Splits.{same_motion};
+ghost use Rattle.definitions.specs.Record.{laid_out, record_words, references_of, vectors_of};
 ghost use Rattle.motion.specs.ByValue.{AllWritable, InWords, QuadrantWritable, Referring, Writable, motion_in, motions_in, quadrants_in};
 ghost use Rattle.motion.specs.Scales.{AcceptedScales, all_scaled, motion_scaled};
-ghost use Rattle.split.specs.Quadrant.{sub_chosen};
-ghost use Rattle.split.specs.Types.{type_among, type_words};
-ghost use Rattle.writing.specs.Words.{firsts_in, quadrant_put, quadrant_scaled};
+ghost use Rattle.split.specs.Types.{type_words};
+ghost use Rattle.writing.specs.Words.{quadrant_put, quadrant_scaled};
 
 use motion::{BlockMotion, Scales};
 use records::layout::{DETAIL, REFERENCES, TYPE, VECTORS};
-use split::{Types, sub_type_of};
-use word::{Word, put, word_at};
+use split::{Types, types_of};
+use word::{Word, put};
 
 // ---- Step 4: each vector word is scaled as its width does it (`Word::scaled`).
 // A block's motion, scaled.
@@ -66,12 +63,10 @@ fn put_pair<W: Word>(out: &mut [W], s: Scales, a: BlockMotion, b: BlockMotion)
 // The first block of each quadrant.
 const FIRST_BLOCK: [usize; 4] = [0, 2, 8, 10];
 
-// Quadrant q, whose first block is i (the caller looks it up, where q is a constant): its references, and its two rows of blocks. Gives its sub-type.
-// Its sub-type is found before step 4: scaling keeps different motions different (`motion-apart` of proofs/Apart).
-fn put_quadrant<W: Word>(out: &mut [W], s: Scales, q: usize, i: usize, m: [BlockMotion; 4]) -> u8
+// Quadrant q, whose first block is i (the caller looks it up, where q is a constant): its references, and its two rows of blocks.
+fn put_quadrant<W: Word>(out: &mut [W], s: Scales, q: usize, i: usize, m: [BlockMotion; 4])
     requires { (length out.old ≡ record_words) × (q < 4) × (i ≡ raster_of q 0) × AcceptedScales s × QuadrantWritable W.LIMIT m }
-    ensures words { map W.value out.new ≡ quadrant_put q (quadrant_scaled s (motions_in m)) (map W.value out.old) }
-    ensures sub { (result ≡ sub_type_number (sub_chosen (motions_in m))) × (result ≤ 3) }
+    ensures { map W.value out.new ≡ quadrant_put q (quadrant_scaled s (motions_in m)) (map W.value out.old) }
 {
     let r = REFERENCES + 2 * q;
     let k = VECTORS + 4 * i;
@@ -79,45 +74,9 @@ fn put_quadrant<W: Word>(out: &mut [W], s: Scales, q: usize, i: usize, m: [Block
     put_references(&mut out[r..r + 2], m[0]);
     put_pair(&mut out[k..k + 8], s, m[0], m[1]);
     put_pair(&mut out[below..below + 8], s, m[2], m[3]);
-    sub_type_of(m)
 }
 
-// ---- Step 5
-// Words v and w are the same. (Of a record that is being written, a slice; `records` tests those that are read.)
-fn same_word<W: Word>(out: &[W], v: usize, w: usize) -> bool
-    requires { (v < length out.now) × (w < length out.now) }
-    ensures { result ≡ eq_z (get_or (map W.value out.now) v (pos 0)) (get_or (map W.value out.now) w (pos 0)) }
-{
-    word_at(out, v) == word_at(out, w)
-}
-
-// Quadrants q and e have one motion each: whether it is the same.
-fn same_in<W: Word>(out: &[W], q: usize, e: usize) -> bool
-    requires { (length out.now ≡ record_words) × (q < 4) × (e < 4) }
-    ensures { result ≡ same_motion (motion_of (map W.value out.now) (raster_of q 0)) (motion_of (map W.value out.now) (raster_of e 0)) }
-{
-    let r = REFERENCES + 2 * q;
-    let t = REFERENCES + 2 * e;
-    let k = VECTORS + 4 * FIRST_BLOCK[q];
-    let j = VECTORS + 4 * FIRST_BLOCK[e];
-    same_word(out, r, t)
-        & same_word(out, r + 1, t + 1)
-        & same_word(out, k, j)
-        & same_word(out, k + 1, j + 1)
-        & same_word(out, k + 2, j + 2)
-        & same_word(out, k + 3, j + 3)
-}
-
-// The type of a record whose quadrants have one motion each: which rows and columns of quadrants have one. The words are those after step 4.
-fn type_in<W: Word>(out: &[W]) -> u8
-    requires { length out.now ≡ record_words }
-    ensures { (result ≡ type_among (firsts_in (map W.value out.now))) × (result ≤ 4) }
-{
-    let rows = same_in(out, 0, 1) & same_in(out, 2, 3);
-    let columns = same_in(out, 0, 2) & same_in(out, 1, 3);
-    4 - 2 * (rows as u8) - columns as u8
-}
-
+// ---- The record
 // Words 0 to 4: the type and the sub-types.
 fn put_types<W: Word>(out: &mut [W], t: Types)
     requires { length out.old ≡ 5 }
@@ -131,17 +90,16 @@ fn put_types<W: Word>(out: &mut [W], t: Types)
 }
 
 // The record of four quadrants of four blocks, as steps 1 to 3 have left them: scaled, and with the fewest pieces.
-// With a divided quadrant the type is 4, else the first blocks of the quadrants tell it (`chosen-quarters` and `chosen-whole` of split's proofs/Choosing).
+// The split is chosen before step 4 (`made-of` of proofs/Assembled): scaling keeps different motions different (`motion-apart` of proofs/Apart).
 pub fn write_made<W: Word>(out: &mut [W], s: Scales, m: [[BlockMotion; 4]; 4], detail: u8)
     requires { (length out.old ≡ record_words) × AcceptedScales s × AllWritable W.LIMIT m }
     ensures { map W.value out.new ≡ laid_out (divided_by (chosen (all_scaled s (quadrants_in m))) (motion_at (all_scaled s (quadrants_in m))) (pos detail)) }
 {
-    let a = put_quadrant(out, s, 0, FIRST_BLOCK[0], m[0]);
-    let b = put_quadrant(out, s, 1, FIRST_BLOCK[1], m[1]);
-    let c = put_quadrant(out, s, 2, FIRST_BLOCK[2], m[2]);
-    let d = put_quadrant(out, s, 3, FIRST_BLOCK[3], m[3]);
-    let unsplit = a + b + c + d == 0;
-    let kind = if unsplit { type_in(out) } else { 4 };
-    put_types(&mut out[TYPE..REFERENCES], Types { kind, a, b, c, d });
+    let t = types_of(m);
+    put_quadrant(out, s, 0, FIRST_BLOCK[0], m[0]);
+    put_quadrant(out, s, 1, FIRST_BLOCK[1], m[1]);
+    put_quadrant(out, s, 2, FIRST_BLOCK[2], m[2]);
+    put_quadrant(out, s, 3, FIRST_BLOCK[3], m[3]);
+    put_types(&mut out[TYPE..REFERENCES], t);
     put(out, DETAIL, detail as i32);
 }
