@@ -33,6 +33,7 @@ pub fn put_words(out: &mut [i16], from: usize, words: &[i16])
 }
 
 // n + 1 numbers and the closing bracket. The numbers are stored from `from` on, once all are read.
+#[inline] // as `fields_after`
 fn store_fields(t: &mut Text, n: usize, out: &mut [i16], from: usize) -> Got
     requires { (n < 64) × (from + n < length out.old) }
     ensures read { StoresAt (Fields n) as_read t.old.bytes.now t.old.at out.old from out.new (ends_at t.new.at result) }
@@ -49,6 +50,7 @@ fn store_fields(t: &mut Text, n: usize, out: &mut [i16], from: usize) -> Got
 }
 
 // The bytes of w, then n + 1 numbers and the closing bracket.
+#[inline] // each line has a count of its own: where that is known, few numbers are kept in registers (a line (whole ..) takes twice the time with a call)
 pub fn fields_after(t: &mut Text, w: &[u8], n: usize, out: &mut [i16], from: usize) -> Got
     requires { (n < 64) × (from + n < length out.old) }
     ensures read { StoresAt (FieldsAfter w.now n) as_read t.old.bytes.now t.old.at out.old from out.new (ends_at t.new.at result) }
