@@ -14,13 +14,15 @@ fn letters_end(s: &[u8], from: usize) -> usize
     ensures { Stands (All Letter) s.now from result }
 {
     let mut p = from;
-    // a while: it stops at the first byte that is no letter
+    // a while: it stops at the first byte that is no letter (which is asked of the byte: of its class, the tests for the others are made too)
     while p < s.len() {
-        let c = class_of(s[p]);
-        if let ByteClass::Alpha = c {
-            p += 1;
-        } else {
-            return p;
+        match s[p] {
+            b'a'..=b'z' => {
+                p += 1;
+            }
+            _ => {
+                return p;
+            }
         }
     }
     p
