@@ -2,7 +2,7 @@
 use Prim.Native.Nat.{ℕ, zero, suc, ◌+◌, ◌-◌, ◌*◌, ◌/◌, ◌%◌, ◌<◌, ◌≤◌}
 use mathlib.Core.Path.{◌≡◌, refl, sym, ap, ◌∙◌}
 use mathlib.Core.Bool.{Bool, true, false, ◌&&◌, ◌||◌, and_assoc}
-use mathlib.Core.List.{List, [], ◌∷◌, map}
+use mathlib.Core.List.{List, [], ◌∷◌}
 use native.Mathlib.Nat.{add-zero}
 use native.Mathlib.Omega.{arith}
 use lib.Bits.{bit_and, and_zero_r, and_le_r}
@@ -16,7 +16,7 @@ use Rattle.definitions.specs.declared.SubSplit.{SubSplit}
 use Rattle.definitions.specs.declared.SubSplit.TheVariants.{S8x8, S8x4, S4x8, S4x4}
 use Rattle.definitions.specs.Basics.{minus, eq_z, all_below}
 use Rattle.definitions.specs.Blocks.{quadrant_of, raster_of}
-use Rattle.definitions.specs.Record.{record_at, word_of, reference_of, vector_x_of, vector_y_of, used, fits, motion_of, sub_split_of, rule1, rule3, rule5, rule6, rule7}
+use Rattle.definitions.specs.Record.{word_of, reference_of, vector_x_of, vector_y_of, used, fits, motion_of, sub_split_of, rule1, rule3, rule5, rule6, rule7}
 use Rattle.definitions.specs.Splits.{same_motion}
 use Rattle.definitions.proofs.Choices.{each, below_true, below-same}
 use Rattle.definitions.proofs.Records.{raster-quadrant, raster-below}
@@ -29,14 +29,6 @@ use Rattle.rules.specs.Searching.{unused_zero}
 -- the first block of a quadrant
 first-at : (q : ℕ) → q < 4 → 8 * (q / 2) + 2 * (q % 2) ≡ get_or (0 ∷ 2 ∷ 8 ∷ 10 ∷ []) q 0
 first-at = each (λ q. 8 * (q / 2) + 2 * (q % 2) ≡ get_or (0 ∷ 2 ∷ 8 ∷ 10 ∷ []) q 0) refl refl refl refl
-
--- ---- The numbers of words of 32 bits are these words
-pub numbers : (r : List ℤ) → map (λ z. z) r ≡ r
-numbers [] = refl
-numbers (z ∷ r) = ap (λ (t : List ℤ). z ∷ t) (numbers r)
-
-pub here : (base r : List ℤ) (a : ℕ) → map (λ z. z) r ≡ record_at (map (λ z. z) base) a → r ≡ record_at base a
-here base r a e = sym (numbers r) ∙ (e ∙ ap (λ (b : List ℤ). record_at b a) (numbers base))
 
 -- ---- What the tests of words say of the numbers of a record, where the ends of a range are given
 pub within : (r : List ℤ) (first count : ℕ) {t : Bool} {low high a b : ℤ} → t ≡ all_within r first count low high → low ≡ a → high ≡ b → t ≡ all_within r first count a b

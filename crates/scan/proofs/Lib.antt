@@ -5,4 +5,3 @@ mod Intra
 mod Undivided
 mod Quarters
 mod Passed
-mod Copied

@@ -1,4 +1,4 @@
-// A quick scan of motion records, which passes those that are well formed and no other. From the first that it does not pass on the crate rules searches, and tells what is broken and where.
+// A quick scan of motion records, which passes those that are well formed and no other. At the first that it does not pass the search of the crate rules begins, which tells what is broken, and where.
 // Tests joined by `&` and `|` have no branch between them, and the compiler takes several words at once.
 #![tactic(auto)]
 
@@ -214,7 +214,7 @@ fn first_not_quick<W: Word>(base: &[W], from: usize, to: usize) -> usize
 }
 
 // Records from..to-1 are well formed, or refusal 8 at the lowest that is not, with its first broken rule. Records that are well formed leave it to those after them (`verdict-from`):
-// from the first that is not on, the rules search the base itself, and what they find is the answer.
+// so the rules search the base from the first that is not, and what they find is the answer.
 pub fn check<W: Word>(base: &[W], from: usize, to: usize) -> Verdict
     requires { (to * record_words ≤ length base.now) × (from ≤ to) × (to ≤ 65536) }
     ensures { result ≡ verdict_of (record_tests W.LIMIT (map W.value base.now) (addresses from to)) }
