@@ -1,16 +1,23 @@
--- Scaling keeps different motions different, and so the split that is chosen. Assumes nothing.
+-- Scaling keeps different motions different, and so the split that is chosen, and the type of quadrants of one motion each. Assumes nothing.
+use Prim.Native.Nat.{◌+◌}
 use mathlib.Core.Path.{◌≡◌, sym, ◌∙◌, ap}
 use mathlib.Core.List.{List}
 use lib.IntN.{ℤ}
 use Rattle.definitions.specs.declared.Motion.{Motion}
 use Rattle.definitions.specs.declared.Prediction.{Prediction}
-use Rattle.definitions.specs.Inheriting.{chosen, scaled_by}
+use Rattle.definitions.specs.declared.SubSplit.{SubSplit}
+use Rattle.definitions.specs.Basics.{four}
+use Rattle.definitions.specs.Inheriting.{at, chosen, scaled_by}
+use Rattle.definitions.specs.Record.{sub_type_number}
 use Rattle.definitions.proofs.Rounding.{number-apart}
-use Rattle.definitions.proofs.Scaling.{chosen-kept}
+use Rattle.definitions.proofs.Scaling.{chosen-kept, shape-kept}
+use Rattle.definitions.proofs.Shapes.{quadrant_shape}
 use Rattle.motion.specs.declared.Scale.{Scale}
 use Rattle.motion.specs.declared.Scales.{Scales}
 use Rattle.motion.specs.Scales.{AcceptedScale, AcceptedScales, all_scaled, motion_scaled, prediction_scaled, scaled_with}
 use Rattle.motion.proofs.ByScales.{with_number}
+use Rattle.split.specs.Types.{type_among}
+use Rattle.split.proofs.Chosen.{sub-chosen-is}
 
 module _ (s : Scales) (accepted : AcceptedScales s) where
   word-apart : (t : Scale) → AcceptedScale t → (v w : ℤ) → scaled_with t v ≡ scaled_with t w → v ≡ w
@@ -34,3 +41,10 @@ module _ (s : Scales) (accepted : AcceptedScales s) where
   pub chosen-with : (m : List (List Motion)) → chosen (all_scaled s m) ≡ chosen m
   unfolding all_scaled
   chosen-with = chosen-kept (motion_scaled s) motion-apart
+
+  pub type-with : (m : List (List Motion)) → type_among (four (λ q. at (all_scaled s m) q 0)) ≡ type_among (four (λ q. at m q 0))
+  unfolding all_scaled type_among quadrant_shape
+  type-with m =
+      let scaled = sub-chosen-is (four (λ q. at (all_scaled s m) q 0)) in
+      let kept = shape-kept (motion_scaled s) motion-apart (at m 0 0) (at m 1 0) (at m 2 0) (at m 3 0) in
+      ap (λ (x : SubSplit). sub_type_number x + 1) (scaled ∙ (kept ∙ sym (sub-chosen-is (four (λ q. at m q 0)))))

@@ -9,15 +9,15 @@ use lib.Seq.{take_all, take-suc}
 use Rattle.definitions.specs.declared.Motion.{Motion}
 use Rattle.definitions.specs.declared.Split.{Split}
 use Rattle.definitions.specs.Answer.{divided_by}
-use Rattle.definitions.specs.Basics.{for_each, up_to}
+use Rattle.definitions.specs.Basics.{for_each, four, up_to}
 use Rattle.definitions.specs.Blocks.{raster_of}
-use Rattle.definitions.specs.Inheriting.{chosen, motion_at}
-use Rattle.definitions.specs.Record.{laid_out, record_words, references_of, vectors_of, word_of}
+use Rattle.definitions.specs.Inheriting.{at, chosen, motion_at}
+use Rattle.definitions.specs.Record.{laid_out, motion_of, record_words, references_of, vectors_of, word_of}
 use Rattle.motion.specs.declared.Scales.{Scales}
 use Rattle.motion.specs.Scales.{AcceptedScales, all_scaled}
 use Rattle.split.specs.declared.Types.{Types}
 use Rattle.split.specs.Types.{contents_by, type_words, types_of}
-use Rattle.writing.specs.Words.{quadrant_put}
+use Rattle.writing.specs.Words.{firsts_in, quadrant_put}
 use Rattle.writing.proofs.Apart.{chosen-with}
 
 -- ---- a list by its words
@@ -42,6 +42,11 @@ module _ (m : List (List Motion)) where
   unfolding quadrant_put up_to
   written f = refl
 
+  -- the motions of the quadrants' first blocks stand there
+  firsts : (f : ℕ → ℤ) → firsts_in (f 0 ∷ f 1 ∷ f 2 ∷ f 3 ∷ f 4 ∷ (motion_words ++ (f 77 ∷ []))) ≡ four (λ q. at m q 0)
+  unfolding motion_of up_to
+  firsts f = refl
+
   module _ (l : List ℤ) (long : length l ≡ record_words) (l1 l2 l3 l4 : List ℤ)
       (e1 : l1 ≡ quadrant_put 0 (get_or m 0 []) l) (e2 : l2 ≡ quadrant_put 1 (get_or m 1 []) l1)
       (e3 : l3 ≡ quadrant_put 2 (get_or m 2 []) l2) (e4 : l4 ≡ quadrant_put 3 (get_or m 3 []) l3) where
@@ -50,6 +55,9 @@ module _ (m : List (List Motion)) where
         e4 ∙ ap (quadrant_put 3 (get_or m 3 []))
         (e3 ∙ ap (quadrant_put 2 (get_or m 2 [])) (e2 ∙ ap (quadrant_put 1 (get_or m 1 [])) e1))
         ∙ (ap quadrants_put (by-words l long) ∙ written (word_of l))
+
+    pub firsts-put : firsts_in l4 ≡ four (λ q. at m q 0)
+    firsts-put = ap firsts_in in-turn ∙ firsts (word_of l)
 
     -- with the types and the detail
     pub assembled-after : (t : Types) (types : List ℤ) (detail : ℤ) → types ≡ type_words t → set (types ++ drop 5 l4) 77 detail ≡ laid_out (contents_by t (motion_at m) detail)

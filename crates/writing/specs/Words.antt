@@ -1,11 +1,11 @@
--- A quadrant's words in a record.
+-- A quadrant's words in a record, and the motions that they say.
 use Rattle.std.specs.Prelude.{ℕ, ◌+◌, ◌*◌, List, ◌++◌, ℤ, get_or}
 use Rattle.std.proofs.lemmas.List.Edits.{sets}
 use Rattle.definitions.specs.declared.Motion.{Motion}
 use Rattle.definitions.specs.Basics.{four}
 use Rattle.definitions.specs.Blocks.{raster_of}
 use Rattle.definitions.specs.Inheriting.{zero_motion}
-use Rattle.definitions.specs.Record.{references_of, vectors_of}
+use Rattle.definitions.specs.Record.{motion_of, references_of, vectors_of}
 use Rattle.motion.specs.declared.Scales.{Scales}
 use Rattle.motion.specs.Scales.{motion_scaled}
 
@@ -21,3 +21,7 @@ pair_of m k = vectors_of (get_or m k zero_motion) ++ vectors_of (get_or m (k + 1
 unfoldable pub quadrant_put : ℕ → List Motion → List ℤ → List ℤ
 quadrant_put q m record' =
     sets (sets (sets record' (5 + 2 * q) (references_of (get_or m 0 zero_motion))) (13 + 4 * raster_of q 0) (pair_of m 0)) (13 + 4 * raster_of q 2) (pair_of m 2)
+
+-- the motions of the quadrants' first blocks, read back
+abbrev pub firsts_in : List ℤ → List Motion
+firsts_in r = four (λ q. motion_of r (raster_of q 0))
